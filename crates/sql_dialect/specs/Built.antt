@@ -1,0 +1,6 @@
+-- What a builder that numbers its placeholders holds.
+use Rattle.std.specs.Prelude.{ℕ, List}
+
+pub record Built : Type 0 where
+  pub text : List ℕ
+  pub count : ℕ

@@ -1,0 +1,128 @@
+ghost use Rattle.std.specs.Prelude.{◌≡◌, ◌+◌, ◌++◌, [], ◌∷◌, ◌<◌, ◌^◌, IfOk};
+ghost use Rattle.std.specs.Prelude.{refl};
+ghost use Rattle.sql_dialect.specs.declared.backend.Dialect.TheVariants as D;
+
+use crate::backend::{Backend, Dialect};
+use crate::builder::{BindError, NoMemory, QueryBuilder};
+use crate::quote::quote;
+use itoa::Buffer;
+use std::alloc::Global;
+use std::marker::Model;
+
+/// PostgreSQL.
+#[derive(Debug, Clone, Copy, PartialEq, Eq)]
+pub struct Pg;
+
+impl Backend for Pg {
+    type QueryBuilder = PgQueryBuilder;
+
+    ghost speaks = { D.Pg };
+
+    fn dialect(&self) -> Dialect {
+        Dialect::Pg
+    }
+
+    fn query_builder(&self, alloc: Global) -> PgQueryBuilder {
+        PgQueryBuilder::new(alloc)
+    }
+
+    ghost builds = { refl };
+}
+
+/// Writes text as PostgreSQL reads it: names in double quotes, placeholders `$1`, `$2` and so on.
+#[derive(Debug, Drop)]
+pub struct PgQueryBuilder {
+    alloc: Global,
+    sql: String,
+    bind_idx: u32,
+}
+
+impl Model for PgQueryBuilder {
+    ghost use Rattle.std.specs.Prelude.{ℕ, List, string_bytes};
+    ghost use Rattle.sql_dialect.specs.Built.{Built};
+
+    ghost Value = { Built };
+
+    ghost view = { λ b. record { text = string_bytes b.sql; count = b.bind_idx } };
+}
+
+impl PgQueryBuilder {
+    /// An empty builder, whose first placeholder will be `$1`.
+    pub fn new(alloc: Global) -> PgQueryBuilder
+        ensures { result ≡ record { text = []; count = 0 } }
+    {
+        PgQueryBuilder::with_bind_idx(alloc, 0)
+    }
+
+    /// A builder of the text behind some other that has numbered `bind_idx` placeholders.
+    pub fn with_bind_idx(alloc: Global, bind_idx: u32) -> PgQueryBuilder
+        ensures { result ≡ record { text = []; count = bind_idx } }
+    {
+        PgQueryBuilder {
+            alloc,
+            sql: String::new(alloc),
+            bind_idx,
+        }
+    }
+
+    /// The number of the last placeholder, or 0.
+    pub fn bind_idx(&self) -> u32
+        ensures { result ≡ self.now.count }
+    {
+        self.bind_idx
+    }
+}
+
+impl QueryBuilder for PgQueryBuilder {
+    ghost dialect = { D.Pg };
+
+    ghost text = { λ b. b.text };
+
+    ghost count = { λ b. b.count };
+
+    fn push_sql(&mut self, sql: &str) -> Result<(), NoMemory> {
+        self.sql.push_str(sql)
+    }
+
+    fn push_identifier(&mut self, name: &str) -> Result<(), NoMemory> {
+        let quoted = quote(self.alloc, '"', name)?;
+        self.sql.push_str(quoted.as_str())
+    }
+
+    fn push_bind_param(&mut self) -> Result<(), BindError> {
+        if self.bind_idx == u32::MAX {
+            return Err(BindError::TooManyBinds);
+        }
+        let next = self.bind_idx + 1;
+        let mut buffer = Buffer::new();
+        let mut place = String::new(self.alloc);
+        if place.push_str("$").is_err() {
+            return Err(BindError::NoMemory);
+        }
+        if place.push_str(buffer.format(next)).is_err() {
+            return Err(BindError::NoMemory);
+        }
+        if self.sql.push_str(place.as_str()).is_err() {
+            return Err(BindError::NoMemory);
+        }
+        self.bind_idx = next;
+        Ok(())
+    }
+
+    fn push_bind_param_value_only(&mut self) -> Result<(), BindError> {
+        if self.bind_idx == u32::MAX {
+            return Err(BindError::TooManyBinds);
+        }
+        self.bind_idx += 1;
+        Ok(())
+    }
+
+    fn finish(self) -> String {
+        let PgQueryBuilder {
+            alloc: _,
+            sql,
+            bind_idx: _,
+        } = self;
+        sql
+    }
+}

@@ -1,0 +1,88 @@
+ghost use Rattle.std.specs.Prelude.{◌≡◌, [], refl};
+ghost use Rattle.sql_dialect.specs.declared.backend.Dialect.TheVariants as D;
+
+use crate::backend::{Backend, Dialect};
+use crate::builder::{BindError, NoMemory, QueryBuilder};
+use crate::quote::quote;
+use std::alloc::Global;
+use std::marker::Model;
+
+/// SQLite.
+#[derive(Debug, Clone, Copy, PartialEq, Eq)]
+pub struct Sqlite;
+
+impl Backend for Sqlite {
+    type QueryBuilder = SqliteQueryBuilder;
+
+    ghost speaks = { D.Sqlite };
+
+    fn dialect(&self) -> Dialect {
+        Dialect::Sqlite
+    }
+
+    fn query_builder(&self, alloc: Global) -> SqliteQueryBuilder {
+        SqliteQueryBuilder::new(alloc)
+    }
+
+    ghost builds = { refl };
+}
+
+/// Writes text as SQLite reads it: names in backticks, each placeholder a `?`.
+#[derive(Debug, Drop)]
+pub struct SqliteQueryBuilder {
+    alloc: Global,
+    sql: String,
+}
+
+impl Model for SqliteQueryBuilder {
+    ghost use Rattle.std.specs.Prelude.{ℕ, List, string_bytes};
+
+    ghost Value = { List ℕ };
+
+    ghost view = { λ b. string_bytes b.sql };
+}
+
+impl SqliteQueryBuilder {
+    /// An empty builder.
+    pub fn new(alloc: Global) -> SqliteQueryBuilder
+        ensures { result ≡ [] }
+    {
+        SqliteQueryBuilder {
+            alloc,
+            sql: String::new(alloc),
+        }
+    }
+}
+
+impl QueryBuilder for SqliteQueryBuilder {
+    ghost dialect = { D.Sqlite };
+
+    ghost text = { λ b. b };
+
+    ghost count = { λ _. 0 };
+
+    fn push_sql(&mut self, sql: &str) -> Result<(), NoMemory> {
+        self.sql.push_str(sql)
+    }
+
+    fn push_identifier(&mut self, name: &str) -> Result<(), NoMemory> {
+        let quoted = quote(self.alloc, '`', name)?;
+        self.sql.push_str(quoted.as_str())
+    }
+
+    fn push_bind_param(&mut self) -> Result<(), BindError> {
+        match self.sql.push_str("?") {
+            Ok(()) => Ok(()),
+            Err(_) => Err(BindError::NoMemory),
+        }
+    }
+
+    fn push_bind_param_value_only(&mut self) -> Result<(), BindError> {
+        Ok(())
+    }
+
+    fn finish(self) -> String {
+        let SqliteQueryBuilder { alloc: _, sql } = self;
+        sql
+    }
+}
