@@ -6,11 +6,13 @@
 
 mod declaration;
 mod list;
+mod refusal;
 mod text;
 mod types;
 
 pub use declaration::{ColumnDecl, TableDecl};
 pub use list::SqlList;
+pub use refusal::is_refused;
 pub use text::{SqlBytes, SqlText};
 pub use types::{Base, SqlType};
 

@@ -1,0 +1,7 @@
+use Rattle.std.proofs.Common.{arith, ◌≡◌, None, length, option_and_then, ap, ◌∙◌}
+use Rattle.sql_document.specs.Form.{two_items}
+use Rattle.sql_document.proofs.Pairs.{not_two_items}
+use Rattle.sql_document.proofs.member.two.Goals as goal
+
+pub returns-then-len-ne2 : goal.returns-then-len-ne2
+returns-then-len-ne2 c = not_two_items c.in_ok-items.items.now.items (λ two. omega arith) ∙ ap (option_and_then two_items) c.in_ok-items.ensures

@@ -1,0 +1,85 @@
+ghost use Rattle.std.specs.Prelude.{◌≡◌};
+ghost use Rattle.std.specs.List.{list_any};
+ghost use Rattle.serde_json.specs.View.{view};
+ghost use Rattle.sql_document.specs.Form.{Gives};
+ghost use Rattle.sql_document.specs.Scalar.{small_of, medium_of, is_upper_case, bytes_of, of_base, value_of};
+
+use crate::refusal::Refusal;
+use hex::FromHexError;
+use serde_json::Value as Json;
+use sql_pass::Value;
+use sql_schema::{Base, SqlBytes, SqlText};
+use std::alloc::Global;
+
+fn small(value: &Json) -> Option<i16>
+    ensures { result ≡ small_of (view value.now) }
+{
+    let number = value.as_i64()?;
+    if number >= -32768 && number < 32768 {
+        Some(number as i16)
+    } else {
+        None
+    }
+}
+
+fn medium(value: &Json) -> Option<i32>
+    ensures { result ≡ medium_of (view value.now) }
+{
+    let number = value.as_i64()?;
+    if number >= -2147483648 && number < 2147483648 {
+        Some(number as i32)
+    } else {
+        None
+    }
+}
+
+fn has_upper_case(text: &str) -> bool
+    ensures { result ≡ list_any is_upper_case text.now }
+{
+    text.as_bytes().iter().any(|code| code.is_ascii_uppercase())
+}
+
+/// The bytes that lower case hexadecimal digits spell.
+#[tactic(auto, unfolding(crate::specs::Scalar::bytes_of))]
+fn bytes(alloc: Global, text: &str) -> Result<Vec<u8>, Refusal>
+    ensures { Gives (λ v. v.items) result (bytes_of text.now) }
+{
+    if has_upper_case(text) {
+        return Err(Refusal::NotADocument);
+    }
+    match hex::decode(alloc, text) {
+        Ok(spelled) => Ok(spelled),
+        Err(FromHexError::OutOfMemory) => Err(Refusal::NoMemory),
+        Err(_) => Err(Refusal::NotADocument),
+    }
+}
+
+fn of_base_or_refused(alloc: Global, base: Base, value: &Json) -> Result<Value, Refusal>
+    ensures { Gives (λ v. v) result (of_base base (view value.now)) }
+{
+    match base {
+        Base::SmallInt => Ok(Value::SmallInt(small(value).ok_or(Refusal::NotADocument)?)),
+        Base::Integer => Ok(Value::Integer(medium(value).ok_or(Refusal::NotADocument)?)),
+        Base::BigInt => Ok(Value::BigInt(value.as_i64().ok_or(Refusal::NotADocument)?)),
+        Base::Text => {
+            let text = value.as_str().ok_or(Refusal::NotADocument)?;
+            Ok(Value::Text(SqlText::from(String::from_str(alloc, text)?)))
+        }
+        Base::Binary => {
+            let text = value.as_str().ok_or(Refusal::NotADocument)?;
+            Ok(Value::Binary(SqlBytes::from(bytes(alloc, text)?)))
+        }
+        Base::Bool => Ok(Value::Bool(value.as_bool().ok_or(Refusal::NotADocument)?)),
+    }
+}
+
+/// A bound value: null, or a number, a text, hexadecimal digits or a truth value, by the base of its type.
+#[tactic(auto, unfolding(crate::specs::Scalar::value_of))]
+pub(crate) fn value(alloc: Global, base: Base, value: &Json) -> Result<Value, Refusal>
+    ensures { Gives (λ v. v) result (value_of base (view value.now)) }
+{
+    if value.is_null() {
+        return Ok(Value::Null);
+    }
+    of_base_or_refused(alloc, base, value)
+}

@@ -1,0 +1,4 @@
+pub mod Counting
+pub mod Laws
+pub mod Lists
+pub mod Walking

@@ -1,0 +1,7 @@
+use Rattle.sql_pass.proofs.Counting.{walks-shown}
+use Rattle.sql_pass.proofs.fragment.debug_binds.Goals as goal
+
+pub unreachable-requires : goal.unreachable-requires
+unreachable-requires g c =
+    let stopped = rw (c.in-Err-TooManyBinds.is, c.in-Err-TooManyBinds.field-0-is, c.debug_binds-pass.ensures) at c.walk_ast.ensures in
+    walks-shown stopped

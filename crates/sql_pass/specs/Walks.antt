@@ -1,0 +1,23 @@
+-- A walk that pushes a list of pieces, up to the first refusal.
+use Rattle.std.specs.Prelude.{◌≡◌, Bool, true, List, [], ◌∷◌, ◌⊎◌, Result, Ok, Err}
+use Rattle.sql_dialect.specs.declared.backend.Dialect.{Dialect}
+use Rattle.sql_pass.specs.Pieces.{Piece}
+use Rattle.sql_pass.specs.Held.{Held, after, refuses}
+use Rattle.sql_pass.specs.declared.pass.PassError.{PassError}
+
+-- some piece is refused with e, and the pass then holds what those before it give
+unfoldable pub Stops : Dialect → Held → List Piece → PassError → Held → Type 0
+Stops d h [] e g = ⊥
+Stops d h (p ∷ ps) e g = ((refuses d h p e ≡ true) × (g ≡ h)) ⊎ Stops d (after d h (p ∷ [])) ps e g
+
+unfoldable pub Walked : Dialect → Held → List Piece → Result (Unit {0}) PassError → Held → Type 0
+Walked d h ps (Ok u) g = g ≡ after d h ps
+Walked d h ps (Err e) g = Stops d h ps e g
+
+-- from h to g the pieces ps were pushed, all of them or up to a refusal
+pub data Walks (d : Dialect) (h : Held) (ps : List Piece) (r : Result (Unit {0}) PassError) (g : Held) : Type 0 where
+  walks : Walked d h ps r g → Walks d h ps r g
+
+-- what it says
+abbrev pub walked : {d : Dialect} {h : Held} {ps : List Piece} {r : Result (Unit {0}) PassError} {g : Held} → Walks d h ps r g → Walked d h ps r g
+walked (walks w) = w

@@ -1,0 +1,100 @@
+#![tactic(auto, using(crate::proofs::Walking::walking))]
+
+ghost use Rattle.std.specs.Prelude.{◌≡◌, ◌+◌, ◌++◌, ◌<◌, List, length, IfOk, IsTrue, IsErrOf};
+ghost use Rattle.sql_dialect.specs.Written.{numbers, MAX_BINDS};
+ghost use Rattle.sql_pass.specs.Held.{held};
+ghost use Rattle.sql_pass.specs.Pieces.{Piece, text_of, count_of, values_of, is_safe, is_noop};
+ghost use Rattle.sql_pass.specs.Walks.{Walks};
+
+use crate::pass::{AstPass, PassError};
+use crate::value::Bound;
+use sql_dialect::{Backend, QueryBuilder};
+use std::alloc::{AllocError, Global};
+
+/// A part of a statement. It means a list of pieces, and a walk pushes them.
+pub trait QueryFragment<DB: Backend> {
+    /// What the part means in the backend's dialect.
+    ghost pieces: { Self → List Piece };
+
+    /// Pushes the pieces in order, up to the first refusal.
+    fn walk_ast(&self, pass: &mut AstPass<DB>) -> Result<(), PassError>
+        ensures { Walks DB.speaks (held DB.QueryBuilder.text DB.QueryBuilder.count pass.old) (pieces self.now) result (held DB.QueryBuilder.text DB.QueryBuilder.count pass.new) };
+
+    /// Writes the text behind what `out` holds, and gives the builder back. An error drops it.
+    #[tactic(auto, using(crate::proofs::Walking::firm), unfolding(crate::specs::Walks::Walked, crate::specs::Held::after))]
+    final fn to_sql(
+        &self,
+        out: DB::QueryBuilder,
+        backend: &DB,
+    ) -> Result<DB::QueryBuilder, PassError>
+        ensures text { IfOk result (λ b. DB.QueryBuilder.text b ≡ DB.QueryBuilder.text out ++ text_of DB.speaks (DB.QueryBuilder.count out) (pieces self.now)) }
+        ensures count { IfOk result (λ b. DB.QueryBuilder.count b ≡ count_of DB.speaks (DB.QueryBuilder.count out) (pieces self.now)) }
+        // Placeholders run out only where there are more than a dialect that numbers them has numbers left.
+        ensures too_many { IsErrOf result PassError.TooManyBinds → IsTrue (numbers DB.speaks)
+            × (MAX_BINDS < DB.QueryBuilder.count out + length (values_of (pieces self.now))) }
+    {
+        let mut pass = AstPass::to_sql(out, *backend);
+        self.walk_ast(&mut pass)?;
+        match pass {
+            AstPass::ToSql(builder, _backend) => Ok(builder),
+            AstPass::IsSafe(_safe, _backend) => unreachable!(),
+            AstPass::DebugBinds(_shown, _backend) => unreachable!(),
+            AstPass::IsNoop(_noop, _backend) => unreachable!(),
+        }
+    }
+
+    /// Whether the text is the same for all values of the same types: no list of values is written out.
+    #[tactic(auto, using(crate::proofs::Walking::firm), unfolding(crate::specs::Walks::Walked, crate::specs::Held::after))]
+    final fn is_safe_to_cache_prepared(&self, backend: &DB) -> bool
+        ensures { result ≡ is_safe (pieces self.now) }
+    {
+        let mut pass = AstPass::is_safe_to_cache_prepared(*backend);
+        match self.walk_ast(&mut pass) {
+            Ok(()) => {}
+            Err(_) => unreachable!(),
+        }
+        match pass {
+            AstPass::IsSafe(safe, _) => safe,
+            _other => unreachable!(),
+        }
+    }
+
+    /// Whether nothing is written.
+    #[tactic(auto, using(crate::proofs::Walking::firm), unfolding(crate::specs::Walks::Walked, crate::specs::Held::after))]
+    final fn is_noop(&self, backend: &DB) -> bool
+        ensures { result ≡ is_noop (pieces self.now) }
+    {
+        let mut pass = AstPass::is_noop(*backend);
+        match self.walk_ast(&mut pass) {
+            Ok(()) => {}
+            Err(_) => unreachable!(),
+        }
+        match pass {
+            AstPass::IsNoop(noop, _) => noop,
+            _other => unreachable!(),
+        }
+    }
+}
+
+/// The values of a part, in the order of their placeholders.
+#[tactic(auto, using(crate::proofs::Counting::shows), unfolding(crate::specs::Walks::Walked, crate::specs::Held::after))]
+pub fn debug_binds<DB: Backend, T: QueryFragment<DB>>(
+    alloc: Global,
+    backend: &DB,
+    fragment: &T,
+) -> Result<Vec<Bound>, AllocError>
+    ensures { IfOk result (λ v. v.items ≡ values_of (T.pieces fragment.now)) }
+{
+    let mut pass = AstPass::debug_binds(alloc, *backend);
+    match fragment.walk_ast(&mut pass) {
+        Ok(()) => {}
+        Err(PassError::NoMemory) => return Err(AllocError),
+        Err(PassError::TooManyBinds) => unreachable!(),
+    }
+    match pass {
+        AstPass::DebugBinds(shown, _backend) => Ok(shown),
+        AstPass::ToSql(_builder, _backend) => unreachable!(),
+        AstPass::IsSafe(_safe, _backend) => unreachable!(),
+        AstPass::IsNoop(_noop, _backend) => unreachable!(),
+    }
+}

@@ -1,0 +1,164 @@
+ghost use Rattle.std.specs.Prelude.{◌≡◌, [], ◌∷◌, ◌++◌, true, OnOk, OnErr};
+ghost use Rattle.sql_pass.specs.Bounds.{bound_of};
+ghost use Rattle.sql_pass.specs.Held.{held, text_so_far, safe, shown, noop};
+ghost use Rattle.sql_pass.specs.Pieces.{one, Text, Ident, Bind, ValueOnly, Unsafe};
+ghost use Rattle.sql_pass.specs.Walks.{Walks};
+
+use crate::value::{Bound, BoundRef};
+use sql_dialect::{Backend, BindError, QueryBuilder};
+use std::alloc::{AllocError, Global};
+
+/// Why a push was refused. The pass then holds what the pushes before it gave.
+#[derive(Debug, Clone, Copy, PartialEq, Eq)]
+pub enum PassError {
+    NoMemory,
+    /// The builder's dialect numbers its placeholders, and the last number is taken.
+    TooManyBinds,
+}
+
+/// One purpose of a walk over a statement, with what it has gathered so far.
+#[derive(Drop)]
+pub enum AstPass<DB: Backend> {
+    ToSql(DB::QueryBuilder, DB),
+    IsSafe(bool, DB),
+    DebugBinds(Vec<Bound>, DB),
+    IsNoop(bool, DB),
+}
+
+impl<DB: Backend> AstPass<DB> {
+    /// Writes the text, behind what the builder holds.
+    pub fn to_sql(builder: DB::QueryBuilder, backend: DB) -> AstPass<DB>
+        ensures { held DB.QueryBuilder.text DB.QueryBuilder.count result ≡ text_so_far (DB.QueryBuilder.text builder) (DB.QueryBuilder.count builder) }
+    {
+        AstPass::ToSql(builder, backend)
+    }
+
+    /// Finds whether a statement prepared once serves for other values. True at first.
+    pub fn is_safe_to_cache_prepared(backend: DB) -> AstPass<DB>
+        ensures { held DB.QueryBuilder.text DB.QueryBuilder.count result ≡ safe true }
+    {
+        AstPass::IsSafe(true, backend)
+    }
+
+    /// Gathers the values, in the order of their placeholders.
+    pub fn debug_binds(alloc: Global, backend: DB) -> AstPass<DB>
+        ensures { held DB.QueryBuilder.text DB.QueryBuilder.count result ≡ shown [] }
+    {
+        AstPass::DebugBinds(Vec::new(alloc), backend)
+    }
+
+    /// Finds whether anything is written. True at first.
+    pub fn is_noop(backend: DB) -> AstPass<DB>
+        ensures { held DB.QueryBuilder.text DB.QueryBuilder.count result ≡ noop true }
+    {
+        AstPass::IsNoop(true, backend)
+    }
+
+    /// The backend that the walk is for.
+    pub fn backend(&self) -> &DB {
+        match self {
+            AstPass::ToSql(_, backend) => backend,
+            AstPass::IsSafe(_, backend) => backend,
+            AstPass::DebugBinds(_, backend) => backend,
+            AstPass::IsNoop(_, backend) => backend,
+        }
+    }
+
+    /// Pushes SQL as it is. The text `""` too makes a walk no no-op.
+    #[tactic(auto, unfolding(crate::specs::Walks::Walked, crate::specs::Walks::Stops, crate::specs::Held::after, crate::specs::Held::refuses, crate::specs::Pieces::one))]
+    pub fn push_sql(&mut self, sql: &str) -> Result<(), PassError>
+        ensures { Walks DB.speaks (held DB.QueryBuilder.text DB.QueryBuilder.count self.old) (one (Text sql.now)) result (held DB.QueryBuilder.text DB.QueryBuilder.count self.new) }
+    {
+        match self {
+            AstPass::ToSql(builder, _) => match builder.push_sql(sql) {
+                Ok(()) => Ok(()),
+                Err(_) => Err(PassError::NoMemory),
+            },
+            AstPass::IsNoop(noop, _) => {
+                *noop = false;
+                Ok(())
+            }
+            _ => Ok(()),
+        }
+    }
+
+    /// Pushes a name, which the dialect quotes.
+    #[tactic(auto, unfolding(crate::specs::Walks::Walked, crate::specs::Walks::Stops, crate::specs::Held::after, crate::specs::Held::refuses, crate::specs::Pieces::one))]
+    pub fn push_identifier(&mut self, name: &str) -> Result<(), PassError>
+        ensures { Walks DB.speaks (held DB.QueryBuilder.text DB.QueryBuilder.count self.old) (one (Ident name.now)) result (held DB.QueryBuilder.text DB.QueryBuilder.count self.new) }
+    {
+        match self {
+            AstPass::ToSql(builder, _) => match builder.push_identifier(name) {
+                Ok(()) => Ok(()),
+                Err(_) => Err(PassError::NoMemory),
+            },
+            AstPass::IsNoop(noop, _) => {
+                *noop = false;
+                Ok(())
+            }
+            _ => Ok(()),
+        }
+    }
+
+    /// Pushes a value, whose placeholder is written.
+    #[tactic(auto, unfolding(crate::specs::Walks::Walked, crate::specs::Walks::Stops, crate::specs::Held::after, crate::specs::Held::refuses, crate::specs::Pieces::one))]
+    pub fn push_bind_param(&mut self, value: BoundRef<'_>) -> Result<(), PassError>
+        ensures { Walks DB.speaks (held DB.QueryBuilder.text DB.QueryBuilder.count self.old) (one (Bind (bound_of value.entry))) result (held DB.QueryBuilder.text DB.QueryBuilder.count self.new) }
+    {
+        match self {
+            AstPass::ToSql(builder, _) => match builder.push_bind_param() {
+                Ok(()) => Ok(()),
+                Err(BindError::TooManyBinds) => Err(PassError::TooManyBinds),
+                Err(BindError::NoMemory) => Err(PassError::NoMemory),
+            },
+            AstPass::IsSafe(_, _) => Ok(()),
+            AstPass::DebugBinds(shown, _) => match show(shown, value) {
+                Ok(()) => Ok(()),
+                Err(_) => Err(PassError::NoMemory),
+            },
+            AstPass::IsNoop(noop, _) => {
+                *noop = false;
+                Ok(())
+            }
+        }
+    }
+
+    /// Pushes a value whose placeholder stands in the text already.
+    #[tactic(auto, unfolding(crate::specs::Walks::Walked, crate::specs::Walks::Stops, crate::specs::Held::after, crate::specs::Held::refuses, crate::specs::Pieces::one))]
+    pub fn push_bind_param_value_only(&mut self, value: BoundRef<'_>) -> Result<(), PassError>
+        ensures { Walks DB.speaks (held DB.QueryBuilder.text DB.QueryBuilder.count self.old) (one (ValueOnly (bound_of value.entry))) result (held DB.QueryBuilder.text DB.QueryBuilder.count self.new) }
+    {
+        match self {
+            AstPass::ToSql(builder, _) => match builder.push_bind_param_value_only() {
+                Ok(()) => Ok(()),
+                Err(_) => Err(PassError::TooManyBinds),
+            },
+            AstPass::IsSafe(_, _) => Ok(()),
+            AstPass::DebugBinds(shown, _) => match show(shown, value) {
+                Ok(()) => Ok(()),
+                Err(_) => Err(PassError::NoMemory),
+            },
+            AstPass::IsNoop(_, _) => Ok(()),
+        }
+    }
+
+    /// Says that the text depends on a value, as on the length of a list.
+    #[tactic(auto, unfolding(crate::specs::Walks::Walked, crate::specs::Walks::Stops, crate::specs::Held::after, crate::specs::Held::refuses, crate::specs::Pieces::one))]
+    pub fn unsafe_to_cache_prepared(&mut self)
+        ensures { Walks DB.speaks (held DB.QueryBuilder.text DB.QueryBuilder.count self.old) (one Unsafe) (Ok tt) (held DB.QueryBuilder.text DB.QueryBuilder.count self.new) }
+    {
+        if let AstPass::IsSafe(safe, _) = self {
+            *safe = false;
+        }
+    }
+}
+
+/// Appends the value, owned.
+fn show(shown: &mut Vec<Bound>, value: BoundRef<'_>) -> Result<(), AllocError>
+    ensures ok { OnOk result (shown.new.items ≡ shown.old.items ++ bound_of value.entry ∷ []) }
+    ensures err { OnErr result (shown.new.items ≡ shown.old.items) }
+{
+    let bound = value.to_bound(*shown.allocator())?;
+    shown.push(bound)?;
+    Ok(())
+}

@@ -1,0 +1,80 @@
+ghost use Rattle.std.specs.Prelude.{◌≡◌, IfOk};
+ghost use Rattle.sql_pass.specs.Bounds.{bound_of};
+
+use std::alloc::{AllocError, Global};
+use sql_schema::{SqlBytes, SqlList, SqlText, SqlType};
+
+#[derive(Debug, Drop, PartialEq, Eq)]
+pub enum Value {
+    SmallInt(i16),
+    Integer(i32),
+    BigInt(i64),
+    Text(SqlText),
+    Binary(SqlBytes),
+    Bool(bool),
+    Null,
+}
+
+#[derive(Debug, Drop)]
+pub enum Bound {
+    Value(SqlType, Value),
+    List(SqlType, SqlList<Value>),
+}
+
+#[derive(Debug, Clone, Copy)]
+pub enum BoundRef<'a> {
+    Value(SqlType, &'a Value),
+    List(SqlType, &'a [Value]),
+}
+
+impl Value {
+    pub fn try_clone(&self, alloc: Global) -> Result<Value, AllocError>
+        ensures { IfOk result (λ v. v ≡ self.now) }
+    {
+        match self {
+            Value::SmallInt(n) => Ok(Value::SmallInt(*n)),
+            Value::Integer(n) => Ok(Value::Integer(*n)),
+            Value::BigInt(n) => Ok(Value::BigInt(*n)),
+            Value::Binary(bytes) => Ok(Value::Binary(bytes.try_clone(alloc)?)),
+            Value::Text(text) => Ok(Value::Text(text.try_clone(alloc)?)),
+            Value::Bool(b) => Ok(Value::Bool(*b)),
+            Value::Null => Ok(Value::Null),
+        }
+    }
+}
+
+fn clone_values(alloc: Global, values: &[Value]) -> Result<Vec<Value>, AllocError>
+    ensures { IfOk result (λ v. v.items ≡ values.now) }
+{
+    let mut all = Vec::new(alloc);
+    for value in values {
+        all.push(value.try_clone(alloc)?)?;
+    }
+    Ok(all)
+}
+
+impl Bound {
+    pub fn view(&self) -> BoundRef<'_>
+        ensures { bound_of result ≡ self.now }
+    {
+        match self {
+            Bound::Value(ty, value) => BoundRef::Value(*ty, value),
+            Bound::List(ty, values) => BoundRef::List(*ty, values.as_slice()),
+        }
+    }
+}
+
+impl BoundRef<'_> {
+    /// The same value, owned.
+    pub fn to_bound(self, alloc: Global) -> Result<Bound, AllocError>
+        ensures { IfOk result (λ b. b ≡ bound_of self.entry) }
+    {
+        match self {
+            BoundRef::Value(ty, value) => Ok(Bound::Value(ty, value.try_clone(alloc)?)),
+            BoundRef::List(ty, values) => {
+                let all = clone_values(alloc, values)?;
+                Ok(Bound::List(ty, SqlList::from(all)))
+            }
+        }
+    }
+}

@@ -1,0 +1,19 @@
+//! Bytes from outside and to outside, in pieces, with a count of the failures.
+//!
+//! A contract can say which bytes a memory object gives and holds. Of standard input and output it says only that a
+//! failure is answered where one was counted.
+#![tactic(auto)]
+
+mod memory;
+mod outside;
+mod reading;
+mod standard;
+mod sure;
+mod writing;
+
+pub use memory::{MemorySink, MemorySource};
+pub use outside::{Failed, Sink, Source};
+pub use reading::{ReadError, read_all};
+pub use standard::{CountedReader, StdSink, StdSource};
+pub use sure::{SureSink, SureSource};
+pub use writing::write_all;

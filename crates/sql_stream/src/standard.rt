@@ -1,0 +1,80 @@
+ghost use Rattle.std.specs.Prelude.{◌≡◌, None};
+
+use crate::outside::{Failed, Sink, Source};
+use std::io::{Lock, Read, StdinLock, StdoutLock, Write};
+
+/// A reader of std, whose failures are counted. It tells what the reader tells.
+#[derive(Drop)]
+pub struct CountedReader<R> {
+    inner: R,
+    faults: u64,
+}
+
+impl<R: Read> CountedReader<R> {
+    /// The reader, with no failure counted.
+    pub fn over(inner: R) -> CountedReader<R>
+        ensures left { ⟦<CountedReader<R> as Source>⟧.left result ≡ R.remaining inner }
+        ensures faults { ⟦<CountedReader<R> as Source>⟧.faults result ≡ 0 }
+    {
+        CountedReader { inner, faults: 0 }
+    }
+}
+
+/// Standard input. It tells no content.
+pub type StdSource = CountedReader<StdinLock<'static>>;
+
+impl CountedReader<StdinLock<'static>> {
+    /// Standard input, locked for as long as the value lives.
+    pub fn new(rt: &HostRuntime) -> StdSource {
+        CountedReader::over(rt.reader())
+    }
+}
+
+impl<R: Read> Source for CountedReader<R> {
+    ghost left = { λ s. R.remaining s.inner };
+
+    ghost faults = { λ s. s.faults };
+
+    fn read(&mut self, out: &mut [u8]) -> Result<usize, Failed> {
+        match self.inner.read(out) {
+            Ok(count) => Ok(count),
+            Err(_) => {
+                self.faults = self.faults.saturating_add(1);
+                Err(Failed)
+            }
+        }
+    }
+}
+
+/// Standard output, flushed in each write. It tells no content.
+#[derive(Drop)]
+pub struct StdSink {
+    inner: StdoutLock<'static>,
+    faults: u64,
+}
+
+impl StdSink {
+    /// Standard output, locked for as long as the value lives.
+    pub fn new(rt: &HostRuntime) -> StdSink {
+        StdSink {
+            inner: rt.stdout().lock(),
+            faults: 0,
+        }
+    }
+}
+
+impl Sink for StdSink {
+    ghost held = { λ _. None };
+
+    ghost faults = { λ s. s.faults };
+
+    fn write(&mut self, piece: &[u8]) -> Result<usize, Failed> {
+        if let Ok(count) = self.inner.write(piece) {
+            if (count > 0 || piece.is_empty()) && self.inner.flush().is_ok() {
+                return Ok(count);
+            }
+        }
+        self.faults = self.faults.saturating_add(1);
+        Err(Failed)
+    }
+}

@@ -1,0 +1,62 @@
+-- The JSON object that answers a request.
+use Rattle.std.specs.Prelude.{ℕ, List, [], ◌∷◌, map, Bool, true, codes, Option, Some, None}
+use Rattle.serde_json.specs.Data.{Data, null, boolean, number, string, array, object, unsigned, no_items, item, no_members, member}
+use Rattle.serde_json.specs.View.{items_of}
+use Rattle.serde_json.specs.Find.{of_integer}
+use Rattle.hex.specs.Hex.{encode_lower}
+use Rattle.sql_dialect.specs.declared.backend.Dialect.{Dialect}
+use Rattle.sql_schema.specs.declared.types.SqlType.{SqlType}
+use Rattle.sql_pass.specs.Pieces.{text_of}
+use Rattle.sql_pass.specs.declared.value.Value.{Value}
+use Rattle.sql_pass.specs.declared.value.Value.TheVariants as V
+use Rattle.sql_pass.specs.declared.value.Bound.{Bound}
+use Rattle.sql_pass.specs.declared.value.Bound.TheVariants as B
+use Rattle.sql_document.specs.Names.{type_text}
+use Rattle.sql_document.specs.declared.document.Request.{Request}
+use Rattle.sql_tool.specs.Pieces.{statement_pieces, binds_of, columns_of, is_safe_in}
+use Rattle.sql_tool.specs.Rules.{least_broken, rule_text}
+use Rattle.sql_tool.specs.Statement.{StatementTree}
+use Rattle.sql_tool.specs.declared.rule.Rule.{Rule}
+use Rattle.sql_tool.specs.declared.rule.Rule.TheVariants.{UnknownName}
+
+abbrev pub value_data : Value → Data
+value_data (V.SmallInt z) = number (of_integer z)
+value_data (V.Integer z) = number (of_integer z)
+value_data (V.BigInt z) = number (of_integer z)
+value_data (V.Text s) = string s
+value_data (V.Binary b) = string (encode_lower b)
+value_data (V.Bool b) = boolean b
+value_data V.Null = null
+
+abbrev pub type_data : SqlType → Data
+type_data t = string (type_text t)
+
+-- `[TYPE,VALUE]`, or `[TYPE,[VALUE..]]` for a list that is bound as one
+abbrev pub bound_data : Bound → Data
+bound_data (B.Value t v) = array (item (type_data t) (item (value_data v) no_items))
+bound_data (B.List t vs) = array (item (type_data t) (item (array (items_of (map value_data vs))) no_items))
+
+abbrev pub place_data : Option ℕ → Data
+place_data None = null
+place_data (Some n) = number (unsigned n)
+
+-- the text of a statement, its values in the order of their placeholders, and what else is told of it
+abbrev pub accepted : Dialect → Option ℕ → StatementTree → Data
+accepted d place s =
+    object (member (codes "binds") (array (items_of (map bound_data (binds_of s))))
+    (member (codes "columns") (array (items_of (map type_data (columns_of s))))
+    (member (codes "id") (place_data place)
+    (member (codes "safe") (boolean (is_safe_in d s))
+    (member (codes "sql") (string (text_of d 0 (statement_pieces s))) no_members)))))
+
+abbrev pub refused : Rule → Data
+refused rule = object (member (codes "refused") (string (rule_text rule)) no_members)
+
+abbrev pub judged : Option Rule → Data → Data
+judged None accepted = accepted
+judged (Some rule) accepted = refused rule
+
+-- the answer to a request, where a statement's place is that of the first request of its shape
+abbrev pub answer_to : Dialect → (StatementTree → Option ℕ) → Option StatementTree → Data
+answer_to d place None = refused UnknownName
+answer_to d place (Some s) = judged (least_broken s) (accepted d (place s) s)

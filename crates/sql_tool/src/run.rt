@@ -1,0 +1,166 @@
+ghost use Rattle.std.specs.Prelude.{◌≡◌, ◌<◌, ◌+◌, ◌↔◌, length, ◌⊎◌, ◌++◌, List, ℕ, map, IfSome, OnOk, OnErr, IfErr, IsTrue, true, false, Some, string_bytes, []};
+ghost use Rattle.std.specs.Io.KnownBytes.{Consumes, Appends, Keeps, IsAtEnd};
+ghost use Rattle.sql_stream.specs.Causes.{Rose, HasCause};
+ghost use Rattle.sql_document.specs.declared.document.Document.{Document};
+ghost use Rattle.sql_document.specs.Form.{document as document_of};
+ghost use Rattle.sql_tool.specs.Output.{output};
+ghost use Rattle.sql_tool.specs.Run.{is_build, IsPrefix, Answered, PartlyAnswered, Outcome, Response, may_write, status_of};
+ghost use Rattle.sql_tool.specs.declared.run.WriteError.TheVariants.{Memory, Fault};
+
+use crate::line::request_line;
+use crate::shape::Shape;
+use crate::status::Status;
+use sql_document::{Document, Refusal, read_document};
+use sql_stream::{Failed, ReadError, Sink, Source, SureSink, SureSource, read_all, write_all};
+use std::alloc::{AllocError, Global};
+use std::collections::BTreeMap;
+
+/// How many bytes a document may have.
+pub const LIMIT: usize = 16777216;
+
+/// Why not all was written.
+#[derive(Debug, Clone, Copy, PartialEq, Eq)]
+enum WriteError {
+    Memory,
+    Fault,
+}
+
+impl From<AllocError> for WriteError {
+    ghost from_gives = { λ _ e. e ≡ Memory };
+
+    fn from(_: AllocError) -> WriteError {
+        WriteError::Memory
+    }
+}
+
+impl From<Failed> for WriteError {
+    ghost from_gives = { λ _ e. e ≡ Fault };
+
+    fn from(_: Failed) -> WriteError {
+        WriteError::Fault
+    }
+}
+
+fn names_build(words: &[String]) -> bool
+    ensures { result ≡ is_build (map string_bytes words.now) }
+{
+    match words {
+        [word] => word.as_str() == "build",
+        _ => false,
+    }
+}
+
+/// Writes a line for each request, in order.
+fn write_answers<K: Sink>(
+    alloc: Global,
+    document: &Document,
+    sink: &mut K,
+) -> Result<(), WriteError>
+    ensures all { OnOk result (Appends (K.held sink.old) (K.held sink.new) (output document.now)) }
+    ensures front { OnErr result ((written : List ℕ) × IsPrefix written (output document.now)
+        × Appends (K.held sink.old) (K.held sink.new) written) }
+    ensures fault { IfErr result (λ e. e ≡ WriteError.Fault → Rose (K.faults sink.old) (K.faults sink.new)) }
+    ensures no_fault { IfErr result (λ e. e ≡ WriteError.Memory → K.faults sink.new ≡ K.faults sink.old) }
+    ensures ok { OnOk result (K.faults sink.new ≡ K.faults sink.old) }
+{
+    let tables = document.tables.as_slice();
+    let mut seen: BTreeMap<Shape, u64> = BTreeMap::new(alloc);
+    for (before, request) in document.requests.as_slice().iter().enumerate() {
+        let text = request_line(alloc, tables, &mut seen, before as u64 + 1, request)?;
+        write_all(sink, text.as_bytes())?;
+    }
+    Ok(())
+}
+
+/// Answers the document that the bytes are.
+fn respond<K: Sink>(alloc: Global, bytes: &[u8], sink: &mut K) -> Status
+    ensures response { (written : List ℕ) × Appends (K.held sink.old) (K.held sink.new) written × Response result bytes.now written }
+    ensures fault { result ≡ Status.WriteFault → Rose (K.faults sink.old) (K.faults sink.new) }
+    ensures no_fault { (result ≡ Status.WriteFault → ⊥) → K.faults sink.new ≡ K.faults sink.old }
+{
+    match read_document(alloc, bytes) {
+        Err(Refusal::NoMemory) => Status::NoMemory,
+        Err(Refusal::NotADocument) => Status::BadDocument,
+        Ok(document) => match write_answers(alloc, &document, sink) {
+            Ok(()) => Status::Done,
+            Err(WriteError::Memory) => Status::NoMemory,
+            Err(WriteError::Fault) => Status::WriteFault,
+        },
+    }
+}
+
+fn perform<S: Source, K: Sink>(
+    alloc: Global,
+    words: &[String],
+    source: &mut S,
+    sink: &mut K,
+) -> Status
+    ensures outcome { (given written : List ℕ) × Consumes (S.left source.old) (S.left source.new) given
+        × Appends (K.held sink.old) (K.held sink.new) written
+        × Outcome result (is_build (map string_bytes words.now)) given written (IsAtEnd (S.left source.new)) }
+    ensures untouched { result ≡ Status.Usage → (source.new ≡ source.old) × (sink.new ≡ sink.old) }
+    ensures read_fault { result ≡ Status.ReadFault → Rose (S.faults source.old) (S.faults source.new) }
+    ensures no_read_fault { (result ≡ Status.ReadFault → ⊥) → S.faults source.new ≡ S.faults source.old }
+    ensures write_fault { result ≡ Status.WriteFault → Rose (K.faults sink.old) (K.faults sink.new) }
+    ensures no_write_fault { (result ≡ Status.WriteFault → ⊥) → K.faults sink.new ≡ K.faults sink.old }
+{
+    if !names_build(words) {
+        return Status::Usage;
+    }
+    match read_all(alloc, source, LIMIT) {
+        Ok(bytes) => respond(alloc, &bytes, sink),
+        Err(ReadError::NoMemory) => Status::NoMemory,
+        Err(ReadError::Fault) => Status::ReadFault,
+        Err(ReadError::TooLarge) => Status::TooLarge,
+    }
+}
+
+/// Answers each request of the document that the source gives.
+pub fn run<S: Source, K: Sink>(
+    alloc: Global,
+    words: &[String],
+    source: &mut S,
+    sink: &mut K,
+) -> Status
+    // On Done the source was read to its end, its bytes were a document, and what was written is its output.
+    ensures headline { result ≡ Status.Done → IfSome (S.left source.old) (λ input. IsAtEnd (S.left source.new)
+        × (d : Document) × (document_of input ≡ Some d) × Appends (K.held sink.old) (K.held sink.new) (output d)) }
+    // What each status says of the bytes that were given and written in this call.
+    ensures outcome { (given written : List ℕ) × Consumes (S.left source.old) (S.left source.new) given
+        × Appends (K.held sink.old) (K.held sink.new) written
+        × Outcome result (is_build (map string_bytes words.now)) given written (IsAtEnd (S.left source.new)) }
+    // Usage exactly where the words aren't the one word `build`. Then neither object was touched.
+    ensures usage { (result ≡ Status.Usage) ↔ (is_build (map string_bytes words.now) ≡ false) }
+    ensures untouched { result ≡ Status.Usage → (source.new ≡ source.old) × (sink.new ≡ sink.old) }
+    // TooLarge exactly where more than the limit was given.
+    ensures too_large { IfSome (S.left source.old) (λ input. IfSome (S.left source.new) (λ rest.
+        (result ≡ Status.TooLarge) ↔ (LIMIT + length rest < length input))) }
+    // Only a run that is done, failed to write or wanted memory has written.
+    ensures nothing { may_write result ≡ false → Keeps (K.held sink.old) (K.held sink.new) }
+    // A fault is answered only where its object counted one, and where an object counted one its fault is answered.
+    ensures read_fault { result ≡ Status.ReadFault → Rose (S.faults source.old) (S.faults source.new) }
+    ensures write_fault { result ≡ Status.WriteFault → Rose (K.faults sink.old) (K.faults sink.new) }
+    ensures source_failed { S.faults source.old < S.faults source.new → result ≡ Status.ReadFault }
+    ensures sink_failed { K.faults sink.old < K.faults sink.new → result ≡ Status.WriteFault }
+    // But for faults and want of memory, words and bytes determine the status.
+    ensures decided { IfSome (S.left source.old) (λ input. (result ≡ status_of (is_build (map string_bytes words.now)) input)
+        ⊎ ((result ≡ Status.ReadFault) ⊎ ((result ≡ Status.WriteFault) ⊎ (result ≡ Status.NoMemory)))) }
+    // Where no fault was counted, the bytes determine the status, but for want of memory.
+    ensures complete { IfSome (S.left source.old) (λ input. ¬ Rose (S.faults source.old) (S.faults source.new)
+        → ¬ Rose (K.faults sink.old) (K.faults sink.new)
+        → (result ≡ Status.NoMemory) ⊎ (result ≡ status_of (is_build (map string_bytes words.now)) input)) }
+{
+    perform(alloc, words, source, sink)
+}
+
+/// The status of a run over bytes that come and go without a fault.
+pub fn status_over(alloc: Global, words: &[String], bytes: Vec<u8>) -> Status
+    ensures { (result ≡ Status.NoMemory) ⊎ (result ≡ status_of (is_build (map string_bytes words.now)) bytes.items) }
+{
+    run(
+        alloc,
+        words,
+        &mut SureSource::new(bytes),
+        &mut SureSink::new(),
+    )
+}
