@@ -1,0 +1,11 @@
+pub mod Machine
+pub mod Parts
+pub mod OneReading
+pub mod TokenLaws
+pub mod TokenRules
+pub mod TextLaws
+pub mod Readings
+pub mod Numbers
+pub mod Filling
+pub mod Worked
+pub mod Unread

@@ -1,0 +1,12 @@
+pub mod Token
+pub mod Spelling
+pub mod Tokens
+pub mod Tree
+pub mod MarkTree
+pub mod Fits
+pub mod Grammar
+pub mod Text
+pub mod Reading
+pub mod Numbering
+pub mod Values
+pub mod Examples
