@@ -1,5 +1,5 @@
 -- Which JSON is a document, and which document it is.
-use Rattle.std.specs.Prelude.{◌≡◌, nat_lt, ℕ, List, [], ◌∷◌, Bool, true, false, ◌||◌, codes, Result, Ok, Err, Option, Some, None, is_some, option_map, length, if◌then◌else◌}
+use Rattle.std.specs.Prelude.{◌≡◌, nat_lt, ℕ, List, [], ◌∷◌, Bool, true, false, ◌||◌, codes, Result, Ok, Err, Option, Some, None, is_some, option_map, count_by, if◌then◌else◌}
 use Rattle.std.specs.Str.{is_utf8, bytes_eq}
 use Rattle.serde_json.specs.Data.{Data, Items, no_items, item, Members, no_members, member}
 use Rattle.serde_json.specs.Find.{get, at, as_str, as_array, as_object}
@@ -9,12 +9,14 @@ use Rattle.sql_dialect.specs.declared.backend.Dialect.{Dialect}
 use Rattle.sql_schema.specs.declared.declaration.ColumnDecl.{ColumnDecl}
 use Rattle.sql_schema.specs.declared.declaration.TableDecl.{TableDecl}
 use Rattle.sql_schema.specs.Refusals.{is_refused}
-use Rattle.sql_document.specs.Names.{dialect_of, type_of}
-use Rattle.sql_document.specs.Scalar.{◌>>=◌, value_of}
+use Rattle.sql_document.specs.Names.{dialect_of, operator_of, type_of}
+use Rattle.sql_document.specs.Scalar.{◌>>=◌, whole, value_of}
 use Rattle.sql_document.specs.declared.document.ColumnName.{ColumnName}
 use Rattle.sql_document.specs.declared.document.Comparison.{Comparison}
 use Rattle.sql_document.specs.declared.document.Call.{Call}
-use Rattle.sql_document.specs.declared.document.Call.TheVariants.{Filter}
+use Rattle.sql_document.specs.declared.document.Call.TheVariants.{Select, Filter, Limit}
+use Rattle.sql_document.specs.declared.document.Selection.{Selection}
+use Rattle.sql_document.specs.declared.document.Selection.TheVariants.{Column, List as Listed}
 use Rattle.sql_document.specs.declared.document.Query.{Query}
 use Rattle.sql_document.specs.declared.document.Request.{Request}
 use Rattle.sql_document.specs.declared.document.Document.{Document}
@@ -137,25 +139,47 @@ column_name_of d = do
   column ← as_str two.1
   Some (record { table = table; column = column })
 
--- `{"eq":[COLUMN,{"bind":[TYPE,VALUE]}]}`
+-- `{OPERATOR:[COLUMN,{"bind":[TYPE,VALUE]}]}`, where OPERATOR is `eq`, `ne`, `gt`, `ge`, `lt` or `le`
 unfoldable pub comparison_of : Data → Option Comparison
 comparison_of d = do
-  sides ← alone (codes "eq") d
-  two ← two_of sides
+  whole ← only_member d
+  operator ← operator_of whole.0
+  two ← two_of whole.1
   column ← column_name_of two.0
   bound ← alone (codes "bind") two.1
   typed ← two_of bound
   type_name ← as_str typed.0
   ty ← type_of type_name
   value ← value_of ty.base typed.1
-  Some (record { column = column; ty = ty; value = value })
+  Some (record { operator = operator; column = column; ty = ty; value = value })
 
--- `["filter",COMPARISON]`
+-- a column, or an array of columns
+abbrev pub selection_from : Option Items → Data → Option Selection
+selection_from None d = option_map Column (column_name_of d)
+selection_from (Some ds) d = option_map Listed (each column_name_of ds)
+
+unfoldable pub selection_of : Data → Option Selection
+selection_of d = selection_from (as_array d) d
+
+-- what the call of that name is, with that argument
+unfoldable pub call_named : List ℕ → Data → Option Call
+call_named name d =
+    if bytes_eq name (codes "select") then option_map Select (selection_of d)
+    else if bytes_eq name (codes "filter") then option_map Filter (comparison_of d)
+    else if bytes_eq name (codes "limit") then option_map Limit (whole d)
+    else None
+
+-- CALL: `[name,argument]`
 unfoldable pub call_of : Data → Option Call
 call_of d = do
   two ← two_of d
   name ← as_str two.0
-  if bytes_eq name (codes "filter") then option_map Filter (comparison_of two.1) else None
+  call_named name two.1
+
+abbrev pub is_filter : Call → Bool
+is_filter (Select s) = false
+is_filter (Filter c) = true
+is_filter (Limit n) = false
 
 -- `{"table":name}`, without marks
 unfoldable pub source_of : Data → Option (List ℕ)
@@ -163,13 +187,13 @@ source_of d =
     if has (codes "alias") d || (has (codes "join") d || (has (codes "only") d || has (codes "sample") d)) then None
     else text_at (codes "table") d
 
--- `{"from":SOURCE,["calls":[CALL..]]}`, with one call at most
+-- `{"from":SOURCE,["calls":[CALL..]]}`, with one `filter` at most
 unfoldable pub query_of : Data → Option Query
 query_of d = do
   from ← get (codes "from") d
   table ← source_of from
   calls ← each_if_any call_of (get (codes "calls") d)
-  if has (codes "select") d || nat_lt 1 (length calls) then None else Some (record { table = table; calls = calls })
+  if has (codes "select") d || nat_lt 1 (count_by is_filter calls) then None else Some (record { table = table; calls = calls })
 
 -- ---- the whole
 

@@ -6,6 +6,8 @@ use Rattle.sql_dialect.specs.declared.backend.Dialect.TheVariants.{Pg, Mysql, Sq
 use Rattle.sql_schema.specs.declared.types.Base.{Base}
 use Rattle.sql_schema.specs.declared.types.Base.TheVariants.{SmallInt, Integer, BigInt, Text, Binary, Bool as Boolean}
 use Rattle.sql_schema.specs.declared.types.SqlType.{SqlType}
+use Rattle.sql_document.specs.declared.document.Operator.{Operator}
+use Rattle.sql_document.specs.declared.document.Operator.TheVariants.{Eq, Ne, Gt, Ge, Lt, Le}
 
 abbrev pub dialect_text : Dialect → List ℕ
 dialect_text Pg = codes "Pg"
@@ -18,6 +20,21 @@ dialects = Pg ∷ Mysql ∷ Sqlite ∷ []
 -- the dialect of that name
 unfoldable pub dialect_of : List ℕ → Option Dialect
 dialect_of name = find (λ d. bytes_eq name (dialect_text d)) dialects
+
+-- how a comparison is called
+abbrev pub operator_text : Operator → List ℕ
+operator_text Eq = codes "eq"
+operator_text Ne = codes "ne"
+operator_text Gt = codes "gt"
+operator_text Ge = codes "ge"
+operator_text Lt = codes "lt"
+operator_text Le = codes "le"
+
+abbrev pub operators : List Operator
+operators = Eq ∷ Ne ∷ Gt ∷ Ge ∷ Lt ∷ Le ∷ []
+
+unfoldable pub operator_of : List ℕ → Option Operator
+operator_of name = find (λ o. bytes_eq name (operator_text o)) operators
 
 abbrev pub base_text : Base → List ℕ
 base_text SmallInt = codes "SmallInt"

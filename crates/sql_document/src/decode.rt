@@ -26,7 +26,10 @@ pub(crate) trait Decode {
 }
 
 /// Each item of an array.
-fn decode_each<T: Decode + Drop>(alloc: Global, items: &Vec<Value>) -> Result<Vec<T>, Refusal>
+pub(crate) fn decode_each<T: Decode + Drop>(
+    alloc: Global,
+    items: &Vec<Value>,
+) -> Result<Vec<T>, Refusal>
     ensures { Gives (λ v. v.items) result (each T.form (items_view items.now.items)) }
 {
     let mut all = Vec::new(alloc);

@@ -9,18 +9,48 @@ pub struct ColumnName {
     pub column: SqlText,
 }
 
+/// How a column is compared with a value.
+#[derive(Debug, Clone, Copy, PartialEq, Eq, PartialOrd, Ord)]
+pub enum Operator {
+    /// `=`
+    Eq,
+    /// `!=`
+    Ne,
+    /// `>`
+    Gt,
+    /// `>=`
+    Ge,
+    /// `<`
+    Lt,
+    /// `<=`
+    Le,
+}
+
 /// A column compared with a value: `{"eq":[{"col":["users","id"]},{"bind":["Integer",1]}]}`.
 #[derive(Debug, Drop)]
 pub struct Comparison {
+    pub operator: Operator,
     pub column: ColumnName,
     pub ty: SqlType,
     pub value: Value,
 }
 
-/// A call of a query: `["filter",EXPR]`.
+/// What is selected: `{"col":["users","id"]}`, or an array of such columns.
+#[derive(Debug, Drop)]
+pub enum Selection {
+    Column(ColumnName),
+    List(SqlList<ColumnName>),
+}
+
+/// A call of a query.
 #[derive(Debug, Drop)]
 pub enum Call {
+    /// `["select",SELECTION]`
+    Select(Selection),
+    /// `["filter",COMPARISON]`
     Filter(Comparison),
+    /// `["limit",5]`
+    Limit(i64),
 }
 
 /// A query over one table: `{"from":{"table":"users"},"calls":[CALL..]}`.

@@ -14,6 +14,6 @@ mod refusal;
 mod value;
 
 pub use decode::read_document;
-pub use document::{Call, ColumnName, Comparison, Document, Query, Request};
+pub use document::{Call, ColumnName, Comparison, Document, Operator, Query, Request, Selection};
 pub use names::{dialect_name, type_name};
 pub use refusal::Refusal;

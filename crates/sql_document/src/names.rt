@@ -1,6 +1,7 @@
 ghost use Rattle.std.specs.Prelude.{◌≡◌, true, false};
-ghost use Rattle.sql_document.specs.Names.{dialect_text, dialect_of, base_text, type_text, type_of};
+ghost use Rattle.sql_document.specs.Names.{dialect_text, dialect_of, operator_of, type_text, type_of};
 
+use crate::document::Operator;
 use sql_dialect::Dialect;
 use sql_schema::{Base, SqlType};
 
@@ -43,6 +44,21 @@ pub(crate) fn dialect(name: &str) -> Option<Dialect>
         "Pg" => Some(Dialect::Pg),
         "Mysql" => Some(Dialect::Mysql),
         "Sqlite" => Some(Dialect::Sqlite),
+        _ => None,
+    }
+}
+
+#[tactic(auto, unfolding(crate::specs::Names::operator_of))]
+pub(crate) fn comparison_operator(name: &str) -> Option<Operator>
+    ensures { result ≡ operator_of name.now }
+{
+    match name {
+        "eq" => Some(Operator::Eq),
+        "ne" => Some(Operator::Ne),
+        "gt" => Some(Operator::Gt),
+        "ge" => Some(Operator::Ge),
+        "lt" => Some(Operator::Lt),
+        "le" => Some(Operator::Le),
         _ => None,
     }
 }

@@ -1,12 +1,12 @@
-ghost use Rattle.std.specs.Prelude.{◌≡◌, option_map};
+ghost use Rattle.std.specs.Prelude.{◌≡◌, option_map, count_by};
 ghost use Rattle.serde_json.specs.Find.{get};
 ghost use Rattle.serde_json.specs.View.{view};
-ghost use Rattle.sql_document.specs.Form.{Gives, each_if_any, column_name_of, comparison_of, call_of, source_of, query_of};
+ghost use Rattle.sql_document.specs.Form.{Gives, each_if_any, column_name_of, comparison_of, selection_of, call_named, call_of, is_filter, source_of, query_of};
 
-use crate::decode::{Decode, decode_if_any};
-use crate::document::{Call, ColumnName, Comparison, Query};
-use crate::member::{alone, has, text, two};
-use crate::names::sql_type;
+use crate::decode::{Decode, decode_each, decode_if_any};
+use crate::document::{Call, ColumnName, Comparison, Query, Selection};
+use crate::member::{alone, has, only_member, text, two};
+use crate::names::{comparison_operator, sql_type};
 use crate::refusal::Refusal;
 use crate::value::value;
 use serde_json::Value;
@@ -31,7 +31,8 @@ fn column_name(alloc: Global, value: &Value) -> Result<ColumnName, Refusal>
 fn comparison(alloc: Global, json: &Value) -> Result<Comparison, Refusal>
     ensures { Gives (λ c. c) result (comparison_of (view json.now)) }
 {
-    let sides = alone(json, "eq").ok_or(Refusal::NotADocument)?;
+    let (name, sides) = only_member(json).ok_or(Refusal::NotADocument)?;
+    let operator = comparison_operator(name).ok_or(Refusal::NotADocument)?;
     let (left, right) = two(sides).ok_or(Refusal::NotADocument)?;
     let column = column_name(alloc, left)?;
     let bound = alone(right, "bind").ok_or(Refusal::NotADocument)?;
@@ -39,7 +40,45 @@ fn comparison(alloc: Global, json: &Value) -> Result<Comparison, Refusal>
     let type_name = type_name.as_str().ok_or(Refusal::NotADocument)?;
     let ty = sql_type(type_name).ok_or(Refusal::NotADocument)?;
     let value = value(alloc, ty.base, json)?;
-    Ok(Comparison { column, ty, value })
+    Ok(Comparison {
+        operator,
+        column,
+        ty,
+        value,
+    })
+}
+
+impl Decode for ColumnName {
+    ghost form = { column_name_of };
+
+    fn decode(alloc: Global, value: &Value) -> Result<ColumnName, Refusal> {
+        column_name(alloc, value)
+    }
+}
+
+#[tactic(auto, unfolding(crate::specs::Form::selection_of))]
+fn selection(alloc: Global, value: &Value) -> Result<Selection, Refusal>
+    ensures { Gives (λ s. s) result (selection_of (view value.now)) }
+{
+    match value.as_array() {
+        None => Ok(Selection::Column(column_name(alloc, value)?)),
+        Some(items) => {
+            let columns = decode_each(alloc, items)?;
+            Ok(Selection::List(SqlList::from(columns)))
+        }
+    }
+}
+
+#[tactic(auto, unfolding(crate::specs::Form::call_named))]
+fn call(alloc: Global, name: &str, argument: &Value) -> Result<Call, Refusal>
+    ensures { Gives (λ c. c) result (call_named name.now (view argument.now)) }
+{
+    match name {
+        "select" => Ok(Call::Select(selection(alloc, argument)?)),
+        "filter" => Ok(Call::Filter(comparison(alloc, argument)?)),
+        "limit" => Ok(Call::Limit(argument.as_i64().ok_or(Refusal::NotADocument)?)),
+        _ => Err(Refusal::NotADocument),
+    }
 }
 
 impl Decode for Call {
@@ -49,11 +88,29 @@ impl Decode for Call {
     fn decode(alloc: Global, value: &Value) -> Result<Call, Refusal> {
         let (name, argument) = two(value).ok_or(Refusal::NotADocument)?;
         let name = name.as_str().ok_or(Refusal::NotADocument)?;
-        match name {
-            "filter" => Ok(Call::Filter(comparison(alloc, argument)?)),
-            _ => Err(Refusal::NotADocument),
+        call(alloc, name, argument)
+    }
+}
+
+fn filters_rows(call: &Call) -> bool
+    ensures { result ≡ is_filter call.now }
+{
+    match call {
+        Call::Filter(_) => true,
+        Call::Select(_) | Call::Limit(_) => false,
+    }
+}
+
+fn filters(calls: &[Call]) -> usize
+    ensures { result ≡ count_by is_filter calls.now }
+{
+    let mut count = 0;
+    for call in calls {
+        if filters_rows(call) {
+            count += 1;
         }
     }
+    count
 }
 
 #[tactic(auto, unfolding(crate::specs::Form::source_of))]
@@ -73,7 +130,7 @@ pub(crate) fn query(alloc: Global, value: &Value) -> Result<Query, Refusal>
     let from = value.get("from").ok_or(Refusal::NotADocument)?;
     let table = source(from).ok_or(Refusal::NotADocument)?;
     let calls: Vec<Call> = decode_if_any(alloc, value.get("calls"))?;
-    if has(value, "select") || calls.len() > 1 {
+    if has(value, "select") || filters(&calls) > 1 {
         return Err(Refusal::NotADocument);
     }
     Ok(Query {

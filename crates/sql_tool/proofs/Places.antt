@@ -7,10 +7,16 @@ use Rattle.std.specs.Ordering.{is_eq}
 use Rattle.std.specs.Prelude.{nat_eq}
 use denote.Enum.Bare.{same_true}
 use Rattle.sql_dialect.specs.contracts.backend.DialectPartialEq.TheImpl as dialect_eq
-use Rattle.sql_dialect.specs.contracts.backend.Dialect.{the_type}
+use Rattle.sql_dialect.specs.contracts.backend.Dialect.{the_type as the_dialect}
+use Rattle.sql_document.specs.contracts.document.OperatorPartialEq.TheImpl as operator_eq
+use Rattle.sql_document.specs.contracts.document.Operator.{the_type as the_operator}
+use Rattle.sql_tool.specs.contracts.statement.SelectKindPartialEq.TheImpl as kind_eq
+use Rattle.sql_tool.specs.contracts.statement.SelectKind.{the_type as the_kind}
+use Rattle.sql_tool.specs.contracts.shape.ColumnShapePartialEq.TheImpl as column_eq
+use mathlib.Core.Bool.{beq}
 use Rattle.sql_schema.specs.contracts.types.SqlTypePartialEq.TheImpl as type_eq
-use Rattle.sql_schema.proofs.Exact.{IsExact, exact-option}
-use Rattle.sql_schema.proofs.ExactTypes.{exact-text, exact-type}
+use Rattle.sql_schema.proofs.Exact.{IsExact, exact-option, exact-list}
+use Rattle.sql_schema.proofs.ExactTypes.{exact-bool, exact-text, exact-type}
 use Rattle.sql_tool.specs.Shape.{same_shape, place}
 use Rattle.sql_tool.specs.declared.shape.ConditionShape.{ConditionShape}
 use Rattle.sql_tool.specs.declared.shape.Shape.{Shape}
@@ -21,25 +27,43 @@ use Rattle.sql_tool.specs.contracts.shape.ShapeOrd.TheImpl.Laws.{matches_eq-law}
 use Rattle.sql_tool.specs.contracts.shape.ShapeEq.TheImpl.Laws.{laws-law}
 
 -- `==` of shapes is true of equal shapes alone
-exact-condition : IsExact (condition_eq.ghosts).eq
-exact-condition a b h =
+exact-column : IsExact (column_eq.ghosts).eq
+exact-column a b h =
     let t = pointwise nat_eq a.table b.table in
     let c = pointwise nat_eq a.column b.column in
-    let y = (type_eq.ghosts).eq a.ty b.ty in
-    let p = exact-text a.table b.table (first_so t (c && y) h) in
-    let q = exact-text a.column b.column (first_so c y (second_so t (c && y) h)) in
-    let r = exact-type a.ty b.ty (second_so c y (second_so t (c && y) h)) in
-    λ i. record { table = p i; column = q i; ty = r i }
+    let p = exact-text a.table b.table (first_so t c h) in
+    let q = exact-text a.column b.column (second_so t c h) in
+    λ i. record { table = p i; column = q i }
+
+exact-condition : IsExact (condition_eq.ghosts).eq
+exact-condition a b h =
+    let o = (operator_eq.ghosts).eq a.operator b.operator in
+    let c = (column_eq.ghosts).eq a.column b.column in
+    let t = (type_eq.ghosts).eq a.ty b.ty in
+    let p = same_true the_operator tt a.operator b.operator (first_so o (c && t) h) in
+    let q = exact-column a.column b.column (first_so c t (second_so o (c && t) h)) in
+    let r = exact-type a.ty b.ty (second_so c t (second_so o (c && t) h)) in
+    λ i. record { operator = p i; column = q i; ty = r i }
 
 pub exact-shape : IsExact (shape_eq.ghosts).eq
 exact-shape a b h =
     let d = (dialect_eq.ghosts).eq a.dialect b.dialect in
     let t = pointwise nat_eq a.table b.table in
+    let k = (kind_eq.ghosts).eq a.kind b.kind in
+    let cs = pointwise (column_eq.ghosts).eq a.columns b.columns in
     let c = option_eq (condition_eq.ghosts).eq a.condition b.condition in
-    let p = same_true the_type tt a.dialect b.dialect (first_so d (t && c) h) in
-    let q = exact-text a.table b.table (first_so t c (second_so d (t && c) h)) in
-    let r = exact-option exact-condition a.condition b.condition (second_so t c (second_so d (t && c) h)) in
-    λ i. record { dialect = p i; table = q i; condition = r i }
+    let l = beq a.limited b.limited in
+    let h1 = second_so d (t && (k && (cs && (c && l)))) h in
+    let h2 = second_so t (k && (cs && (c && l))) h1 in
+    let h3 = second_so k (cs && (c && l)) h2 in
+    let h4 = second_so cs (c && l) h3 in
+    let p = same_true the_dialect tt a.dialect b.dialect (first_so d (t && (k && (cs && (c && l)))) h) in
+    let q = exact-text a.table b.table (first_so t (k && (cs && (c && l))) h1) in
+    let r = same_true the_kind tt a.kind b.kind (first_so k (cs && (c && l)) h2) in
+    let u = exact-list exact-column a.columns b.columns (first_so cs (c && l) h3) in
+    let v = exact-option exact-condition a.condition b.condition (first_so c l h4) in
+    let w = exact-bool a.limited b.limited (second_so c l h4) in
+    λ i. record { dialect = p i; table = q i; kind = r i; columns = u i; condition = v i; limited = w i }
 
 place-append : (n : ℕ) (xs ys : List (Option Shape)) (q : Shape) → place n (xs ++ ys) q ≡ option_or (place n xs q) (place (n + length xs) ys q)
 place-append n [] ys q = ap (λ m. place m ys q) (omega arith)

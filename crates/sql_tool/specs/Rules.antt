@@ -1,6 +1,8 @@
 -- The rules that a statement may break.
 use Rattle.std.specs.Prelude.{ℕ, List, [], ◌∷◌, Bool, true, false, not, ◌||◌, codes, Option, Some, None, find}
+use Rattle.std.specs.List.{list_any}
 use Rattle.std.specs.Str.{bytes_eq}
+use Rattle.sql_schema.specs.Refusals.{is_empty}
 use Rattle.sql_schema.specs.declared.types.Base.{Base}
 use Rattle.sql_schema.specs.declared.types.Base.TheVariants as base
 use Rattle.sql_schema.specs.declared.types.SqlType.{SqlType}
@@ -8,9 +10,9 @@ use Rattle.sql_schema.specs.contracts.types.BasePartialEq.TheImpl as base_eq
 use Rattle.sql_schema.specs.contracts.types.SqlTypePartialEq.TheImpl as type_eq
 use Rattle.sql_pass.specs.declared.value.Value.{Value}
 use Rattle.sql_pass.specs.declared.value.Value.TheVariants as V
-use Rattle.sql_tool.specs.Statement.{ConditionTree, StatementTree}
+use Rattle.sql_tool.specs.Statement.{ColumnTree, ConditionTree, StatementTree}
 use Rattle.sql_tool.specs.declared.rule.Rule.{Rule}
-use Rattle.sql_tool.specs.declared.rule.Rule.TheVariants.{UnknownName, NotInScope, TypeMismatch}
+use Rattle.sql_tool.specs.declared.rule.Rule.TheVariants.{UnknownName, EmptyList, NotInScope, TypeMismatch}
 
 abbrev pub same_base : Base → Base → Bool
 same_base = (base_eq.ghosts).eq
@@ -29,12 +31,12 @@ fits t (V.Bool b) = same_base t.base base.Bool
 fits t V.Null = t.nullable
 
 -- the column's table is not the one after FROM; a schema has no two tables of one name
-abbrev pub is_out_of_scope : StatementTree → ConditionTree → Bool
+abbrev pub is_out_of_scope : StatementTree → ColumnTree → Bool
 is_out_of_scope s c = not (bytes_eq c.table.name s.from.name)
 
 -- the value's type is not the column's, or the value does not fit it
 abbrev pub is_ill_typed : ConditionTree → Bool
-is_ill_typed c = not (same_type c.column.ty c.ty) || not (fits c.ty c.value)
+is_ill_typed c = not (same_type c.column.column.ty c.ty) || not (fits c.ty c.value)
 
 abbrev pub of_condition : (ConditionTree → Bool) → Option ConditionTree → Bool
 of_condition test None = false
@@ -43,12 +45,13 @@ of_condition test (Some c) = test c
 -- Whether a statement breaks the rule. A statement has looked its names up, so it breaks UnknownName never.
 abbrev pub is_broken : StatementTree → Rule → Bool
 is_broken s UnknownName = false
-is_broken s NotInScope = of_condition (is_out_of_scope s) s.condition
+is_broken s EmptyList = is_empty s.columns
+is_broken s NotInScope = list_any (is_out_of_scope s) s.columns || of_condition (λ c. is_out_of_scope s c.column) s.condition
 is_broken s TypeMismatch = of_condition is_ill_typed s.condition
 
 -- all rules, in the order in which they are told
 abbrev pub all_rules : List Rule
-all_rules = UnknownName ∷ NotInScope ∷ TypeMismatch ∷ []
+all_rules = UnknownName ∷ EmptyList ∷ NotInScope ∷ TypeMismatch ∷ []
 
 -- the first rule that the statement breaks
 unfoldable pub least_broken : StatementTree → Option Rule
@@ -56,5 +59,6 @@ least_broken s = find (is_broken s) all_rules
 
 abbrev pub rule_text : Rule → List ℕ
 rule_text UnknownName = codes "UnknownName"
+rule_text EmptyList = codes "EmptyList"
 rule_text NotInScope = codes "NotInScope"
 rule_text TypeMismatch = codes "TypeMismatch"

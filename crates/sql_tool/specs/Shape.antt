@@ -1,18 +1,38 @@
 -- What two requests share where one prepared statement serves both, and the number by which that is known.
-use Rattle.std.specs.Prelude.{ℕ, ◌+◌, List, [], ◌∷◌, map, Bool, Option, Some, None, option_map, if◌then◌else◌}
+use Rattle.std.specs.Prelude.{ℕ, ◌+◌, List, [], ◌∷◌, map, Bool, Option, Some, None, option_map, is_some, if◌then◌else◌}
 use Rattle.sql_dialect.specs.declared.backend.Dialect.{Dialect}
-use Rattle.sql_tool.specs.Statement.{ConditionTree, StatementTree}
+use Rattle.sql_tool.specs.Statement.{ColumnTree, ConditionTree, StatementTree}
+use Rattle.sql_tool.specs.declared.shape.ColumnShape.{ColumnShape}
 use Rattle.sql_tool.specs.declared.shape.ConditionShape.{ConditionShape}
 use Rattle.sql_tool.specs.declared.shape.Shape.{Shape}
+use Rattle.sql_tool.specs.declared.statement.SelectKind.{SelectKind}
+use Rattle.sql_tool.specs.declared.statement.SelectKind.TheVariants.{Default, Column, List as Listed}
 use Rattle.sql_tool.specs.contracts.shape.ShapePartialEq.TheImpl as shape_eq
 
--- a condition with its value replaced by the value's type; a table and its column are known by their names
-abbrev pub condition_shape : ConditionTree → ConditionShape
-condition_shape c = record { table = c.table.name; column = c.column.name; ty = c.ty }
+-- a table and its columns are known by their names: a schema has no two tables, and a table no two columns of one name
+abbrev pub column_shape : ColumnTree → ColumnShape
+column_shape c = record { table = c.table.name; column = c.column.name }
 
--- a statement for a dialect, with each value replaced by its type
+-- a condition with its value replaced by the value's type
+abbrev pub condition_shape : ConditionTree → ConditionShape
+condition_shape c = record { operator = c.operator; column = column_shape c.column; ty = c.ty }
+
+-- the columns of a selection that was made; those of the default one are the table's
+abbrev pub selection_shape : SelectKind → List ColumnTree → List ColumnShape
+selection_shape Default cs = []
+selection_shape Column cs = map column_shape cs
+selection_shape Listed cs = map column_shape cs
+
+-- a statement for a dialect, with each value replaced by its type: the limit's is always BigInt
 abbrev pub shape_of : Dialect → StatementTree → Shape
-shape_of d s = record { dialect = d; table = s.from.name; condition = option_map condition_shape s.condition }
+shape_of d s = record {
+  dialect = d;
+  table = s.from.name;
+  kind = s.kind;
+  columns = selection_shape s.kind s.columns;
+  condition = option_map condition_shape s.condition;
+  limited = is_some s.limit;
+}
 
 abbrev pub same_shape : Shape → Shape → Bool
 same_shape = (shape_eq.ghosts).eq

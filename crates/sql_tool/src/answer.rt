@@ -2,16 +2,16 @@ ghost use Rattle.std.specs.Prelude.{◌≡◌, map, IfOk, Some, string_bytes};
 ghost use Rattle.serde_json.specs.View.{view};
 ghost use Rattle.sql_pass.specs.Pieces.{text_of};
 ghost use Rattle.sql_tool.specs.Answer.{value_data, type_data, bound_data, accepted as accepted_data, refused as refused_data};
-ghost use Rattle.sql_tool.specs.Pieces.{statement_pieces, binds_of, is_safe_in};
-ghost use Rattle.sql_tool.specs.Statement.{statement_tree};
+ghost use Rattle.sql_tool.specs.Pieces.{statement_pieces, binds_of, column_type, is_safe_in};
+ghost use Rattle.sql_tool.specs.Statement.{column_tree, statement_tree};
 
 use crate::rule::Rule;
-use crate::statement::Statement;
+use crate::statement::{ColumnRef, Statement};
 use serde_json::{Value as Json, json};
 use sql_dialect::{Backend, Dialect, Mysql, Pg, QueryBuilder, Sqlite};
 use sql_document::type_name;
 use sql_pass::{Bound, PassError, QueryFragment, Value, debug_binds};
-use sql_schema::{ColumnDecl, SqlType};
+use sql_schema::SqlType;
 use std::alloc::{AllocError, Global};
 
 fn value_json(alloc: Global, value: &Value) -> Result<Json, AllocError>
@@ -72,12 +72,12 @@ fn binds_json(alloc: Global, binds: &[Bound]) -> Result<Vec<Json>, AllocError>
     Ok(all)
 }
 
-fn columns_json(alloc: Global, columns: &[ColumnDecl]) -> Result<Vec<Json>, AllocError>
-    ensures { IfOk result (λ v. map view v.items ≡ map type_data (map (λ c. c.ty) columns.now)) }
+fn columns_json(alloc: Global, columns: &[ColumnRef<'_>]) -> Result<Vec<Json>, AllocError>
+    ensures { IfOk result (λ v. map view v.items ≡ map type_data (map column_type (map column_tree columns.now))) }
 {
     let mut all = Vec::new(alloc);
     for column in columns {
-        all.push(type_json(alloc, column.ty)?)?;
+        all.push(type_json(alloc, column.column.ty)?)?;
     }
     Ok(all)
 }
@@ -126,7 +126,7 @@ fn accept_for<DB: Backend>(
     let text = text(alloc, backend, statement)?;
     let binds = binds(alloc, backend, statement)?;
     let binds = binds_json(alloc, &binds)?;
-    let columns = columns_json(alloc, statement.from.columns.as_slice())?;
+    let columns = columns_json(alloc, &statement.columns)?;
     let safe = is_safe(backend, statement);
     json!(in alloc; {
         "binds": binds,

@@ -29,7 +29,7 @@ fn answer(
         (λ s. Some (unwrap_or (tree.get ⟦<Shape as Ord>⟧.cmp seen.old (shape_of request.now.dialect s)) number)) (statement_in tables.now request.now.query)) }
     ensures kept { OnOk result ((q : Shape) → tree.get ⟦<Shape as Ord>⟧.cmp seen.new q ≡ option_or (tree.get ⟦<Shape as Ord>⟧.cmp seen.old q) (place number (shape_seen tables.now request.now ∷ []) q)) }
 {
-    let Some(statement) = look_up(tables, &request.query) else {
+    let Some(statement) = look_up(alloc, tables, &request.query)? else {
         return refused(alloc, Rule::UnknownName);
     };
     if let Some(rule) = least_broken(&statement) {

@@ -1,8 +1,9 @@
-ghost use Rattle.std.specs.Prelude.{◌≡◌, option_map};
-ghost use Rattle.sql_tool.specs.Rules.{fits as value_fits, is_out_of_scope, is_ill_typed, of_condition, is_broken, least_broken as first_broken, rule_text};
-ghost use Rattle.sql_tool.specs.Statement.{condition_tree, statement_tree};
+ghost use Rattle.std.specs.Prelude.{◌≡◌, map};
+ghost use Rattle.std.specs.List.{list_any};
+ghost use Rattle.sql_tool.specs.Rules.{fits as value_fits, is_out_of_scope, is_ill_typed, of_condition, least_broken as first_broken, rule_text};
+ghost use Rattle.sql_tool.specs.Statement.{column_tree, condition_tree, statement_tree};
 
-use crate::statement::{Condition, Statement};
+use crate::statement::{ColumnRef, Condition, Statement};
 use sql_pass::Value;
 use sql_schema::{Base, SqlType};
 
@@ -11,7 +12,9 @@ use sql_schema::{Base, SqlType};
 pub enum Rule {
     /// The query names a table or a column that the schema lacks.
     UnknownName,
-    /// A condition's column is of a table that does not stand after FROM.
+    /// An empty list is selected.
+    EmptyList,
+    /// A column is of a table that does not stand after FROM.
     NotInScope,
     /// A value has another type than its column, or does not fit the type that it is given.
     TypeMismatch,
@@ -24,6 +27,7 @@ impl Rule {
     {
         match self {
             Rule::UnknownName => "UnknownName",
+            Rule::EmptyList => "EmptyList",
             Rule::NotInScope => "NotInScope",
             Rule::TypeMismatch => "TypeMismatch",
         }
@@ -44,16 +48,45 @@ fn fits(ty: SqlType, value: &Value) -> bool
     }
 }
 
-fn out_of_scope(statement: &Statement<'_>, condition: &Condition<'_>) -> bool
-    ensures { result ≡ is_out_of_scope (statement_tree statement.now) (condition_tree condition.now) }
+fn is_foreign(statement: &Statement<'_>, column: &ColumnRef<'_>) -> bool
+    ensures { result ≡ is_out_of_scope (statement_tree statement.now) (column_tree column.now) }
 {
-    condition.table.name.as_str() != statement.from.name.as_str()
+    column.table.name.as_str() != statement.from.name.as_str()
+}
+
+fn any_is_foreign(statement: &Statement<'_>, columns: &[ColumnRef<'_>]) -> bool
+    ensures { result ≡ list_any (is_out_of_scope (statement_tree statement.now)) (map column_tree columns.now) }
+{
+    for column in columns {
+        if is_foreign(statement, column) {
+            return true;
+        }
+    }
+    false
+}
+
+fn condition_is_foreign(statement: &Statement<'_>) -> bool
+    ensures { result ≡ of_condition (λ c. is_out_of_scope (statement_tree statement.now) c.column) (statement_tree statement.now).condition }
+{
+    match &statement.condition {
+        None => false,
+        Some(condition) => is_foreign(statement, &condition.column),
+    }
 }
 
 fn ill_typed(condition: &Condition<'_>) -> bool
     ensures { result ≡ is_ill_typed (condition_tree condition.now) }
 {
-    condition.column.ty != condition.ty || !fits(condition.ty, condition.value)
+    condition.column.column.ty != condition.ty || !fits(condition.ty, condition.value)
+}
+
+fn condition_is_ill_typed(statement: &Statement<'_>) -> bool
+    ensures { result ≡ of_condition is_ill_typed (statement_tree statement.now).condition }
+{
+    match &statement.condition {
+        None => false,
+        Some(condition) => ill_typed(condition),
+    }
 }
 
 /// The first rule that the statement breaks, in the order of their declaration.
@@ -61,17 +94,14 @@ fn ill_typed(condition: &Condition<'_>) -> bool
 pub fn least_broken(statement: &Statement<'_>) -> Option<Rule>
     ensures { result ≡ first_broken (statement_tree statement.now) }
 {
-    let condition = &statement.condition;
-    match condition {
-        None => None,
-        Some(condition) => {
-            if out_of_scope(statement, condition) {
-                return Some(Rule::NotInScope);
-            }
-            if ill_typed(condition) {
-                return Some(Rule::TypeMismatch);
-            }
-            None
-        }
+    if statement.columns.is_empty() {
+        return Some(Rule::EmptyList);
     }
+    if any_is_foreign(statement, &statement.columns) || condition_is_foreign(statement) {
+        return Some(Rule::NotInScope);
+    }
+    if condition_is_ill_typed(statement) {
+        return Some(Rule::TypeMismatch);
+    }
+    None
 }

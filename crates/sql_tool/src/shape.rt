@@ -1,20 +1,28 @@
-ghost use Rattle.std.specs.Prelude.{◌≡◌, [], ◌∷◌, Some, IfOk, OnOk, option_map};
+ghost use Rattle.std.specs.Prelude.{◌≡◌, [], ◌∷◌, map, Some, IfOk, OnOk, option_map};
 ghost use Rattle.std.specs.Option.{option_or, unwrap_or};
 ghost use Rattle.std.specs.BTreeMap as tree;
-ghost use Rattle.sql_tool.specs.Shape.{condition_shape as shape_of_condition, shape_of, place};
-ghost use Rattle.sql_tool.specs.Statement.{condition_tree, statement_tree};
+ghost use Rattle.sql_tool.specs.Shape.{column_shape as shape_of_column, condition_shape as shape_of_condition, selection_shape as shape_of_selection, shape_of, place};
+ghost use Rattle.sql_tool.specs.Statement.{column_tree, condition_tree, statement_tree};
 
-use crate::statement::{Condition, Statement};
+use crate::statement::{ColumnRef, Condition, SelectKind, Statement};
 use sql_dialect::Dialect;
-use sql_schema::{SqlText, SqlType};
+use sql_document::Operator;
+use sql_schema::{SqlList, SqlText, SqlType};
 use std::alloc::{AllocError, Global};
 use std::collections::BTreeMap;
+
+/// A column, by its table's name and its own.
+#[derive(Debug, Drop, PartialEq, Eq, PartialOrd, Ord)]
+pub struct ColumnShape {
+    pub table: SqlText,
+    pub column: SqlText,
+}
 
 /// A condition without its value.
 #[derive(Debug, Drop, PartialEq, Eq, PartialOrd, Ord)]
 pub struct ConditionShape {
-    pub table: SqlText,
-    pub column: SqlText,
+    pub operator: Operator,
+    pub column: ColumnShape,
     pub ty: SqlType,
 }
 
@@ -23,7 +31,43 @@ pub struct ConditionShape {
 pub struct Shape {
     pub dialect: Dialect,
     pub table: SqlText,
+    pub kind: SelectKind,
+    /// The columns that were selected, none where the kind is `Default`.
+    pub columns: SqlList<ColumnShape>,
     pub condition: Option<ConditionShape>,
+    pub limited: bool,
+}
+
+fn column_shape(alloc: Global, column: &ColumnRef<'_>) -> Result<ColumnShape, AllocError>
+    ensures { IfOk result (λ s. s ≡ shape_of_column (column_tree column.now)) }
+{
+    let table = column.table.name.try_clone(alloc)?;
+    let column = column.column.name.try_clone(alloc)?;
+    Ok(ColumnShape { table, column })
+}
+
+fn column_shapes(alloc: Global, columns: &[ColumnRef<'_>]) -> Result<Vec<ColumnShape>, AllocError>
+    ensures { IfOk result (λ v. v.items ≡ map shape_of_column (map column_tree columns.now)) }
+{
+    let mut all = Vec::new(alloc);
+    for column in columns {
+        all.push(column_shape(alloc, column)?)?;
+    }
+    Ok(all)
+}
+
+fn selection_shape(
+    alloc: Global,
+    kind: SelectKind,
+    columns: &[ColumnRef<'_>],
+) -> Result<SqlList<ColumnShape>, AllocError>
+    ensures { IfOk result (λ l. l ≡ shape_of_selection kind (map column_tree columns.now)) }
+{
+    match kind {
+        SelectKind::Default => Ok(SqlList::from(Vec::new(alloc))),
+        SelectKind::Column => Ok(SqlList::from(column_shapes(alloc, columns)?)),
+        SelectKind::List => Ok(SqlList::from(column_shapes(alloc, columns)?)),
+    }
 }
 
 fn condition_shape(
@@ -35,10 +79,9 @@ fn condition_shape(
     match condition {
         None => Ok(None),
         Some(condition) => {
-            let table = condition.table.name.try_clone(alloc)?;
-            let column = condition.column.name.try_clone(alloc)?;
+            let column = column_shape(alloc, &condition.column)?;
             Ok(Some(ConditionShape {
-                table,
+                operator: condition.operator,
                 column,
                 ty: condition.ty,
             }))
@@ -55,11 +98,15 @@ pub fn request_shape(
     ensures { IfOk result (λ s. s ≡ shape_of dialect (statement_tree statement.now)) }
 {
     let table = statement.from.name.try_clone(alloc)?;
+    let columns = selection_shape(alloc, statement.kind, &statement.columns)?;
     let condition = condition_shape(alloc, &statement.condition)?;
     Ok(Shape {
         dialect,
         table,
+        kind: statement.kind,
+        columns,
         condition,
+        limited: statement.limit.is_some(),
     })
 }
 

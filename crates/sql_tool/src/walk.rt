@@ -1,18 +1,18 @@
 #![tactic(auto, using(sql_pass::proofs::Walking::walking))]
 
 ghost use Rattle.std.specs.Prelude.{◌≡◌, ◌++◌, map, true, codes, option_map};
-ghost use Rattle.sql_pass.specs.Commas.{next_of, commas};
+ghost use Rattle.sql_pass.specs.Commas.{next_of};
 ghost use Rattle.sql_pass.specs.Held.{held};
 ghost use Rattle.sql_pass.specs.Pieces.{one, Text, Ident, Bind};
 ghost use Rattle.sql_pass.specs.Walks.{Walks};
-ghost use Rattle.sql_pass.specs.declared.value.Bound.TheVariants as B;
-ghost use Rattle.sql_tool.specs.Pieces.{path_pieces, table_pieces, column_pieces, condition_pieces, where_pieces, selection_pieces, statement_pieces};
-ghost use Rattle.sql_tool.specs.Statement.{condition_tree, statement_tree};
+ghost use Rattle.sql_tool.specs.Pieces.{table_pieces, column_pieces, operator_sql, condition_pieces, where_pieces, limit_bound, limit_pieces, selection_pieces, statement_pieces};
+ghost use Rattle.sql_tool.specs.Statement.{column_tree, condition_tree, statement_tree};
 
-use crate::statement::{Condition, Statement};
+use crate::statement::{ColumnRef, Condition, Statement};
 use sql_dialect::Backend;
-use sql_pass::{AstPass, BoundRef, PassError, QueryFragment};
-use sql_schema::{ColumnDecl, SqlText, TableDecl};
+use sql_document::Operator;
+use sql_pass::{AstPass, BoundRef, PassError, QueryFragment, Value};
+use sql_schema::{Base, SqlText, SqlType, TableDecl};
 
 fn walk_name<DB: Backend>(name: &SqlText, pass: &mut AstPass<DB>) -> Result<(), PassError>
     ensures { Walks DB.speaks (held DB.QueryBuilder.text DB.QueryBuilder.count pass.old) (one (Ident name.now)) result (held DB.QueryBuilder.text DB.QueryBuilder.count pass.new) }
@@ -34,47 +34,60 @@ fn walk_table<DB: Backend>(table: &TableDecl, pass: &mut AstPass<DB>) -> Result<
     }
 }
 
-fn walk_column<DB: Backend>(
-    table: &TableDecl,
-    column: &ColumnDecl,
-    pass: &mut AstPass<DB>,
-) -> Result<(), PassError>
-    ensures { Walks DB.speaks (held DB.QueryBuilder.text DB.QueryBuilder.count pass.old) (column_pieces table.now column.now) result (held DB.QueryBuilder.text DB.QueryBuilder.count pass.new) }
+fn walk_column<DB: Backend>(column: &ColumnRef<'_>, pass: &mut AstPass<DB>) -> Result<(), PassError>
+    ensures { Walks DB.speaks (held DB.QueryBuilder.text DB.QueryBuilder.count pass.old) (column_pieces (column_tree column.now)) result (held DB.QueryBuilder.text DB.QueryBuilder.count pass.new) }
 {
-    walk_table(table, pass)?;
+    walk_table(column.table, pass)?;
     pass.push_sql(".")?;
-    walk_name(&column.sql_name, pass)?;
+    walk_name(&column.column.sql_name, pass)?;
     Ok(())
 }
 
 fn walk_next<DB: Backend>(
     first: bool,
-    table: &TableDecl,
-    column: &ColumnDecl,
+    column: &ColumnRef<'_>,
     pass: &mut AstPass<DB>,
 ) -> Result<(), PassError>
-    ensures { Walks DB.speaks (held DB.QueryBuilder.text DB.QueryBuilder.count pass.old) (next_of first (column_pieces table.now column.now)) result (held DB.QueryBuilder.text DB.QueryBuilder.count pass.new) }
+    ensures { Walks DB.speaks (held DB.QueryBuilder.text DB.QueryBuilder.count pass.old) (next_of first (column_pieces (column_tree column.now))) result (held DB.QueryBuilder.text DB.QueryBuilder.count pass.new) }
 {
     if first {
-        return walk_column(table, column, pass);
+        return walk_column(column, pass);
     }
     pass.push_sql(", ")?;
-    walk_column(table, column, pass)
+    walk_column(column, pass)
 }
 
 fn walk_columns<DB: Backend>(
-    table: &TableDecl,
-    columns: &[ColumnDecl],
+    columns: &[ColumnRef<'_>],
     pass: &mut AstPass<DB>,
 ) -> Result<(), PassError>
-    ensures { Walks DB.speaks (held DB.QueryBuilder.text DB.QueryBuilder.count pass.old) (commas true (map (column_pieces table.now) columns.now)) result (held DB.QueryBuilder.text DB.QueryBuilder.count pass.new) }
+    ensures { Walks DB.speaks (held DB.QueryBuilder.text DB.QueryBuilder.count pass.old) (selection_pieces (map column_tree columns.now)) result (held DB.QueryBuilder.text DB.QueryBuilder.count pass.new) }
 {
     let mut first = true;
     for column in columns {
-        walk_next(first, table, column, pass)?;
+        walk_next(first, column, pass)?;
         first = false;
     }
     Ok(())
+}
+
+fn operator_word(operator: Operator) -> &'static str
+    ensures { result.now ≡ operator_sql operator }
+{
+    match operator {
+        Operator::Eq => " = ",
+        Operator::Ne => " != ",
+        Operator::Gt => " > ",
+        Operator::Ge => " >= ",
+        Operator::Lt => " < ",
+        Operator::Le => " <= ",
+    }
+}
+
+fn walk_operator<DB: Backend>(operator: Operator, pass: &mut AstPass<DB>) -> Result<(), PassError>
+    ensures { Walks DB.speaks (held DB.QueryBuilder.text DB.QueryBuilder.count pass.old) (one (Text (operator_sql operator))) result (held DB.QueryBuilder.text DB.QueryBuilder.count pass.new) }
+{
+    pass.push_sql(operator_word(operator))
 }
 
 impl<DB: Backend> QueryFragment<DB> for Condition<'_> {
@@ -82,8 +95,8 @@ impl<DB: Backend> QueryFragment<DB> for Condition<'_> {
 
     fn walk_ast(&self, pass: &mut AstPass<DB>) -> Result<(), PassError> {
         pass.push_sql("(")?;
-        walk_column(self.table, self.column, pass)?;
-        pass.push_sql(" = ")?;
+        walk_column(&self.column, pass)?;
+        walk_operator(self.operator, pass)?;
         pass.push_bind_param(BoundRef::Value(self.ty, self.value))?;
         pass.push_sql(")")?;
         Ok(())
@@ -106,15 +119,39 @@ fn walk_where<DB: Backend>(
     }
 }
 
+fn walk_rows<DB: Backend>(rows: i64, pass: &mut AstPass<DB>) -> Result<(), PassError>
+    ensures { Walks DB.speaks (held DB.QueryBuilder.text DB.QueryBuilder.count pass.old) (one (Bind (limit_bound rows))) result (held DB.QueryBuilder.text DB.QueryBuilder.count pass.new) }
+{
+    let ty = SqlType {
+        base: Base::BigInt,
+        nullable: false,
+    };
+    pass.push_bind_param(BoundRef::Value(ty, &Value::BigInt(rows)))
+}
+
+fn walk_limit<DB: Backend>(limit: Option<i64>, pass: &mut AstPass<DB>) -> Result<(), PassError>
+    ensures { Walks DB.speaks (held DB.QueryBuilder.text DB.QueryBuilder.count pass.old) (limit_pieces limit) result (held DB.QueryBuilder.text DB.QueryBuilder.count pass.new) }
+{
+    match limit {
+        None => Ok(()),
+        Some(rows) => {
+            pass.push_sql(" LIMIT ")?;
+            walk_rows(rows, pass)?;
+            Ok(())
+        }
+    }
+}
+
 impl<DB: Backend> QueryFragment<DB> for Statement<'_> {
     ghost pieces = { λ s. statement_pieces (statement_tree s) };
 
     fn walk_ast(&self, pass: &mut AstPass<DB>) -> Result<(), PassError> {
         pass.push_sql("SELECT ")?;
-        walk_columns(self.from, self.from.columns.as_slice(), pass)?;
+        walk_columns(&self.columns, pass)?;
         pass.push_sql(" FROM ")?;
         walk_table(self.from, pass)?;
         walk_where(&self.condition, pass)?;
+        walk_limit(self.limit, pass)?;
         Ok(())
     }
 }
