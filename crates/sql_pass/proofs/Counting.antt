@@ -37,11 +37,11 @@ unfolding Stops after refuses
 stops-too_many d t n [] g s = absurd s
 stops-too_many d t n (p ∷ ps) g s =
     ⊎_elim
-      (λ r.
-        let both = first_so (is_full d (text_so_far t n)) (is_bind p) r.0 in
-        here d n p ps (first_so (numbers d) (eqb n MAX_BINDS) both) (eqb-true n MAX_BINDS (second_so (numbers d) (eqb n MAX_BINDS) both)) (second_so (is_full d (text_so_far t n)) (is_bind p) r.0))
-      (λ r. later d n p ps (stops-too_many d (t ++ text_of d n (p ∷ [])) (count_at d n p) ps g r))
-      s
+    (λ r.
+    let both = first_so (is_full d (text_so_far t n)) (is_bind p) r.0 in
+    here d n p ps (first_so (numbers d) (eqb n MAX_BINDS) both) (eqb-true n MAX_BINDS (second_so (numbers d) (eqb n MAX_BINDS) both)) (second_so (is_full d (text_so_far t n)) (is_bind p) r.0))
+    (λ r. later d n p ps (stops-too_many d (t ++ text_of d n (p ∷ [])) (count_at d n p) ps g r))
+    s
 
 pub walks-too_many : {d : Dialect} {t : List ℕ} {n : ℕ} {ps : List Piece} {g : Held} → Walks d (text_so_far t n) ps (Err TooManyBinds) g → TooMany d n ps
 unfolding Walked

@@ -1,8 +1,8 @@
 ghost use Rattle.std.specs.Prelude.{◌≡◌, IfOk};
 ghost use Rattle.sql_pass.specs.Bounds.{bound_of};
 
-use std::alloc::{AllocError, Global};
 use sql_schema::{SqlBytes, SqlList, SqlText, SqlType};
+use std::alloc::{AllocError, Global};
 
 #[derive(Debug, Drop, PartialEq, Eq)]
 pub enum Value {

@@ -1,5 +1,9 @@
 pub mod Found
+pub mod Headlines
 pub mod Lines
+pub mod NamingLaws
+pub mod NormalLaws
 pub mod Places
 pub mod Plain
+pub mod TextLaws
 pub mod Walks

@@ -51,9 +51,9 @@ holds-where : (c : Option ConditionTree) → Holds (where_pieces c) (bounds_of c
 holds-where None = record { values = refl; safe = refl }
 holds-where (Some c) =
     holds-then _ (condition_pieces c) [] _ (holds-text (codes " WHERE "))
-      (holds-then _ _ [] _ (holds-text (codes "("))
-        (holds-then (column_pieces c.column) _ [] _ (holds-column c.column)
-          (holds-then _ _ [] _ (holds-text (operator_sql c.operator)) (holds-then _ _ _ [] (holds-bind (condition_bound c)) (holds-text (codes ")"))))))
+    (holds-then _ _ [] _ (holds-text (codes "("))
+    (holds-then (column_pieces c.column) _ [] _ (holds-column c.column)
+    (holds-then _ _ [] _ (holds-text (operator_sql c.operator)) (holds-then _ _ _ [] (holds-bind (condition_bound c)) (holds-text (codes ")"))))))
 
 holds-limit : (n : Option ℤ) → Holds (limit_pieces n) (bounds_of limit_bound n)
 holds-limit None = record { values = refl; safe = refl }
@@ -62,9 +62,9 @@ holds-limit (Some n) = holds-then _ _ [] _ (holds-text (codes " LIMIT ")) (holds
 pub holds-statement : (s : StatementTree) → Holds (statement_pieces s) (binds_of s)
 holds-statement s =
     holds-then _ _ [] _ (holds-text (codes "SELECT "))
-      (holds-then (selection_pieces s.columns) _ [] _ (holds-columns true s.columns)
-        (holds-then _ _ [] _ (holds-text (codes " FROM "))
-          (holds-then (table_pieces s.from) _ [] _ (holds-path s.from.schema s.from.sql_name) (holds-then (where_pieces s.condition) _ _ _ (holds-where s.condition) (holds-limit s.limit)))))
+    (holds-then (selection_pieces s.columns) _ [] _ (holds-columns true s.columns)
+    (holds-then _ _ [] _ (holds-text (codes " FROM "))
+    (holds-then (table_pieces s.from) _ [] _ (holds-path s.from.schema s.from.sql_name) (holds-then (where_pieces s.condition) _ _ _ (holds-where s.condition) (holds-limit s.limit)))))
 
 pub values-statement : (s : StatementTree) → values_of (statement_pieces s) ≡ binds_of s
 values-statement s = (holds-statement s).values

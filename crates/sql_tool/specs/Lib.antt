@@ -1,6 +1,10 @@
 pub mod Answer
+pub mod Headline
+pub mod Lists
+pub mod Naming
 pub mod Output
 pub mod Pieces
+pub mod Reading
 pub mod Rules
 pub mod Run
 pub mod Shape

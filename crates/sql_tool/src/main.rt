@@ -40,3 +40,6 @@ fn perform_main(rt: &HostRuntime) -> Status {
     }
     status
 }
+
+#[cfg(test)]
+mod tests;

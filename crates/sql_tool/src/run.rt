@@ -3,6 +3,7 @@ ghost use Rattle.std.specs.Io.KnownBytes.{Consumes, Appends, Keeps, IsAtEnd};
 ghost use Rattle.sql_stream.specs.Causes.{Rose, HasCause};
 ghost use Rattle.sql_document.specs.declared.document.Document.{Document};
 ghost use Rattle.sql_document.specs.Form.{document as document_of};
+ghost use Rattle.sql_tool.specs.Headline.{AnswersEach};
 ghost use Rattle.sql_tool.specs.Output.{output};
 ghost use Rattle.sql_tool.specs.Run.{is_build, IsPrefix, Answered, PartlyAnswered, Outcome, Response, may_write, status_of};
 ghost use Rattle.sql_tool.specs.declared.run.WriteError.TheVariants.{Memory, Fault};
@@ -11,7 +12,7 @@ use crate::line::request_line;
 use crate::shape::Shape;
 use crate::status::Status;
 use sql_document::{Document, Refusal, read_document};
-use sql_stream::{Failed, ReadError, Sink, Source, SureSink, SureSource, read_all, write_all};
+use sql_stream::{Failed, ReadError, Sink, Source, read_all, write_all};
 use std::alloc::{AllocError, Global};
 use std::collections::BTreeMap;
 
@@ -122,9 +123,10 @@ pub fn run<S: Source, K: Sink>(
     source: &mut S,
     sink: &mut K,
 ) -> Status
-    // On Done the source was read to its end, its bytes were a document, and what was written is its output.
+    // On Done the source was read to its end, its bytes were a document, what was written is its output, and that answers
+    // each request: with the first rule that its statement breaks, or with a text and values that are read as the statement.
     ensures headline { result ≡ Status.Done → IfSome (S.left source.old) (λ input. IsAtEnd (S.left source.new)
-        × (d : Document) × (document_of input ≡ Some d) × Appends (K.held sink.old) (K.held sink.new) (output d)) }
+        × (d : Document) × (document_of input ≡ Some d) × Appends (K.held sink.old) (K.held sink.new) (output d) × AnswersEach d) }
     // What each status says of the bytes that were given and written in this call.
     ensures outcome { (given written : List ℕ) × Consumes (S.left source.old) (S.left source.new) given
         × Appends (K.held sink.old) (K.held sink.new) written
@@ -151,16 +153,4 @@ pub fn run<S: Source, K: Sink>(
         → (result ≡ Status.NoMemory) ⊎ (result ≡ status_of (is_build (map string_bytes words.now)) input)) }
 {
     perform(alloc, words, source, sink)
-}
-
-/// The status of a run over bytes that come and go without a fault.
-pub fn status_over(alloc: Global, words: &[String], bytes: Vec<u8>) -> Status
-    ensures { (result ≡ Status.NoMemory) ⊎ (result ≡ status_of (is_build (map string_bytes words.now)) bytes.items) }
-{
-    run(
-        alloc,
-        words,
-        &mut SureSource::new(bytes),
-        &mut SureSink::new(),
-    )
 }

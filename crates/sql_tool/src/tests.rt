@@ -1,0 +1,163 @@
+use crate::run::run;
+use crate::status::Status;
+use sql_stream::{MemorySink, MemorySource, SureSink, SureSource};
+use std::alloc::{AllocError, Global};
+use std::num::NonZeroUsize;
+use std::test::Fail;
+
+/// One table, and a filter on it.
+const INPUT: &str =
+    "{\"schema\":{\"tables\":[{\"name\":\"foo\",\"columns\":[{\"name\":\"id\",\"type\":\"Integer\"}]}]},\"requests\":[{\"dialect\":\"Pg\",\"query\":{\"from\":{\"table\":\"foo\"},\"calls\":[[\"filter\",{\"eq\":[{\"col\":[\"foo\",\"id\"]},{\"bind\":[\"Integer\",1]}]}]]}},{\"dialect\":\"Pg\",\"query\":{\"from\":{\"table\":\"nobody\"}}}]}";
+
+const OUTPUT: &str =
+    "{\"binds\":[[\"Integer\",1]],\"columns\":[\"Integer\"],\"id\":1,\"safe\":true,\"sql\":\"SELECT \\\"foo\\\".\\\"id\\\" FROM \\\"foo\\\" WHERE (\\\"foo\\\".\\\"id\\\" = $1)\"}\n{\"refused\":\"UnknownName\"}\n";
+
+fn words(alloc: Global, words: &[&str]) -> Result<Vec<String>, AllocError> {
+    let mut all = Vec::new(alloc);
+    for word in words {
+        all.push(String::from_str(alloc, *word)?)?;
+    }
+    Ok(all)
+}
+
+fn source(alloc: Global, failing: Vec<u64>) -> Result<MemorySource, AllocError> {
+    let bytes = Vec::from_slice(alloc, INPUT.as_bytes())?;
+    Ok(MemorySource::new(bytes, NonZeroUsize::MIN, failing))
+}
+
+fn status(alloc: Global, text: &str) -> Result<Status, AllocError> {
+    let mut from = SureSource::new(Vec::from_slice(alloc, text.as_bytes())?);
+    Ok(run(
+        alloc,
+        &words(alloc, &["build"])?,
+        &mut from,
+        &mut SureSink::new(),
+    ))
+}
+
+#[test]
+fn one_byte_at_a_time(rt: HostRuntime) -> Result<(), Fail> {
+    let alloc = rt.alloc();
+    let mut from = source(alloc, Vec::new(alloc))?;
+    let mut to = MemorySink::new(alloc, 1000, NonZeroUsize::MIN, Vec::new(alloc))?;
+    assert_eq!(rt;
+        run(alloc, &words(alloc, &["build"])?, &mut from, &mut to),
+        Status::Done
+    );
+    assert_eq!(rt; to.bytes(), OUTPUT.as_bytes());
+    Ok(())
+}
+
+#[test]
+fn each_read_fails_in_turn(rt: HostRuntime) -> Result<(), Fail> {
+    let alloc = rt.alloc();
+    let build = words(alloc, &["build"])?;
+    for call in 1..INPUT.len() as u64 + 2 {
+        let mut from = source(alloc, vec![in alloc; call]?)?;
+        let mut to = MemorySink::new(alloc, 1000, NonZeroUsize::MIN, Vec::new(alloc))?;
+        assert_eq!(rt; run(alloc, &build, &mut from, &mut to), Status::ReadFault);
+        assert!(rt; to.bytes().is_empty());
+    }
+    Ok(())
+}
+
+#[test]
+fn each_write_fails_in_turn(rt: HostRuntime) -> Result<(), Fail> {
+    let alloc = rt.alloc();
+    let build = words(alloc, &["build"])?;
+    for written in 0..OUTPUT.len() {
+        let mut from = source(alloc, Vec::new(alloc))?;
+        let failing = vec![in alloc; written as u64 + 1]?;
+        let mut to = MemorySink::new(alloc, 1000, NonZeroUsize::MIN, failing)?;
+        assert_eq!(rt; run(alloc, &build, &mut from, &mut to), Status::WriteFault);
+        assert_eq!(rt; to.bytes(), &OUTPUT.as_bytes()[..written]);
+    }
+    Ok(())
+}
+
+#[test]
+fn a_full_sink_fails(rt: HostRuntime) -> Result<(), Fail> {
+    let alloc = rt.alloc();
+    let mut from = source(alloc, Vec::new(alloc))?;
+    let mut to = MemorySink::new(alloc, 10, NonZeroUsize::MAX, Vec::new(alloc))?;
+    assert_eq!(rt;
+        run(alloc, &words(alloc, &["build"])?, &mut from, &mut to),
+        Status::WriteFault
+    );
+    assert_eq!(rt; to.bytes(), &OUTPUT.as_bytes()[..10]);
+    Ok(())
+}
+
+#[test]
+fn words_that_are_no_command(rt: HostRuntime) -> Result<(), Fail> {
+    let alloc = rt.alloc();
+    for told in [
+        [].as_slice(),
+        ["Build"].as_slice(),
+        ["build", "x"].as_slice(),
+        ["--help"].as_slice(),
+    ] {
+        let mut from = source(alloc, Vec::new(alloc))?;
+        let status = run(alloc, &words(alloc, told)?, &mut from, &mut SureSink::new());
+        assert_eq!(rt; status, Status::Usage);
+        assert_eq!(rt; status.code(), 2);
+    }
+    Ok(())
+}
+
+#[test]
+fn sizes(rt: HostRuntime) -> Result<(), Fail> {
+    let alloc = rt.alloc();
+    let build = words(alloc, &["build"])?;
+    let mut large = SureSource::new(vec![in alloc; b' '; 16777217]?);
+    assert_eq!(rt;
+        run(alloc, &build, &mut large, &mut SureSink::new()),
+        Status::TooLarge
+    );
+    let mut full = SureSource::new(vec![in alloc; b' '; 16777216]?);
+    assert_eq!(rt;
+        run(alloc, &build, &mut full, &mut SureSink::new()),
+        Status::BadDocument
+    );
+    Ok(())
+}
+
+#[test]
+fn documents(rt: HostRuntime) -> Result<(), Fail> {
+    let alloc = rt.alloc();
+    for (text, want) in [
+        ("{\"schema\":{\"tables\":[]},\"requests\":[]}", Status::Done),
+        (
+            "{\"schema\":{\"tables\":[]},\"requests\":[],\"x\":18446744073709551615}",
+            Status::Done,
+        ),
+        (
+            "{\"schema\":{\"tables\":[]},\"requests\":[],\"x\":18446744073709551616}",
+            Status::BadDocument,
+        ),
+        (
+            "{\"schema\":{\"tables\":[]},\"requests\":[],\"x\":1.0}",
+            Status::BadDocument,
+        ),
+        (
+            "{\"schema\":{\"tables\":[]},\"requests\":{}}",
+            Status::BadDocument,
+        ),
+        (
+            "{\"schema\":{\"tables\":[]},\"requests\":[1]}",
+            Status::BadDocument,
+        ),
+        (
+            "{\"schema\":{\"tables\":[],\"joinable\":[]},\"requests\":[]}",
+            Status::BadDocument,
+        ),
+        (
+            "{\"schema\":{\"tables\":[{\"name\":\"t\",\"columns\":[]}]},\"requests\":[]}",
+            Status::BadDocument,
+        ),
+        ("", Status::BadDocument),
+    ] {
+        assert_eq!(rt; status(alloc, text)?, want, "{text}");
+    }
+    Ok(())
+}
