@@ -14,31 +14,34 @@ use run::run;
 use sql_stream::{StdSink, StdSource};
 use status::Status;
 use std::env;
+use std::io::ErrorKind;
 use std::process::ExitCode;
 
 fn main(rt: HostRuntime) -> ExitCode {
-    let status = perform_main(&rt);
+    let status = run_over_standard_streams(&rt);
+    if status != Status::Done {
+        let _ = eprintln!(rt; "{}", status.name());
+    }
     ExitCode::from(status.code())
 }
 
-fn perform_main(rt: &HostRuntime) -> Status {
-    let Ok(arguments) = env::args(rt) else {
-        return Status::Usage;
+fn run_over_standard_streams(rt: &HostRuntime) -> Status {
+    let arguments = match env::args(rt) {
+        Ok(arguments) => arguments,
+        Err(error) if error.kind() == ErrorKind::OutOfMemory => return Status::NoMemory,
+        // A word that is no text is no command.
+        Err(_) => return Status::Usage,
     };
     let Ok(words) = arguments.skip(1).collect(rt.alloc()) else {
         return Status::NoMemory;
     };
     let words: Vec<String> = words;
-    let status = run(
+    run(
         rt.alloc(),
         &words,
         &mut StdSource::new(rt),
         &mut StdSink::new(rt),
-    );
-    if status.code() != 0 {
-        let _ = eprintln!(rt; "{}", status.name());
-    }
-    status
+    )
 }
 
 #[cfg(test)]
