@@ -8,7 +8,9 @@ use Rattle.serde_json.specs.Written.{has_float}
 use Rattle.sql_dialect.specs.declared.backend.Dialect.{Dialect}
 use Rattle.sql_schema.specs.declared.declaration.ColumnDecl.{ColumnDecl}
 use Rattle.sql_schema.specs.declared.declaration.TableDecl.{TableDecl}
-use Rattle.sql_schema.specs.Refusals.{is_refused}
+use Rattle.sql_schema.specs.declared.declaration.JoinableDecl.{JoinableDecl}
+use Rattle.sql_schema.specs.Declarations.{Declarations}
+use Rattle.sql_schema.specs.Refusals.{least_refusal}
 use Rattle.sql_document.specs.Names.{dialect_of, operator_of, type_of}
 use Rattle.sql_document.specs.Scalar.{◌>>=◌, whole, value_of}
 use Rattle.sql_document.specs.declared.document.ColumnName.{ColumnName}
@@ -121,12 +123,34 @@ table_of d = do
   columns ← each column_of items
   Some (record { name = name; sql_name = sql_name; schema = schema; columns = columns; primary_key = key })
 
--- SCHEMA: `{"tables":[TABLE..]}`, of tables that can stand together
-unfoldable pub schema_of : Data → Option (List TableDecl)
+-- JOINABLE: `{"child":name,"key":name,"parent":name}`
+unfoldable pub joinable_of : Data → Option JoinableDecl
+joinable_of d = do
+  child ← text_at (codes "child") d
+  key ← text_at (codes "key") d
+  parent ← text_at (codes "parent") d
+  Some (record { child = child; key = key; parent = parent })
+
+-- `[name,name]`, the names of two tables that may stand in one statement
+unfoldable pub names_of : Data → Option (List ℕ × List ℕ)
+names_of d = do
+  two ← two_of d
+  a ← as_str two.0
+  b ← as_str two.1
+  Some (a, b)
+
+-- declarations that make a schema
+unfoldable pub sound : Declarations → Option Declarations
+sound s = if is_some (least_refusal s) then None else Some s
+
+-- SCHEMA: `{"tables":[TABLE..],["joinable":[JOINABLE..]],["together":[[name,name]..]]}`
+unfoldable pub schema_of : Data → Option Declarations
 schema_of d = do
   items ← items_at (codes "tables") d
   tables ← each table_of items
-  if has (codes "joinable") d || (has (codes "together") d || is_refused tables) then None else Some tables
+  joinables ← each_if_any joinable_of (get (codes "joinable") d)
+  together ← each_if_any names_of (get (codes "together") d)
+  sound (record { tables = tables; joinables = joinables; together = together })
 
 -- ---- queries
 
@@ -208,10 +232,10 @@ request_of d = do
 -- DOCUMENT: `{"schema":SCHEMA,"requests":[REQUEST..]}`
 unfoldable pub document_of : Data → Option Document
 document_of d = do
-  tables ← get (codes "schema") d >>= schema_of
+  schema ← get (codes "schema") d >>= schema_of
   items ← items_at (codes "requests") d
   requests ← each request_of items
-  Some (record { tables = tables; requests = requests })
+  Some (record { schema = schema; requests = requests })
 
 -- a document in a value whose numbers all are whole and of 64 bits
 unfoldable pub of_data : Data → Option Document

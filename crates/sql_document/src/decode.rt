@@ -1,18 +1,20 @@
-ghost use Rattle.std.specs.Prelude.{◌≡◌, [], ◌∷◌, codes, Option, option_map};
+ghost use Rattle.std.specs.Prelude.{◌≡◌, [], ◌∷◌, ◌++◌, codes, Option, OnOk, IfOk, option_map};
 ghost use Rattle.serde_json.specs.Data.{Data};
 ghost use Rattle.serde_json.specs.Find.{get, as_str};
 ghost use Rattle.serde_json.specs.View.{view, items_view};
-ghost use Rattle.sql_document.specs.Form.{Gives, each, each_if_any, text_if_any, key_of, column_of, table_of, schema_of, request_of, document_of, of_data, document};
+ghost use Rattle.sql_document.specs.Form.{Gives, each, each_if_any, text_if_any, key_of, column_of, table_of, joinable_of, names_of, sound, schema_of, request_of, document_of, of_data, document};
 
 use crate::document::{Document, Request};
 use crate::float::has_float;
-use crate::member::{has, items, text, text_or_default};
+use crate::member::{items, text, text_or_default, two};
 use crate::names::{dialect, sql_type};
 use crate::query::query;
 use crate::refusal::Refusal;
 use serde_json::Value;
-use sql_schema::{ColumnDecl, SqlList, SqlText, TableDecl, is_refused};
-use std::alloc::Global;
+use sql_schema::{
+    ColumnDecl, JoinableDecl, Schema, SchemaBuilder, SchemaError, SqlList, SqlText, TableDecl,
+};
+use std::alloc::{AllocError, Global};
 
 /// What a JSON value may stand for.
 pub(crate) trait Decode {
@@ -130,16 +132,108 @@ impl Decode for TableDecl {
     }
 }
 
+impl Decode for JoinableDecl {
+    ghost form = { joinable_of };
+
+    #[tactic(auto, unfolding(crate::specs::Form::joinable_of))]
+    fn decode(alloc: Global, value: &Value) -> Result<JoinableDecl, Refusal> {
+        let child = text(value, "child").ok_or(Refusal::NotADocument)?;
+        let key = text(value, "key").ok_or(Refusal::NotADocument)?;
+        let parent = text(value, "parent").ok_or(Refusal::NotADocument)?;
+        Ok(JoinableDecl {
+            child: SqlText::from(String::from_str(alloc, child)?),
+            key: SqlText::from(String::from_str(alloc, key)?),
+            parent: SqlText::from(String::from_str(alloc, parent)?),
+        })
+    }
+}
+
+/// The names of two tables that may stand in one statement.
+impl Decode for (SqlText, SqlText) {
+    ghost form = { names_of };
+
+    #[tactic(auto, unfolding(crate::specs::Form::names_of))]
+    fn decode(alloc: Global, value: &Value) -> Result<(SqlText, SqlText), Refusal> {
+        let (a, b) = two(value).ok_or(Refusal::NotADocument)?;
+        let a = SqlText::decode(alloc, a)?;
+        let b = SqlText::decode(alloc, b)?;
+        Ok((a, b))
+    }
+}
+
+fn declare_tables(builder: &mut SchemaBuilder, tables: Vec<TableDecl>) -> Result<(), AllocError>
+    ensures { OnOk result (builder.new ≡ record builder.old { tables = builder.old.tables ++ tables.items }) }
+{
+    for table in tables {
+        builder.table(table)?;
+    }
+    Ok(())
+}
+
+fn declare_joinables(
+    builder: &mut SchemaBuilder,
+    joinables: &[JoinableDecl],
+) -> Result<(), AllocError>
+    ensures { OnOk result (builder.new ≡ record builder.old { joinables = builder.old.joinables ++ joinables.now }) }
+{
+    for joinable in joinables {
+        builder.joinable(
+            joinable.child.as_str(),
+            joinable.key.as_str(),
+            joinable.parent.as_str(),
+        )?;
+    }
+    Ok(())
+}
+
+fn declare_together(
+    builder: &mut SchemaBuilder,
+    together: &[(SqlText, SqlText)],
+) -> Result<(), AllocError>
+    ensures { OnOk result (builder.new ≡ record builder.old { together = builder.old.together ++ together.now }) }
+{
+    for pair in together {
+        builder.together(pair.0.as_str(), pair.1.as_str())?;
+    }
+    Ok(())
+}
+
+fn declared(
+    alloc: Global,
+    tables: Vec<TableDecl>,
+    joinables: &[JoinableDecl],
+    together: &[(SqlText, SqlText)],
+) -> Result<SchemaBuilder, AllocError>
+    ensures { IfOk result (λ b. b ≡ record { tables = tables.items; joinables = joinables.now; together = together.now }) }
+{
+    let mut builder = SchemaBuilder::new(alloc);
+    declare_tables(&mut builder, tables)?;
+    declare_joinables(&mut builder, joinables)?;
+    declare_together(&mut builder, together)?;
+    Ok(builder)
+}
+
+#[tactic(auto, unfolding(crate::specs::Form::sound))]
+fn build(builder: SchemaBuilder) -> Result<Schema, Refusal>
+    ensures { Gives (λ s. s) result (sound builder) }
+{
+    match builder.build() {
+        Ok(schema) => Ok(schema),
+        Err(SchemaError::NoMemory) => Err(Refusal::NoMemory),
+        Err(_) => Err(Refusal::NotADocument),
+    }
+}
+
 #[tactic(auto, unfolding(crate::specs::Form::schema_of))]
-fn schema(alloc: Global, value: &Value) -> Result<Vec<TableDecl>, Refusal>
-    ensures { Gives (λ v. v.items) result (schema_of (view value.now)) }
+fn schema(alloc: Global, value: &Value) -> Result<Schema, Refusal>
+    ensures { Gives (λ s. s) result (schema_of (view value.now)) }
 {
     let tables = items(value, "tables").ok_or(Refusal::NotADocument)?;
     let tables = decode_each(alloc, tables)?;
-    if has(value, "joinable") || has(value, "together") || is_refused(&tables) {
-        return Err(Refusal::NotADocument);
-    }
-    Ok(tables)
+    let joinables: Vec<JoinableDecl> = decode_if_any(alloc, value.get("joinable"))?;
+    let together: Vec<(SqlText, SqlText)> = decode_if_any(alloc, value.get("together"))?;
+    let builder = declared(alloc, tables, &joinables, &together)?;
+    build(builder)
 }
 
 impl Decode for Request {
@@ -159,12 +253,12 @@ impl Decode for Request {
 fn whole(alloc: Global, value: &Value) -> Result<Document, Refusal>
     ensures { Gives (λ d. d) result (document_of (view value.now)) }
 {
-    let declared = value.get("schema").ok_or(Refusal::NotADocument)?;
-    let tables = schema(alloc, declared)?;
+    let declarations = value.get("schema").ok_or(Refusal::NotADocument)?;
+    let schema = schema(alloc, declarations)?;
     let requests = items(value, "requests").ok_or(Refusal::NotADocument)?;
     let requests = decode_each(alloc, requests)?;
     Ok(Document {
-        tables: SqlList::from(tables),
+        schema,
         requests: SqlList::from(requests),
     })
 }

@@ -1,6 +1,6 @@
 use sql_dialect::Dialect;
 use sql_pass::Value;
-use sql_schema::{SqlList, SqlText, SqlType, TableDecl};
+use sql_schema::{Schema, SqlList, SqlText, SqlType};
 
 /// A column by its lookup names: `["users","id"]`.
 #[derive(Debug, Drop)]
@@ -67,9 +67,9 @@ pub struct Request {
     pub query: Query,
 }
 
-/// A schema and requests: `{"schema":{"tables":[TABLE..]},"requests":[REQUEST..]}`.
+/// A schema and requests: `{"schema":SCHEMA,"requests":[REQUEST..]}`.
 #[derive(Debug, Drop)]
 pub struct Document {
-    pub tables: SqlList<TableDecl>,
+    pub schema: Schema,
     pub requests: SqlList<Request>,
 }

@@ -1,1 +1,5 @@
+pub mod Columns
+pub mod Declarations
 pub mod Refusals
+pub mod Together
+pub mod formers

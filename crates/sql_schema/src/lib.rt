@@ -1,18 +1,26 @@
-//! SQL types, the thin types in which nodes keep text and lists, and the declarations of tables.
+//! SQL types, the thin types in which nodes keep text and lists, and schemas: the declarations of tables, checked.
 //!
 //! A thin type is a `String`, a `Vec<u8>` or a `Vec<T>` that contracts see as the plain list of its elements, so
 //! that two values are equal exactly where these lists are.
 #![tactic(auto)]
 
 mod declaration;
+mod error;
 mod list;
 mod refusal;
+mod schema;
+mod table;
+#[cfg(test)]
+mod tests;
 mod text;
 mod types;
 
-pub use declaration::{ColumnDecl, TableDecl};
+pub use declaration::{ColumnDecl, JoinableDecl, TableDecl};
+pub use error::SchemaError;
 pub use list::SqlList;
 pub use refusal::is_refused;
+pub use schema::{Schema, SchemaBuilder, TableNotEqual};
+pub use table::{Column, SizeRestrictedColumn, Table};
 pub use text::{SqlBytes, SqlText};
 pub use types::{Base, SqlType};
 

@@ -70,7 +70,7 @@ answers-each tables all [] = tt
 answers-each tables all (r ∷ rs) = (answers tables all r, answers-each tables all rs)
 
 pub document_answered : (d : Document) → AnswersEach d
-document_answered d = answers-each d.tables (shapes d.tables d.requests) d.requests
+document_answered d = answers-each d.schema.tables (shapes d.schema.tables d.requests) d.requests
 
 -- what is known of a document, and that each of its requests is answered
 pub with_answers : (o : Option (List ℕ)) (E : Type 0) (A : Document → Type 0) → IfSome o (λ input. E × (d : Document) × (document input ≡ Some d) × A d)

@@ -36,4 +36,4 @@ Answers tables all r =
 
 -- each request is answered
 abbrev pub AnswersEach : Document → Type 0
-AnswersEach d = Each (Answers d.tables (shapes d.tables d.requests)) d.requests
+AnswersEach d = Each (Answers d.schema.tables (shapes d.schema.tables d.requests)) d.requests

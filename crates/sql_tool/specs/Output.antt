@@ -46,4 +46,4 @@ lines tables all (r ∷ rs) = line tables all r ++ lines tables all rs
 
 -- a line for each request, in order
 unfoldable pub output : Document → List ℕ
-output d = lines d.tables (shapes d.tables d.requests) d.requests
+output d = lines d.schema.tables (shapes d.schema.tables d.requests) d.requests

@@ -13,14 +13,14 @@ use crate::shape::{Shape, id, request_shape};
 use crate::statement::look_up;
 use serde_json::Value as Json;
 use sql_document::Request;
-use sql_schema::TableDecl;
+use sql_schema::Table;
 use std::alloc::{AllocError, Global};
 use std::collections::BTreeMap;
 
 /// The answer to the request with this number, where `seen` has the shapes of those before it.
 fn answer(
     alloc: Global,
-    tables: &[TableDecl],
+    tables: &[Table],
     seen: &mut BTreeMap<Shape, u64>,
     number: u64,
     request: &Request,
@@ -44,7 +44,7 @@ fn answer(
 
 pub fn request_line(
     alloc: Global,
-    tables: &[TableDecl],
+    tables: &[Table],
     seen: &mut BTreeMap<Shape, u64>,
     number: u64,
     request: &Request,

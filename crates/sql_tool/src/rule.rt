@@ -51,7 +51,7 @@ fn fits(ty: SqlType, value: &Value) -> bool
 fn is_foreign(statement: &Statement<'_>, column: &ColumnRef<'_>) -> bool
     ensures { result ≡ is_out_of_scope (statement_tree statement.now) (column_tree column.now) }
 {
-    column.table.name.as_str() != statement.from.name.as_str()
+    column.table.name() != statement.from.name()
 }
 
 fn any_is_foreign(statement: &Statement<'_>, columns: &[ColumnRef<'_>]) -> bool

@@ -41,7 +41,7 @@ pub struct Shape {
 fn column_shape(alloc: Global, column: &ColumnRef<'_>) -> Result<ColumnShape, AllocError>
     ensures { IfOk result (λ s. s ≡ shape_of_column (column_tree column.now)) }
 {
-    let table = column.table.name.try_clone(alloc)?;
+    let table = SqlText::from(String::from_str(alloc, column.table.name())?);
     let column = column.column.name.try_clone(alloc)?;
     Ok(ColumnShape { table, column })
 }
@@ -97,7 +97,7 @@ pub fn request_shape(
 ) -> Result<Shape, AllocError>
     ensures { IfOk result (λ s. s ≡ shape_of dialect (statement_tree statement.now)) }
 {
-    let table = statement.from.name.try_clone(alloc)?;
+    let table = SqlText::from(String::from_str(alloc, statement.from.name())?);
     let columns = selection_shape(alloc, statement.kind, &statement.columns)?;
     let condition = condition_shape(alloc, &statement.condition)?;
     Ok(Shape {

@@ -3,13 +3,13 @@ ghost use Rattle.sql_tool.specs.Statement.{ColumnTree, column_tree, condition_tr
 
 use sql_document::{Call, ColumnName, Comparison, Operator, Query, Selection};
 use sql_pass::Value;
-use sql_schema::{ColumnDecl, SqlType, TableDecl};
+use sql_schema::{ColumnDecl, SqlType, Table};
 use std::alloc::{AllocError, Global};
 
 /// A column of a table: `"users"."id"`.
 #[derive(Debug, Clone, Copy)]
 pub struct ColumnRef<'d> {
-    pub table: &'d TableDecl,
+    pub table: &'d Table,
     pub column: &'d ColumnDecl,
 }
 
@@ -36,28 +36,28 @@ pub enum SelectKind {
 /// `SELECT columns FROM from WHERE condition LIMIT limit`.
 #[derive(Debug, Drop)]
 pub struct Statement<'d> {
-    pub from: &'d TableDecl,
+    pub from: &'d Table,
     pub kind: SelectKind,
     pub columns: Vec<ColumnRef<'d>>,
     pub condition: Option<Condition<'d>>,
     pub limit: Option<i64>,
 }
 
-fn find_table<'d>(tables: &'d [TableDecl], name: &str) -> Option<&'d TableDecl>
+fn find_table<'d>(tables: &'d [Table], name: &str) -> Option<&'d Table>
     ensures { option_map (λ t. t.now) result ≡ table_named name.now tables.now }
 {
     for table in tables {
-        if table.name.as_str() == name {
+        if table.name() == name {
             return Some(table);
         }
     }
     None
 }
 
-fn find_column<'d>(table: &'d TableDecl, name: &str) -> Option<&'d ColumnDecl>
+fn find_column<'d>(table: &'d Table, name: &str) -> Option<&'d ColumnDecl>
     ensures { option_map (λ c. c.now) result ≡ column_named name.now table.now }
 {
-    for column in table.columns.as_slice() {
+    for column in table.columns() {
         if column.name.as_str() == name {
             return Some(column);
         }
@@ -66,7 +66,7 @@ fn find_column<'d>(table: &'d TableDecl, name: &str) -> Option<&'d ColumnDecl>
 }
 
 #[tactic(auto, unfolding(crate::specs::Statement::column_in))]
-fn look_up_column<'d>(tables: &'d [TableDecl], name: &ColumnName) -> Option<ColumnRef<'d>>
+fn look_up_column<'d>(tables: &'d [Table], name: &ColumnName) -> Option<ColumnRef<'d>>
     ensures { option_map column_tree result ≡ column_in tables.now name.now }
 {
     let table = find_table(tables, name.table.as_str())?;
@@ -76,7 +76,7 @@ fn look_up_column<'d>(tables: &'d [TableDecl], name: &ColumnName) -> Option<Colu
 
 fn look_up_columns<'d>(
     alloc: Global,
-    tables: &'d [TableDecl],
+    tables: &'d [Table],
     names: &[ColumnName],
 ) -> Result<Option<Vec<ColumnRef<'d>>>, AllocError>
     ensures { IfOk result (λ o. option_map (λ v. map column_tree v.items) o ≡ columns_in tables.now names.now) }
@@ -91,11 +91,11 @@ fn look_up_columns<'d>(
     Ok(Some(columns))
 }
 
-fn table_columns<'d>(alloc: Global, table: &'d TableDecl) -> Result<Vec<ColumnRef<'d>>, AllocError>
+fn table_columns<'d>(alloc: Global, table: &'d Table) -> Result<Vec<ColumnRef<'d>>, AllocError>
     ensures { IfOk result (λ v. map column_tree v.items ≡ map (in_table table.now) table.now.columns) }
 {
     let mut columns = Vec::new(alloc);
-    for column in table.columns.as_slice() {
+    for column in table.columns() {
         columns.push(ColumnRef { table, column })?;
     }
     Ok(columns)
@@ -110,7 +110,7 @@ fn one_column<'d>(alloc: Global, column: ColumnRef<'d>) -> Result<Vec<ColumnRef<
 }
 
 /// All columns of the table, in the order of their declaration: `SELECT "users"."id", "users"."name" FROM "users"`.
-fn simple<'d>(alloc: Global, table: &'d TableDecl) -> Result<Statement<'d>, AllocError>
+fn simple<'d>(alloc: Global, table: &'d Table) -> Result<Statement<'d>, AllocError>
     ensures { IfOk result (λ s. statement_tree s ≡ simple_tree table.now) }
 {
     let columns = table_columns(alloc, table)?;
@@ -125,7 +125,7 @@ fn simple<'d>(alloc: Global, table: &'d TableDecl) -> Result<Statement<'d>, Allo
 
 fn select<'d>(
     alloc: Global,
-    tables: &'d [TableDecl],
+    tables: &'d [Table],
     mut statement: Statement<'d>,
     selection: &Selection,
 ) -> Result<Option<Statement<'d>>, AllocError>
@@ -152,7 +152,7 @@ fn select<'d>(
 }
 
 fn filter<'d>(
-    tables: &'d [TableDecl],
+    tables: &'d [Table],
     mut statement: Statement<'d>,
     comparison: &'d Comparison,
 ) -> Option<Statement<'d>>
@@ -170,7 +170,7 @@ fn filter<'d>(
 
 fn call<'d>(
     alloc: Global,
-    tables: &'d [TableDecl],
+    tables: &'d [Table],
     mut statement: Statement<'d>,
     call: &'d Call,
 ) -> Result<Option<Statement<'d>>, AllocError>
@@ -188,7 +188,7 @@ fn call<'d>(
 
 fn call_each<'d>(
     alloc: Global,
-    tables: &'d [TableDecl],
+    tables: &'d [Table],
     start: Statement<'d>,
     calls: &'d [Call],
 ) -> Result<Option<Statement<'d>>, AllocError>
@@ -208,7 +208,7 @@ fn call_each<'d>(
 #[tactic(auto, unfolding(crate::specs::Statement::statement_in))]
 pub fn look_up<'d>(
     alloc: Global,
-    tables: &'d [TableDecl],
+    tables: &'d [Table],
     query: &'d Query,
 ) -> Result<Option<Statement<'d>>, AllocError>
     ensures { IfOk result (λ o. option_map statement_tree o ≡ statement_in tables.now query.now) }

@@ -152,7 +152,11 @@ fn documents(rt: HostRuntime) -> Result<(), Fail> {
             Status::BadDocument,
         ),
         (
-            "{\"schema\":{\"tables\":[],\"joinable\":[]},\"requests\":[]}",
+            "{\"schema\":{\"tables\":[],\"joinable\":[],\"together\":[]},\"requests\":[]}",
+            Status::Done,
+        ),
+        (
+            "{\"schema\":{\"tables\":[],\"together\":[[\"a\",\"b\"]]},\"requests\":[]}",
             Status::BadDocument,
         ),
         (

@@ -5,14 +5,14 @@ ghost use Rattle.sql_pass.specs.Commas.{next_of};
 ghost use Rattle.sql_pass.specs.Held.{held};
 ghost use Rattle.sql_pass.specs.Pieces.{one, Text, Ident, Bind};
 ghost use Rattle.sql_pass.specs.Walks.{Walks};
-ghost use Rattle.sql_tool.specs.Pieces.{table_pieces, column_pieces, operator_sql, condition_pieces, where_pieces, limit_bound, limit_pieces, selection_pieces, statement_pieces};
+ghost use Rattle.sql_tool.specs.Pieces.{path_pieces, table_pieces, column_pieces, operator_sql, condition_pieces, where_pieces, limit_bound, limit_pieces, selection_pieces, statement_pieces};
 ghost use Rattle.sql_tool.specs.Statement.{column_tree, condition_tree, statement_tree};
 
 use crate::statement::{ColumnRef, Condition, Statement};
 use sql_dialect::Backend;
 use sql_document::Operator;
 use sql_pass::{AstPass, BoundRef, PassError, QueryFragment, Value};
-use sql_schema::{Base, SqlText, SqlType, TableDecl};
+use sql_schema::{Base, SqlText, SqlType, Table};
 
 fn walk_name<DB: Backend>(name: &SqlText, pass: &mut AstPass<DB>) -> Result<(), PassError>
     ensures { Walks DB.speaks (held DB.QueryBuilder.text DB.QueryBuilder.count pass.old) (one (Ident name.now)) result (held DB.QueryBuilder.text DB.QueryBuilder.count pass.new) }
@@ -20,18 +20,29 @@ fn walk_name<DB: Backend>(name: &SqlText, pass: &mut AstPass<DB>) -> Result<(), 
     pass.push_identifier(name.as_str())
 }
 
-fn walk_table<DB: Backend>(table: &TableDecl, pass: &mut AstPass<DB>) -> Result<(), PassError>
-    ensures { Walks DB.speaks (held DB.QueryBuilder.text DB.QueryBuilder.count pass.old) (table_pieces table.now) result (held DB.QueryBuilder.text DB.QueryBuilder.count pass.new) }
+fn walk_path<DB: Backend>(
+    schema: Option<&str>,
+    name: &str,
+    pass: &mut AstPass<DB>,
+) -> Result<(), PassError>
+    ensures { Walks DB.speaks (held DB.QueryBuilder.text DB.QueryBuilder.count pass.old) (path_pieces (option_map (λ s. s.now) schema.entry) name.now) result (held DB.QueryBuilder.text DB.QueryBuilder.count pass.new) }
 {
-    match &table.schema {
-        None => walk_name(&table.sql_name, pass),
+    match schema {
+        None => pass.push_identifier(name),
         Some(schema) => {
-            walk_name(schema, pass)?;
+            pass.push_identifier(schema)?;
             pass.push_sql(".")?;
-            walk_name(&table.sql_name, pass)?;
+            pass.push_identifier(name)?;
             Ok(())
         }
     }
+}
+
+fn walk_table<DB: Backend>(table: &Table, pass: &mut AstPass<DB>) -> Result<(), PassError>
+    ensures { Walks DB.speaks (held DB.QueryBuilder.text DB.QueryBuilder.count pass.old) (table_pieces table.now) result (held DB.QueryBuilder.text DB.QueryBuilder.count pass.new) }
+{
+    let (schema, name) = table.path();
+    walk_path(schema, name, pass)
 }
 
 fn walk_column<DB: Backend>(column: &ColumnRef<'_>, pass: &mut AstPass<DB>) -> Result<(), PassError>

@@ -26,14 +26,14 @@ loop-before-init g c = record {
 -- what the loop knows of the text that it writes at its request i
 module _ (d : Document) (i : ℕ) (r : Request) (within : i < length d.requests) (is : r ≡ get_or d.requests i r) where
   abbrev rest : List ℕ
-  rest = lines d.tables (shapes d.tables d.requests) (drop (i + 1) d.requests)
+  rest = lines d.schema.tables (shapes d.schema.tables d.requests) (drop (i + 1) d.requests)
 
   -- it is what comes next
-  comes : (f : Shape → Option ℕ) (text : List ℕ) → Tells f (shapes d.tables (take i d.requests))
-      → text ≡ answer_line r.dialect (λ s. Some (unwrap_or (f (shape_of r.dialect s)) (i + 1))) (statement_in d.tables r.query)
-      → lines d.tables (shapes d.tables d.requests) (drop i d.requests) ≡ text ++ rest
+  comes : (f : Shape → Option ℕ) (text : List ℕ) → Tells f (shapes d.schema.tables (take i d.requests))
+      → text ≡ answer_line r.dialect (λ s. Some (unwrap_or (f (shape_of r.dialect s)) (i + 1))) (statement_in d.schema.tables r.query)
+      → lines d.schema.tables (shapes d.schema.tables d.requests) (drop i d.requests) ≡ text ++ rest
   comes f text tells told =
-      next_line d.tables (shapes d.tables d.requests) d.requests i r within is ∙ ap (λ t. t ++ rest) (sym (told ∙ told-line d.tables d.requests i r within is f (i + 1) refl tells))
+      next_line d.schema.tables (shapes d.schema.tables d.requests) d.requests i r within is ∙ ap (λ t. t ++ rest) (sym (told ∙ told-line d.schema.tables d.requests i r within is f (i + 1) refl tells))
 
 pub returns-in_err-write_all-clause-front : goal.returns-in_err-write_all-clause-front
 returns-in_err-write_all-clause-front g c =
@@ -45,7 +45,7 @@ returns-in_err-write_all-clause-front g c =
     let (done, after, cut, more) = c.in_err-write_all.ensures.front in
     let within : l.before < length d.requests = search rules in
     let is : r ≡ get_or d.requests l.before r = search rules in
-    let told : c.as_bytes.result.now ≡ answer_line r.dialect (λ s. Some (unwrap_or (f (shape_of r.dialect s)) (l.before + 1))) (statement_in d.tables r.query) = c.as_bytes.ensures.value ∙ rw c.as_slice-tables.ensures at c.in_ok-text.ensures.told in
+    let told : c.as_bytes.result.now ≡ answer_line r.dialect (λ s. Some (unwrap_or (f (shape_of r.dialect s)) (l.before + 1))) (statement_in d.schema.tables r.query) = c.as_bytes.ensures.value ∙ rw c.tables-tables.ensures.tables at c.in_ok-text.ensures.told in
     let next = comes d l.before r within is f c.as_bytes.result.now l.invariant.seen told in
     let p = err_from_is_err_and c.from_residual-in_err-write_all.result c.from_residual-in_err-write_all.ensures.1 in
     rw p.1 (written ++ done, (after ++ rest d l.before r within is, front_of _ written _ _ done after (split ∙ ap (λ t. written ++ t) next) cut), Appends-trans _ _ _ _ _ appended more)
@@ -59,12 +59,12 @@ loop-before-preserved g c =
     let (written, split, appended) = l.invariant.written in
     let within : l.before < length d.requests = search rules in
     let is : r ≡ get_or d.requests l.before r = search rules in
-    let told : c.as_bytes.result.now ≡ answer_line r.dialect (λ s. Some (unwrap_or (f (shape_of r.dialect s)) (l.before + 1))) (statement_in d.tables r.query) = c.as_bytes.ensures.value ∙ rw c.as_slice-tables.ensures at c.in_ok-text.ensures.told in
+    let told : c.as_bytes.result.now ≡ answer_line r.dialect (λ s. Some (unwrap_or (f (shape_of r.dialect s)) (l.before + 1))) (statement_in d.schema.tables r.query) = c.as_bytes.ensures.value ∙ rw c.tables-tables.ensures.tables at c.in_ok-text.ensures.told in
     let next = comes d l.before r within is f c.as_bytes.result.now l.invariant.seen told in
     record {
       written = (written ++ c.as_bytes.result.now, one_more _ written _ _ (split ∙ ap (λ t. written ++ t) next), Appends-trans _ _ _ _ _ appended c.in_ok-write_all.ensures.all);
       faults = c.in_ok-write_all.ensures.cause.kept ∙ l.invariant.faults;
-      seen = told-more d.tables d.requests l.before r within is f (l.before + 1) refl l.invariant.seen (tree.get (shape_ord.ghosts).cmp c.request_line.new.seen) (rw c.as_slice-tables.ensures at c.in_ok-text.ensures.kept);
+      seen = told-more d.schema.tables d.requests l.before r within is f (l.before + 1) refl l.invariant.seen (tree.get (shape_ord.ghosts).cmp c.request_line.new.seen) (rw c.tables-tables.ensures.tables at c.in_ok-text.ensures.kept);
     }
 
 pub returns-clause-all : goal.returns-clause-all
@@ -72,5 +72,5 @@ returns-clause-all g c =
     let l = c.loop-before in
     let d = c.args.document.now in
     let (written, split, appended) = l.invariant.written in
-    let none = no_line d.tables (shapes d.tables d.requests) d.requests l.before (search rules) in
+    let none = no_line d.schema.tables (shapes d.schema.tables d.requests) d.requests l.before (search rules) in
     subst (Appends _ _) (sym (split ∙ ap (λ t. written ++ t) none ∙ append-nil written)) appended

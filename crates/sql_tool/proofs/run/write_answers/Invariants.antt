@@ -8,7 +8,7 @@ use Rattle.sql_tool.proofs.run.write_answers.Given as goal
 
 abbrev pub invariant-loop-before : goal.invariant-loop-before
 invariant-loop-before g l =
-    let tables = l.document.tables in
+    let tables = l.document.schema.tables in
     let rs = l.document.requests in
     record {
       written : (written : List ℕ) × (output l.document ≡ written ++ lines tables (shapes tables rs) (drop l.before rs)) × Appends (g.K.Sink.held l.initial.sink) (g.K.Sink.held l.sink) written;

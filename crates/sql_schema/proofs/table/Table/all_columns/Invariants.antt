@@ -1,0 +1,6 @@
+use Rattle.std.proofs.Common.{◌≡◌, map, take}
+use Rattle.sql_schema.specs.Columns.{column_of}
+use Rattle.sql_schema.proofs.table.Table.all_columns.Given as goal
+
+abbrev pub invariant-loop-decl : goal.invariant-loop-decl
+invariant-loop-decl l = l.all.items ≡ map (λ c. column_of l.self c) (take l.decl-index l.decl-items)

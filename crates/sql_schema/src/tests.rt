@@ -1,0 +1,104 @@
+use super::{
+    Base, ColumnDecl, NoMemory, Schema, SchemaBuilder, SchemaError, SqlList, SqlText, SqlType,
+    TableDecl, TableNotEqual,
+};
+use std::alloc::Global;
+use std::test::Fail;
+
+fn text(alloc: Global, text: &str) -> Result<SqlText, NoMemory> {
+    Ok(SqlText::from(String::from_str(alloc, text)?))
+}
+
+fn column(alloc: Global, name: &str) -> Result<ColumnDecl, NoMemory> {
+    Ok(ColumnDecl {
+        name: text(alloc, name)?,
+        sql_name: text(alloc, name)?,
+        ty: SqlType {
+            base: Base::Integer,
+            nullable: false,
+        },
+        max_length: None,
+    })
+}
+
+/// A table with the key `id`.
+fn table(alloc: Global, name: &str, names: &[&str]) -> Result<TableDecl, NoMemory> {
+    let mut columns = Vec::new(alloc);
+    for name in names {
+        columns.push(column(alloc, *name)?)?;
+    }
+    let mut primary_key = Vec::new(alloc);
+    primary_key.push(text(alloc, "id")?)?;
+    Ok(TableDecl {
+        name: text(alloc, name)?,
+        sql_name: text(alloc, name)?,
+        schema: None,
+        columns: SqlList::from(columns),
+        primary_key: SqlList::from(primary_key),
+    })
+}
+
+fn tables(alloc: Global, tables: &[(&str, &[&str])]) -> Result<SchemaBuilder, NoMemory> {
+    let mut builder = SchemaBuilder::new(alloc);
+    for (name, columns) in tables {
+        builder.table(table(alloc, *name, *columns)?)?;
+    }
+    Ok(builder)
+}
+
+/// The refusal's message, or the empty text.
+fn message(alloc: Global, built: Result<Schema, SchemaError>) -> Result<String, NoMemory> {
+    match built {
+        Ok(_schema) => Ok(String::new(alloc)),
+        Err(error) => format!(in alloc; "{error}"),
+    }
+}
+
+#[test]
+fn refusals_by_their_names(rt: HostRuntime) -> Result<(), Fail> {
+    let alloc = rt.alloc();
+    let refused: [(&[(&str, &[&str])], &str); 5] = [
+        (&[("a", &["id"]), ("a", &["id"])], "DuplicateTable"),
+        (&[("a", &[])], "NoColumns"),
+        (&[("a", &["id", "x", "x"])], "DuplicateColumn"),
+        (&[("a", &["x"])], "UnknownKey"),
+        (&[("a", &["id"]), ("b", &["id"])], ""),
+    ];
+    for (declared, want) in refused {
+        let built = tables(alloc, declared)?.build();
+        assert_eq!(rt; message(alloc, built)?.as_str(), want);
+    }
+    Ok(())
+}
+
+#[test]
+fn relations(rt: HostRuntime) -> Result<(), Fail> {
+    let alloc = rt.alloc();
+    let related = [
+        ("nobody", "user_id", "users", "UnknownTable"),
+        ("users", "id", "users", "BadJoinable"),
+        ("posts", "title", "users", "BadJoinable"),
+        ("posts", "user_id", "users", ""),
+    ];
+    for (child, key, parent, want) in related {
+        let mut builder = tables(alloc, &[("users", &["id"]), ("posts", &["id", "user_id"])])?;
+        builder.joinable(child, key, parent)?;
+        assert_eq!(rt; message(alloc, builder.build())?.as_str(), want);
+    }
+    Ok(())
+}
+
+#[test]
+fn allowed_together(rt: HostRuntime) -> Result<(), Fail> {
+    let alloc = rt.alloc();
+    let mut builder = tables(alloc, &[("a", &["id"]), ("b", &["id"])])?;
+    builder.together("a", "b")?;
+    let schema = builder.build()?;
+    let a = schema.table("a").ok_or("no table")?;
+    let b = schema.table("b").ok_or("no table")?;
+    assert!(rt; schema.allowed_together(b, a));
+    assert!(rt; !schema.allowed_together(a, a));
+    assert_eq!(rt; a.all_columns(alloc)?.len(), 1);
+    assert!(rt; a.column(alloc, "id")?.is_some());
+    Ok(())
+}
