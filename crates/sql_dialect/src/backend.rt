@@ -2,6 +2,7 @@ ghost use Rattle.std.specs.Prelude.{◌≡◌, []};
 ghost use Rattle.sql_dialect.specs.declared.backend.Dialect.{Dialect};
 
 use crate::builder::QueryBuilder;
+use crate::syntax::SqlDialect;
 use std::alloc::Global;
 
 /// The SQL of a database: PostgreSQL's, MySQL's or SQLite's.
@@ -13,7 +14,7 @@ pub enum Dialect {
 }
 
 /// A database that statements are written for. It speaks one dialect, and its builders write that dialect.
-pub trait Backend: Copy {
+pub trait Backend: SqlDialect + Copy {
     type QueryBuilder: QueryBuilder + Drop;
 
     /// The dialect of all values of the type.
@@ -30,4 +31,7 @@ pub trait Backend: Copy {
 
     /// The builders quote and number as the backend's dialect does.
     ghost builds: { Self.QueryBuilder.dialect ≡ speaks };
+
+    /// It supports what its dialect has, in the forms of that dialect.
+    ghost answers: { Self.answers_as ≡ speaks };
 }

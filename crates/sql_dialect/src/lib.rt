@@ -3,15 +3,31 @@
 
 mod backend;
 mod builder;
+mod combination;
 mod laws;
+mod markers;
 mod mysql;
 mod pg;
 mod quote;
 mod sqlite;
+mod syntax;
 
 pub use backend::{Backend, Dialect};
 pub use builder::{BindError, NoMemory, QueryBuilder};
+pub use combination::{Combinator, DuplicateRule};
 pub use laws::quoted_names_differ;
+pub use markers::{
+    AggregateFunctionExpressions, BatchInsertSupport, BuiltInWindowFunctionRequireOrder,
+    ConcatClause, DefaultValueClauseForInsert, InsertWithDefaultKeyword, OnConflictClause,
+    ReturningClause, WindowFrameClauseGroupSupport, WindowFrameExclusionSupport,
+};
 pub use mysql::{Mysql, MysqlQueryBuilder};
 pub use pg::{Pg, PgQueryBuilder};
 pub use sqlite::{Sqlite, SqliteQueryBuilder};
+pub use syntax::{
+    AliasSyntax, ArrayComparison, EmptyFromClauseSyntax, ExistsSyntax, SelectStatementSyntax,
+    SqlDialect,
+};
+
+#[cfg(test)]
+mod tests;

@@ -3,13 +3,49 @@ ghost use Rattle.sql_dialect.specs.declared.backend.Dialect.TheVariants as D;
 
 use crate::backend::{Backend, Dialect};
 use crate::builder::{BindError, NoMemory, QueryBuilder};
+use crate::combination::{Combinator, DuplicateRule};
 use crate::quote::quote;
+use crate::syntax::{
+    AliasSyntax, ArrayComparison, EmptyFromClauseSyntax, ExistsSyntax, SelectStatementSyntax,
+    SqlDialect,
+};
 use std::alloc::Global;
 use std::marker::Model;
 
 /// MySQL.
 #[derive(Debug, Clone, Copy, PartialEq, Eq)]
 pub struct Mysql;
+
+impl SqlDialect for Mysql {
+    ghost answers_as = { D.Mysql };
+
+    fn supports(&self, combinator: Combinator, _rule: DuplicateRule) -> bool {
+        match combinator {
+            Combinator::Union => true,
+            Combinator::Intersect | Combinator::Except => false,
+        }
+    }
+
+    fn empty_from_clause_syntax(&self) -> EmptyFromClauseSyntax {
+        EmptyFromClauseSyntax::AnsiSqlFromClauseSyntax
+    }
+
+    fn exists_syntax(&self) -> ExistsSyntax {
+        ExistsSyntax::AnsiSqlExistsSyntax
+    }
+
+    fn array_comparison(&self) -> ArrayComparison {
+        ArrayComparison::AnsiSqlArrayComparison
+    }
+
+    fn select_statement_syntax(&self) -> SelectStatementSyntax {
+        SelectStatementSyntax::AnsiSqlSelectStatement
+    }
+
+    fn alias_syntax(&self) -> AliasSyntax {
+        AliasSyntax::AsAliasSyntax
+    }
+}
 
 impl Backend for Mysql {
     type QueryBuilder = MysqlQueryBuilder;
@@ -25,6 +61,8 @@ impl Backend for Mysql {
     }
 
     ghost builds = { refl };
+
+    ghost answers = { refl };
 }
 
 /// Writes text as MySQL reads it: names in backticks, each placeholder a `?`.

@@ -4,7 +4,12 @@ ghost use Rattle.sql_dialect.specs.declared.backend.Dialect.TheVariants as D;
 
 use crate::backend::{Backend, Dialect};
 use crate::builder::{BindError, NoMemory, QueryBuilder};
+use crate::combination::{Combinator, DuplicateRule};
 use crate::quote::quote;
+use crate::syntax::{
+    AliasSyntax, ArrayComparison, EmptyFromClauseSyntax, ExistsSyntax, SelectStatementSyntax,
+    SqlDialect,
+};
 use itoa::Buffer;
 use std::alloc::Global;
 use std::marker::Model;
@@ -12,6 +17,34 @@ use std::marker::Model;
 /// PostgreSQL.
 #[derive(Debug, Clone, Copy, PartialEq, Eq)]
 pub struct Pg;
+
+impl SqlDialect for Pg {
+    ghost answers_as = { D.Pg };
+
+    fn supports(&self, _combinator: Combinator, _rule: DuplicateRule) -> bool {
+        true
+    }
+
+    fn empty_from_clause_syntax(&self) -> EmptyFromClauseSyntax {
+        EmptyFromClauseSyntax::AnsiSqlFromClauseSyntax
+    }
+
+    fn exists_syntax(&self) -> ExistsSyntax {
+        ExistsSyntax::AnsiSqlExistsSyntax
+    }
+
+    fn array_comparison(&self) -> ArrayComparison {
+        ArrayComparison::PgStyleArrayComparison
+    }
+
+    fn select_statement_syntax(&self) -> SelectStatementSyntax {
+        SelectStatementSyntax::AnsiSqlSelectStatement
+    }
+
+    fn alias_syntax(&self) -> AliasSyntax {
+        AliasSyntax::AsAliasSyntax
+    }
+}
 
 impl Backend for Pg {
     type QueryBuilder = PgQueryBuilder;
@@ -27,6 +60,8 @@ impl Backend for Pg {
     }
 
     ghost builds = { refl };
+
+    ghost answers = { refl };
 }
 
 /// Writes text as PostgreSQL reads it: names in double quotes, placeholders `$1`, `$2` and so on.

@@ -1,4 +1,4 @@
-ghost use Rattle.std.specs.Prelude.{◌≡◌, ◌<◌, IfOk, string_bytes};
+ghost use Rattle.std.specs.Prelude.{◌≡◌, ◌<◌, ◌++◌, ◌∷◌, [], IfOk, OnOk, string_bytes};
 ghost use Rattle.sql_dialect.specs.Quote.{quoted_by};
 
 use crate::builder::NoMemory;
@@ -14,11 +14,18 @@ pub fn quote(alloc: Global, mark: char, name: &str) -> Result<String, NoMemory>
     let mut rest = name;
     while let Some((before, after)) = rest.split_once(mark) {
         out.push_str(before)?;
-        out.push(mark)?;
-        out.push(mark)?;
+        push_twice(&mut out, mark)?;
         rest = after;
     }
     out.push_str(rest)?;
     out.push(mark)?;
     Ok(out)
+}
+
+fn push_twice(out: &mut String, mark: char) -> Result<(), NoMemory>
+    requires { mark < 128 }
+    ensures { OnOk result (string_bytes out.new ≡ string_bytes out.old ++ mark ∷ (mark ∷ [])) }
+{
+    out.push(mark)?;
+    out.push(mark)
 }

@@ -3,13 +3,50 @@ ghost use Rattle.sql_dialect.specs.declared.backend.Dialect.TheVariants as D;
 
 use crate::backend::{Backend, Dialect};
 use crate::builder::{BindError, NoMemory, QueryBuilder};
+use crate::combination::{Combinator, DuplicateRule};
 use crate::quote::quote;
+use crate::syntax::{
+    AliasSyntax, ArrayComparison, EmptyFromClauseSyntax, ExistsSyntax, SelectStatementSyntax,
+    SqlDialect,
+};
 use std::alloc::Global;
 use std::marker::Model;
 
 /// SQLite.
 #[derive(Debug, Clone, Copy, PartialEq, Eq)]
 pub struct Sqlite;
+
+impl SqlDialect for Sqlite {
+    ghost answers_as = { D.Sqlite };
+
+    fn supports(&self, combinator: Combinator, rule: DuplicateRule) -> bool {
+        match (combinator, rule) {
+            (Combinator::Union, _) => true,
+            (_, DuplicateRule::Distinct) => true,
+            (_, DuplicateRule::All) => false,
+        }
+    }
+
+    fn empty_from_clause_syntax(&self) -> EmptyFromClauseSyntax {
+        EmptyFromClauseSyntax::AnsiSqlFromClauseSyntax
+    }
+
+    fn exists_syntax(&self) -> ExistsSyntax {
+        ExistsSyntax::AnsiSqlExistsSyntax
+    }
+
+    fn array_comparison(&self) -> ArrayComparison {
+        ArrayComparison::AnsiSqlArrayComparison
+    }
+
+    fn select_statement_syntax(&self) -> SelectStatementSyntax {
+        SelectStatementSyntax::AnsiSqlSelectStatement
+    }
+
+    fn alias_syntax(&self) -> AliasSyntax {
+        AliasSyntax::AsAliasSyntax
+    }
+}
 
 impl Backend for Sqlite {
     type QueryBuilder = SqliteQueryBuilder;
@@ -25,6 +62,8 @@ impl Backend for Sqlite {
     }
 
     ghost builds = { refl };
+
+    ghost answers = { refl };
 }
 
 /// Writes text as SQLite reads it: names in backticks, each placeholder a `?`.

@@ -1,14 +1,13 @@
 -- Where a walk over the text runs out of placeholders, there are more than a dialect has numbers left.
-use Rattle.std.proofs.Common.{◌≡◌, ℕ, suc, ◌+◌, ◌<◌, ◌⊎◌, eqb, Bool, true, false, ◌&&◌, List, [], ◌∷◌, ◌++◌, length, ⊎_elim, Result, Ok, Err, sym, ap, ◌∙◌, subst, arith}
+use Rattle.std.proofs.Common.{◌≡◌, ℕ, ◌+◌, ◌<◌, eqb, true, false, List, [], ◌∷◌, ◌++◌, length, ⊎_elim, Err, arith}
 use Rattle.std.specs.Cmp.{first_so, second_so}
 use Rattle.std.proofs.lemmas.Bool.{eqb-true}
 use Rattle.sql_dialect.specs.declared.backend.Dialect.{Dialect}
 use Rattle.sql_dialect.specs.declared.backend.Dialect.TheVariants.{Pg, Mysql, Sqlite}
 use Rattle.sql_dialect.specs.Written.{numbers, MAX_BINDS}
 use Rattle.sql_pass.specs.Held.{Held, text_so_far, shown, after, refuses, is_full, is_bind}
-use Rattle.sql_pass.specs.Pieces.{Piece, Text, Ident, Bind, ValueOnly, Unsafe, count_at, value_at, values_of, text_of}
+use Rattle.sql_pass.specs.Pieces.{Piece, Text, Ident, Bind, ValueOnly, Unsafe, count_at, values_of, text_of}
 use Rattle.sql_pass.specs.Walks.{Stops, Walked, walked, Walks}
-use Rattle.sql_pass.specs.declared.pass.PassError.{PassError}
 use Rattle.sql_pass.specs.declared.value.Bound.{Bound}
 use Rattle.sql_pass.specs.declared.pass.PassError.TheVariants.{TooManyBinds}
 

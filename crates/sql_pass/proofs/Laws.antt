@@ -1,8 +1,8 @@
 -- The five functions take lists one after the other.
-use Rattle.std.proofs.Common.{◌≡◌, ℕ, Bool, true, false, ◌&&◌, List, [], ◌∷◌, ◌++◌, map, refl, sym, ap, ◌∙◌, append_assoc, arith}
+use Rattle.std.proofs.Common.{◌≡◌, ℕ, Bool, true, false, ◌&&◌, List, [], ◌∷◌, ◌++◌, refl, sym, ap, ◌∙◌, append_assoc, arith}
 use Rattle.std.proofs.lemmas.Grind.{common_steps}
 use Rattle.sql_dialect.specs.declared.backend.Dialect.{Dialect}
-use Rattle.sql_pass.specs.Held.{Held, text_so_far, safe, shown, noop, after}
+use Rattle.sql_pass.specs.Held.{Held, text_so_far, collected, safe, shown, noop, after}
 use Rattle.sql_pass.specs.Pieces.{Piece, text_at, count_at, value_at, safe_at, noop_at, text_of, count_of, values_of, is_safe, is_noop}
 
 pub text_of-append : (d : Dialect) (n : ℕ) (ps qs : List Piece) → text_of d n (ps ++ qs) ≡ text_of d n ps ++ text_of d (count_of d n ps) qs
@@ -32,6 +32,7 @@ is_noop-append (p ∷ ps) qs = ap (λ t. noop_at p && t) (is_noop-append ps qs) 
 pub after-append : (d : Dialect) (h : Held) (ps qs : List Piece) → after d (after d h ps) qs ≡ after d h (ps ++ qs)
 unfolding after
 after-append d (text_so_far t n) ps qs = grind (arith, common_steps, text_of-append d n ps qs, count_of-append d n ps qs)
+after-append d (collected c) ps qs = grind (arith, common_steps, values_of-append ps qs)
 after-append d (safe b) ps qs = ap safe (and_assoc b (is_safe ps) (is_safe qs) ∙ ap (λ t. b && t) (sym (is_safe-append ps qs)))
 after-append d (shown vs) ps qs = grind (arith, common_steps, values_of-append ps qs)
 after-append d (noop b) ps qs = ap noop (and_assoc b (is_noop ps) (is_noop qs) ∙ ap (λ t. b && t) (sym (is_noop-append ps qs)))

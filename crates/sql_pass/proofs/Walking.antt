@@ -1,14 +1,14 @@
 -- Walks one after the other.
 use Rattle.std.proofs.lemmas.List.{append-nil}
 use Rattle.std.proofs.lemmas.Grind.{common_steps}
-use Rattle.std.proofs.Common.{◌≡◌, arith, Bool, true, false, ◌&&◌, List, [], ◌∷◌, ◌++◌, Result, Ok, Err, IsErr, refl, sym, ap, ◌∙◌, subst, ◌⊎◌, inl, inr, ⊎_elim, append_assoc}
+use Rattle.std.proofs.Common.{◌≡◌, arith, Bool, true, false, ◌&&◌, List, [], ◌∷◌, ◌++◌, Result, Ok, Err, refl, sym, ap, ◌∙◌, subst, inl, inr, ⊎_elim}
 use Rattle.sql_dialect.specs.declared.backend.Dialect.{Dialect}
 use Rattle.sql_pass.proofs.Laws.{after-append}
-use Rattle.sql_pass.specs.Held.{Held, text_so_far, safe, shown, noop, after, refuses}
+use Rattle.sql_pass.specs.Held.{Held, text_so_far, collected, safe, shown, noop, after, refuses}
 use Rattle.sql_pass.specs.Pieces.{Piece}
-use Rattle.sql_pass.specs.Walks.{Stops, Walked, walked, Walks, walks}
+use Rattle.sql_pass.specs.Walks.{Stops, Passes, Walked, walked, Walks, walks}
 use Rattle.sql_pass.specs.declared.pass.PassError.{PassError}
-use Rattle.sql_pass.specs.declared.pass.PassError.TheVariants.{NoMemory, TooManyBinds}
+use Rattle.sql_pass.specs.declared.pass.PassError.TheVariants.{NoMemory, TooManyBinds, TooLong}
 
 and_true : (b : Bool) → (b && true) ≡ b
 and_true true = refl
@@ -17,6 +17,7 @@ and_true false = refl
 pub after-none : (d : Dialect) (h : Held) → after d h [] ≡ h
 unfolding after
 after-none d (text_so_far t n) = ap (λ l. text_so_far l n) (append-nil t)
+after-none d (collected c) = grind (arith, common_steps)
 after-none d (safe b) = ap safe (and_true b)
 after-none d (shown vs) = ap shown (append-nil vs)
 after-none d (noop b) = ap noop (and_true b)
@@ -32,21 +33,26 @@ Stops-right d h [] qs e g s = subst (λ k. Stops d k qs e g) (after-none d h) s
 Stops-right d h (p ∷ ps) qs e g s =
     inr (Stops-right d (after d h (p ∷ [])) ps qs e g (subst (λ k. Stops d k qs e g) (sym (after-append d h (p ∷ []) ps)) s))
 
-walked-then : (d : Dialect) (h k g : Held) (ps qs : List Piece) (r : Result (Unit {0}) PassError) → k ≡ after d h ps → Walked d k qs r g → Walked d h (ps ++ qs) r g
+pub passes-then : (d : Dialect) (h : Held) (ps qs : List Piece) → Passes d h ps → Passes d (after d h ps) qs → Passes d h (ps ++ qs)
+unfolding Passes
+passes-then d h [] qs p q = subst (λ k. Passes d k qs) (after-none d h) q
+passes-then d h (x ∷ ps) qs p q = (p.0, passes-then d (after d h (x ∷ [])) ps qs p.1 (subst (λ k. Passes d k qs) (sym (after-append d h (x ∷ []) ps)) q))
+
+walked-then : (d : Dialect) (h k g : Held) (ps qs : List Piece) (r : Result (Unit {0}) PassError) → k ≡ after d h ps → Passes d h ps → Walked d k qs r g → Walked d h (ps ++ qs) r g
 unfolding Walked
-walked-then d h k g ps qs (Ok u) a b = b ∙ ap (λ x. after d x qs) a ∙ after-append d h ps qs
-walked-then d h k g ps qs (Err e) a b = Stops-right d h ps qs e g (subst (λ x. Stops d x qs e g) a b)
+walked-then d h k g ps qs (Ok u) a p b = (b.0 ∙ ap (λ x. after d x qs) a ∙ after-append d h ps qs, passes-then d h ps qs p (subst (λ x. Passes d x qs) a b.1))
+walked-then d h k g ps qs (Err e) a p b = Stops-right d h ps qs e g (subst (λ x. Stops d x qs e g) a b)
 
 module _ {d : Dialect} {h : Held} where
   -- no piece
   pub walks-none : Walks d h [] (Ok tt) h
-  unfolding Walked
-  walks-none = walks (sym (after-none d h))
+  unfolding Walked Passes
+  walks-none = walks (sym (after-none d h), tt)
 
   -- one walk, and then the other
   pub walks-then : {k g : Held} {ps qs : List Piece} {r : Result (Unit {0}) PassError} → Walks d h ps (Ok tt) k → Walks d k qs r g → Walks d h (ps ++ qs) r g
   unfolding Walked
-  walks-then {k} {g} {ps} {qs} {r} a b = walks (walked-then d h k g ps qs r (walked a) (walked b))
+  walks-then {k} {g} {ps} {qs} {r} a b = walks (walked-then d h k g ps qs r (walked a).0 (walked a).1 (walked b))
 
   -- a walk that stops does so in a longer one
   pub walks-stop : {ps : List Piece} (qs : List Piece) {e : PassError} {g : Held} → Walks d h ps (Err e) g → Walks d h (ps ++ qs) (Err e) g
@@ -60,6 +66,7 @@ module _ {d : Dialect} {h : Held} where
 -- these two kinds of pass refuse nothing
 abbrev pub is_firm : Held → Bool
 is_firm (text_so_far t n) = false
+is_firm (collected c) = false
 is_firm (safe b) = true
 is_firm (shown vs) = false
 is_firm (noop b) = true
@@ -67,6 +74,7 @@ is_firm (noop b) = true
 after-firm : (d : Dialect) (h : Held) (ps : List Piece) → is_firm h ≡ true → is_firm (after d h ps) ≡ true
 unfolding after
 after-firm d (text_so_far t n) ps f = f
+after-firm d (collected c) ps f = f
 after-firm d (safe b) ps f = f
 after-firm d (shown vs) ps f = f
 after-firm d (noop b) ps f = f
@@ -74,11 +82,14 @@ after-firm d (noop b) ps f = f
 refuses-firm : (d : Dialect) (h : Held) (p : Piece) (e : PassError) → is_firm h ≡ true → refuses d h p e ≡ true → ⊥
 unfolding refuses
 refuses-firm d (text_so_far t n) p e f r = cc
+refuses-firm d (collected c) p e f r = cc
 refuses-firm d (safe b) p NoMemory f r = cc
 refuses-firm d (safe b) p TooManyBinds f r = cc
+refuses-firm d (safe b) p TooLong f r = cc
 refuses-firm d (shown vs) p e f r = cc
 refuses-firm d (noop b) p NoMemory f r = cc
 refuses-firm d (noop b) p TooManyBinds f r = cc
+refuses-firm d (noop b) p TooLong f r = cc
 
 pub Stops-firm : (d : Dialect) (h : Held) (ps : List Piece) (e : PassError) (g : Held) → is_firm h ≡ true → Stops d h ps e g → ⊥
 unfolding Stops

@@ -1,8 +1,8 @@
 -- A walk that pushes a list of pieces, up to the first refusal.
-use Rattle.std.specs.Prelude.{◌≡◌, Bool, true, List, [], ◌∷◌, ◌⊎◌, Result, Ok, Err}
+use Rattle.std.specs.Prelude.{◌≡◌, true, false, List, [], ◌∷◌, ◌⊎◌, Result, Ok, Err}
 use Rattle.sql_dialect.specs.declared.backend.Dialect.{Dialect}
 use Rattle.sql_pass.specs.Pieces.{Piece}
-use Rattle.sql_pass.specs.Held.{Held, after, refuses}
+use Rattle.sql_pass.specs.Held.{Held, after, refuses, is_refused}
 use Rattle.sql_pass.specs.declared.pass.PassError.{PassError}
 
 -- some piece is refused with e, and the pass then holds what those before it give
@@ -10,8 +10,13 @@ unfoldable pub Stops : Dialect → Held → List Piece → PassError → Held �
 Stops d h [] e g = ⊥
 Stops d h (p ∷ ps) e g = ((refuses d h p e ≡ true) × (g ≡ h)) ⊎ Stops d (after d h (p ∷ [])) ps e g
 
+-- none of the pieces is one that is refused whatever memory there is
+unfoldable pub Passes : Dialect → Held → List Piece → Type 0
+Passes d h [] = Unit {0}
+Passes d h (p ∷ ps) = (is_refused d h p ≡ false) × Passes d (after d h (p ∷ [])) ps
+
 unfoldable pub Walked : Dialect → Held → List Piece → Result (Unit {0}) PassError → Held → Type 0
-Walked d h ps (Ok u) g = g ≡ after d h ps
+Walked d h ps (Ok u) g = (g ≡ after d h ps) × Passes d h ps
 Walked d h ps (Err e) g = Stops d h ps e g
 
 -- from h to g the pieces ps were pushed, all of them or up to a refusal

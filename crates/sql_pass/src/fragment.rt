@@ -1,11 +1,16 @@
 #![tactic(auto, using(crate::proofs::Walking::walking))]
 
-ghost use Rattle.std.specs.Prelude.{◌≡◌, ◌+◌, ◌++◌, ◌<◌, List, length, IfOk, IsTrue, IsErrOf};
+ghost use Rattle.std.specs.Prelude.{◌≡◌, ◌+◌, ◌++◌, ◌<◌, ◌≤◌, List, [], length, IfOk, IsTrue, IsErr, IsErrOf};
+ghost use Rattle.std.specs.List.{list_any};
 ghost use Rattle.sql_dialect.specs.Written.{numbers, MAX_BINDS};
+ghost use Rattle.sql_pass.specs.Bytes.{is_too_long};
+ghost use Rattle.sql_pass.specs.Collected.{with_values};
 ghost use Rattle.sql_pass.specs.Held.{held};
+ghost use Rattle.sql_pass.specs.Parts.{pieces_of_option};
 ghost use Rattle.sql_pass.specs.Pieces.{Piece, text_of, count_of, values_of, is_safe, is_noop};
 ghost use Rattle.sql_pass.specs.Walks.{Walks};
 
+use crate::collect::RawBytesBindCollector;
 use crate::pass::{AstPass, PassError};
 use crate::value::Bound;
 use sql_dialect::{Backend, QueryBuilder};
@@ -32,11 +37,39 @@ pub trait QueryFragment<DB: Backend> {
         // Placeholders run out only where there are more than a dialect that numbers them has numbers left.
         ensures too_many { IsErrOf result PassError.TooManyBinds → IsTrue (numbers DB.speaks)
             × (MAX_BINDS < DB.QueryBuilder.count out + length (values_of (pieces self.now))) }
+        ensures room { IsTrue (numbers DB.speaks) → DB.QueryBuilder.count out ≤ MAX_BINDS
+            → MAX_BINDS < DB.QueryBuilder.count out + length (values_of (pieces self.now)) → IsErr result }
+        ensures long { ¬ IsErrOf result PassError.TooLong }
     {
         let mut pass = AstPass::to_sql(out, *backend);
         self.walk_ast(&mut pass)?;
         match pass {
             AstPass::ToSql(builder, _backend) => Ok(builder),
+            AstPass::CollectBinds(_collector, _backend) => unreachable!(),
+            AstPass::IsSafe(_safe, _backend) => unreachable!(),
+            AstPass::DebugBinds(_shown, _backend) => unreachable!(),
+            AstPass::IsNoop(_noop, _backend) => unreachable!(),
+        }
+    }
+
+    /// Gathers the values behind those that `out` holds, and gives the collector back. An error drops it.
+    #[tactic(auto, using(crate::proofs::Walking::firm), unfolding(crate::specs::Walks::Walked, crate::specs::Held::after))]
+    final fn collect_binds(
+        &self,
+        out: RawBytesBindCollector<DB>,
+        backend: &DB,
+    ) -> Result<RawBytesBindCollector<DB>, PassError>
+        ensures binds { IfOk result (λ c. c ≡ with_values DB.speaks out (values_of (pieces self.now))) }
+        ensures many { ¬ IsErrOf result PassError.TooManyBinds }
+        ensures long { IsErrOf result PassError.TooLong → IsTrue (list_any is_too_long (values_of (pieces self.now))) }
+        // Where memory is wanting that may be the answer in its place.
+        ensures refused { IsTrue (list_any is_too_long (values_of (pieces self.now))) → IsErr result }
+    {
+        let mut pass = AstPass::collect_binds(out, *backend);
+        self.walk_ast(&mut pass)?;
+        match pass {
+            AstPass::CollectBinds(collector, _backend) => Ok(collector),
+            AstPass::ToSql(_builder, _backend) => unreachable!(),
             AstPass::IsSafe(_safe, _backend) => unreachable!(),
             AstPass::DebugBinds(_shown, _backend) => unreachable!(),
             AstPass::IsNoop(_noop, _backend) => unreachable!(),
@@ -90,11 +123,51 @@ pub fn debug_binds<DB: Backend, T: QueryFragment<DB>>(
         Ok(()) => {}
         Err(PassError::NoMemory) => return Err(AllocError),
         Err(PassError::TooManyBinds) => unreachable!(),
+        Err(PassError::TooLong) => unreachable!(),
     }
     match pass {
         AstPass::DebugBinds(shown, _backend) => Ok(shown),
         AstPass::ToSql(_builder, _backend) => unreachable!(),
+        AstPass::CollectBinds(_collector, _backend) => unreachable!(),
         AstPass::IsSafe(_safe, _backend) => unreachable!(),
         AstPass::IsNoop(_noop, _backend) => unreachable!(),
+    }
+}
+
+/// The part, or nothing.
+impl<DB: Backend, T: QueryFragment<DB>> QueryFragment<DB> for Option<T> {
+    ghost pieces = { pieces_of_option T.pieces };
+
+    fn walk_ast(&self, pass: &mut AstPass<DB>) -> Result<(), PassError> {
+        match self {
+            Some(part) => part.walk_ast(pass),
+            None => Ok(()),
+        }
+    }
+}
+
+impl<DB: Backend, T: QueryFragment<DB>> QueryFragment<DB> for Box<T> {
+    ghost pieces = { λ b. T.pieces b.value };
+
+    fn walk_ast(&self, pass: &mut AstPass<DB>) -> Result<(), PassError> {
+        let part: &T = self;
+        part.walk_ast(pass)
+    }
+}
+
+impl<DB: Backend, T: QueryFragment<DB>> QueryFragment<DB> for &T {
+    ghost pieces = { λ r. T.pieces r.now };
+
+    fn walk_ast(&self, pass: &mut AstPass<DB>) -> Result<(), PassError> {
+        (**self).walk_ast(pass)
+    }
+}
+
+/// Nothing.
+impl<DB: Backend> QueryFragment<DB> for () {
+    ghost pieces = { λ _. [] };
+
+    fn walk_ast(&self, _pass: &mut AstPass<DB>) -> Result<(), PassError> {
+        Ok(())
     }
 }

@@ -1,13 +1,24 @@
 //! What a part of a statement means, a list of pieces, and the passes that walk over it.
 //!
-//! One walk serves every purpose: it pushes a part's pieces into a pass, which makes of them the text, the list of
-//! values, the flag that says whether a prepared statement may be kept, or the test whether anything is written.
+//! One walk serves every purpose: it pushes a part's pieces into a pass, which makes of them the text, the bytes of the
+//! values, the list of values, the flag that says whether a prepared statement may be kept, or the test whether anything
+//! is written.
 #![tactic(auto)]
 
+mod bytes;
+mod collect;
 mod fragment;
+mod parts;
 mod pass;
+mod to_sql;
 mod value;
 
+pub use collect::{BindCollector, BindType, Binds, CollectError, RawBytesBindCollector};
 pub use fragment::{QueryFragment, debug_binds};
+pub use parts::{Identifier, InfixNode, MiddleFragment, OnKeyword, ParenthesisWrapper};
 pub use pass::{AstPass, PassError};
+pub use to_sql::ToSql;
 pub use value::{Bound, BoundRef, Value};
+
+#[cfg(test)]
+mod tests;

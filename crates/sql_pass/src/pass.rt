@@ -1,9 +1,12 @@
-ghost use Rattle.std.specs.Prelude.{◌≡◌, [], ◌∷◌, ◌++◌, true, OnOk, OnErr};
+ghost use Rattle.std.specs.Prelude.{◌≡◌, [], ◌∷◌, ◌++◌, true, OnOk, OnErr, IsErr, IsErrOf, IsTrue};
+ghost use Rattle.sql_pass.specs.Bytes.{is_too_long};
+ghost use Rattle.sql_pass.specs.Collected.{with_values};
 ghost use Rattle.sql_pass.specs.Bounds.{bound_of};
-ghost use Rattle.sql_pass.specs.Held.{held, text_so_far, safe, shown, noop};
+ghost use Rattle.sql_pass.specs.Held.{held, backend_of, text_so_far, collected, safe, shown, noop};
 ghost use Rattle.sql_pass.specs.Pieces.{one, Text, Ident, Bind, ValueOnly, Unsafe};
 ghost use Rattle.sql_pass.specs.Walks.{Walks};
 
+use crate::collect::{BindCollector, CollectError, RawBytesBindCollector};
 use crate::value::{Bound, BoundRef};
 use sql_dialect::{Backend, BindError, QueryBuilder};
 use std::alloc::{AllocError, Global};
@@ -14,12 +17,15 @@ pub enum PassError {
     NoMemory,
     /// The builder's dialect numbers its placeholders, and the last number is taken.
     TooManyBinds,
+    /// A list, or an element of one, is longer than the collector's form of a list can say: than 2147483647.
+    TooLong,
 }
 
 /// One purpose of a walk over a statement, with what it has gathered so far.
 #[derive(Drop)]
 pub enum AstPass<DB: Backend> {
     ToSql(DB::QueryBuilder, DB),
+    CollectBinds(RawBytesBindCollector<DB>, DB),
     IsSafe(bool, DB),
     DebugBinds(Vec<Bound>, DB),
     IsNoop(bool, DB),
@@ -31,6 +37,13 @@ impl<DB: Backend> AstPass<DB> {
         ensures { held DB.QueryBuilder.text DB.QueryBuilder.count result ≡ text_so_far (DB.QueryBuilder.text builder) (DB.QueryBuilder.count builder) }
     {
         AstPass::ToSql(builder, backend)
+    }
+
+    /// Gathers the bytes of the values and their types, behind those that the collector holds.
+    pub fn collect_binds(collector: RawBytesBindCollector<DB>, backend: DB) -> AstPass<DB>
+        ensures { held DB.QueryBuilder.text DB.QueryBuilder.count result ≡ collected collector }
+    {
+        AstPass::CollectBinds(collector, backend)
     }
 
     /// Finds whether a statement prepared once serves for other values. True at first.
@@ -55,9 +68,12 @@ impl<DB: Backend> AstPass<DB> {
     }
 
     /// The backend that the walk is for.
-    pub fn backend(&self) -> &DB {
+    pub fn backend(&self) -> &DB
+        ensures { result.now ≡ backend_of self.now }
+    {
         match self {
             AstPass::ToSql(_, backend) => backend,
+            AstPass::CollectBinds(_, backend) => backend,
             AstPass::IsSafe(_, backend) => backend,
             AstPass::DebugBinds(_, backend) => backend,
             AstPass::IsNoop(_, backend) => backend,
@@ -65,7 +81,7 @@ impl<DB: Backend> AstPass<DB> {
     }
 
     /// Pushes SQL as it is. The text `""` too makes a walk no no-op.
-    #[tactic(auto, unfolding(crate::specs::Walks::Walked, crate::specs::Walks::Stops, crate::specs::Held::after, crate::specs::Held::refuses, crate::specs::Pieces::one))]
+    #[tactic(auto, unfolding(crate::specs::Walks::Walked, crate::specs::Walks::Stops, crate::specs::Walks::Passes, crate::specs::Held::after, crate::specs::Held::refuses, crate::specs::Held::is_refused, crate::specs::Pieces::one))]
     pub fn push_sql(&mut self, sql: &str) -> Result<(), PassError>
         ensures { Walks DB.speaks (held DB.QueryBuilder.text DB.QueryBuilder.count self.old) (one (Text sql.now)) result (held DB.QueryBuilder.text DB.QueryBuilder.count self.new) }
     {
@@ -83,7 +99,7 @@ impl<DB: Backend> AstPass<DB> {
     }
 
     /// Pushes a name, which the dialect quotes.
-    #[tactic(auto, unfolding(crate::specs::Walks::Walked, crate::specs::Walks::Stops, crate::specs::Held::after, crate::specs::Held::refuses, crate::specs::Pieces::one))]
+    #[tactic(auto, unfolding(crate::specs::Walks::Walked, crate::specs::Walks::Stops, crate::specs::Walks::Passes, crate::specs::Held::after, crate::specs::Held::refuses, crate::specs::Held::is_refused, crate::specs::Pieces::one))]
     pub fn push_identifier(&mut self, name: &str) -> Result<(), PassError>
         ensures { Walks DB.speaks (held DB.QueryBuilder.text DB.QueryBuilder.count self.old) (one (Ident name.now)) result (held DB.QueryBuilder.text DB.QueryBuilder.count self.new) }
     {
@@ -101,7 +117,7 @@ impl<DB: Backend> AstPass<DB> {
     }
 
     /// Pushes a value, whose placeholder is written.
-    #[tactic(auto, unfolding(crate::specs::Walks::Walked, crate::specs::Walks::Stops, crate::specs::Held::after, crate::specs::Held::refuses, crate::specs::Pieces::one))]
+    #[tactic(auto, unfolding(crate::specs::Walks::Walked, crate::specs::Walks::Stops, crate::specs::Walks::Passes, crate::specs::Held::after, crate::specs::Held::refuses, crate::specs::Held::is_refused, crate::specs::Pieces::one))]
     pub fn push_bind_param(&mut self, value: BoundRef<'_>) -> Result<(), PassError>
         ensures { Walks DB.speaks (held DB.QueryBuilder.text DB.QueryBuilder.count self.old) (one (Bind (bound_of value.entry))) result (held DB.QueryBuilder.text DB.QueryBuilder.count self.new) }
     {
@@ -111,6 +127,7 @@ impl<DB: Backend> AstPass<DB> {
                 Err(BindError::TooManyBinds) => Err(PassError::TooManyBinds),
                 Err(BindError::NoMemory) => Err(PassError::NoMemory),
             },
+            AstPass::CollectBinds(collector, _) => collect(collector, value),
             AstPass::IsSafe(_, _) => Ok(()),
             AstPass::DebugBinds(shown, _) => match show(shown, value) {
                 Ok(()) => Ok(()),
@@ -124,7 +141,7 @@ impl<DB: Backend> AstPass<DB> {
     }
 
     /// Pushes a value whose placeholder stands in the text already.
-    #[tactic(auto, unfolding(crate::specs::Walks::Walked, crate::specs::Walks::Stops, crate::specs::Held::after, crate::specs::Held::refuses, crate::specs::Pieces::one))]
+    #[tactic(auto, unfolding(crate::specs::Walks::Walked, crate::specs::Walks::Stops, crate::specs::Walks::Passes, crate::specs::Held::after, crate::specs::Held::refuses, crate::specs::Held::is_refused, crate::specs::Pieces::one))]
     pub fn push_bind_param_value_only(&mut self, value: BoundRef<'_>) -> Result<(), PassError>
         ensures { Walks DB.speaks (held DB.QueryBuilder.text DB.QueryBuilder.count self.old) (one (ValueOnly (bound_of value.entry))) result (held DB.QueryBuilder.text DB.QueryBuilder.count self.new) }
     {
@@ -133,6 +150,7 @@ impl<DB: Backend> AstPass<DB> {
                 Ok(()) => Ok(()),
                 Err(_) => Err(PassError::TooManyBinds),
             },
+            AstPass::CollectBinds(collector, _) => collect(collector, value),
             AstPass::IsSafe(_, _) => Ok(()),
             AstPass::DebugBinds(shown, _) => match show(shown, value) {
                 Ok(()) => Ok(()),
@@ -143,7 +161,7 @@ impl<DB: Backend> AstPass<DB> {
     }
 
     /// Says that the text depends on a value, as on the length of a list.
-    #[tactic(auto, unfolding(crate::specs::Walks::Walked, crate::specs::Walks::Stops, crate::specs::Held::after, crate::specs::Held::refuses, crate::specs::Pieces::one))]
+    #[tactic(auto, unfolding(crate::specs::Walks::Walked, crate::specs::Walks::Stops, crate::specs::Walks::Passes, crate::specs::Held::after, crate::specs::Held::refuses, crate::specs::Held::is_refused, crate::specs::Pieces::one))]
     pub fn unsafe_to_cache_prepared(&mut self)
         ensures { Walks DB.speaks (held DB.QueryBuilder.text DB.QueryBuilder.count self.old) (one Unsafe) (Ok tt) (held DB.QueryBuilder.text DB.QueryBuilder.count self.new) }
     {
@@ -161,4 +179,22 @@ fn show(shown: &mut Vec<Bound>, value: BoundRef<'_>) -> Result<(), AllocError>
     let bound = value.to_bound(*shown.allocator())?;
     shown.push(bound)?;
     Ok(())
+}
+
+/// Appends the value's bytes and its type.
+fn collect<DB: Backend>(
+    collector: &mut RawBytesBindCollector<DB>,
+    value: BoundRef<'_>,
+) -> Result<(), PassError>
+    ensures ok { OnOk result (collector.new ≡ with_values DB.speaks collector.old (bound_of value.entry ∷ [])) }
+    ensures err { OnErr result (collector.new ≡ collector.old) }
+    ensures many { IsErrOf result PassError.TooManyBinds → ⊥ }
+    ensures long { IsErrOf result PassError.TooLong → IsTrue (is_too_long (bound_of value.entry)) }
+    ensures refused { IsTrue (is_too_long (bound_of value.entry)) → IsErr result }
+{
+    match collector.push_bound_value(value) {
+        Ok(()) => Ok(()),
+        Err(CollectError::TooLong) => Err(PassError::TooLong),
+        Err(CollectError::NoMemory) => Err(PassError::NoMemory),
+    }
 }

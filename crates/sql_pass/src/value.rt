@@ -4,6 +4,7 @@ ghost use Rattle.sql_pass.specs.Bounds.{bound_of};
 use sql_schema::{SqlBytes, SqlList, SqlText, SqlType};
 use std::alloc::{AllocError, Global};
 
+/// A value of one of the base types, or NULL.
 #[derive(Debug, Drop, PartialEq, Eq)]
 pub enum Value {
     SmallInt(i16),
@@ -15,12 +16,14 @@ pub enum Value {
     Null,
 }
 
-#[derive(Debug, Drop)]
+/// What is bound at a place: a value, or a list of values as one.
+#[derive(Debug, Drop, PartialEq, Eq)]
 pub enum Bound {
     Value(SqlType, Value),
     List(SqlType, SqlList<Value>),
 }
 
+/// A `Bound` that is lent, so that a walk copies no value.
 #[derive(Debug, Clone, Copy)]
 pub enum BoundRef<'a> {
     Value(SqlType, &'a Value),
@@ -28,6 +31,7 @@ pub enum BoundRef<'a> {
 }
 
 impl Value {
+    /// The same value.
     pub fn try_clone(&self, alloc: Global) -> Result<Value, AllocError>
         ensures { IfOk result (λ v. v ≡ self.now) }
     {
@@ -54,6 +58,7 @@ fn clone_values(alloc: Global, values: &[Value]) -> Result<Vec<Value>, AllocErro
 }
 
 impl Bound {
+    /// The same value, lent.
     pub fn view(&self) -> BoundRef<'_>
         ensures { bound_of result ≡ self.now }
     {

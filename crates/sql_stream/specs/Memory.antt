@@ -1,5 +1,5 @@
 -- What a source or a sink in memory is.
-use Rattle.std.specs.Prelude.{◌≡◌, ◌<◌, ◌≤◌, ◌⊎◌, ℕ, ◌+◌, ◌-◌, ◌^◌, List, length, min, Contains}
+use Rattle.std.specs.Prelude.{ℕ, ◌+◌, ◌-◌, ◌^◌, List, min}
 
 -- bytes to give, at most `piece` in a call, and the calls, from 1, that fail
 pub record Supply : Type 0 where

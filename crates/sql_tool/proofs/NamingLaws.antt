@@ -1,6 +1,6 @@
 -- The columns of a statement over a schema: each is a column of its table, and where the statement is in scope, of the table
 -- after FROM.
-use Rattle.std.proofs.Common.{◌≡◌, ◌⊎◌, ℕ, Bool, true, false, not, ◌||◌, List, [], ◌∷◌, ◌++◌, map, Option, Some, None, cond, find, option_map, inl, inr, refl, sym, ap, ◌∙◌, subst, append_assoc, zero, suc}
+use Rattle.std.proofs.Common.{◌≡◌, ℕ, Bool, true, false, not, ◌||◌, List, [], ◌∷◌, ◌++◌, map, Option, Some, None, cond, find, option_map, inl, inr, refl, sym, ap, ◌∙◌, subst, append_assoc, zero, suc}
 use Rattle.std.specs.List.{list_any, slice_get}
 use Rattle.std.specs.Str.{bytes_eq}
 use Rattle.sql_schema.proofs.ExactTypes.{exact-text}
@@ -14,11 +14,11 @@ use Rattle.sql_document.specs.declared.document.Call.{Call}
 use Rattle.sql_document.specs.declared.document.Call.TheVariants.{Select, Filter, Limit}
 use Rattle.sql_document.specs.declared.document.Query.{Query}
 use Rattle.sql_tool.specs.Lists.{AnyOf, Each}
-use Rattle.sql_tool.specs.Naming.{exposed, path, Names, NamesOnly, view, condition_columns, written_columns}
+use Rattle.sql_tool.specs.Naming.{exposed, path, NamesOnly, view, condition_columns, written_columns}
 use Rattle.sql_tool.specs.Rules.{is_out_of_scope, of_condition, is_broken, all_rules, least_broken}
 use Rattle.sql_tool.specs.declared.rule.Rule.TheVariants.{NotInScope}
 use Rattle.sql_tool.specs.declared.statement.SelectKind.TheVariants.{Column, List as Listed}
-use Rattle.sql_tool.specs.Statement.{ColumnTree, ConditionTree, StatementTree, table_named, column_named, in_table, column_in, columns_in, with_columns, condition_of, with_condition, selected, called, called_by, simple, statement_in}
+use Rattle.sql_tool.specs.Statement.{ColumnTree, ConditionTree, StatementTree, table_named, column_named, in_table, column_in, columns_in, with_columns, with_condition, selected, called, called_by, simple, statement_in}
 
 -- ---- what a look-up finds
 

@@ -1,15 +1,12 @@
 -- The normal tree of a statement: where its placeholders stand, that its dialect has it, and what its values are.
-use Rattle.std.proofs.Common.{◌≡◌, ◌<◌, ◌≤◌, ℕ, suc, ◌+◌, List, [], ◌∷◌, ◌++◌, length, Option, Some, None, option_map, refl, sym, ap, ◌∙◌, arith}
+use Rattle.std.proofs.Common.{◌≡◌, ◌≤◌, ℕ, suc, List, [], ◌∷◌, ◌++◌, Option, Some, None, option_map, refl, ap, ◌∙◌, arith}
 use Rattle.std.specs.Prelude.{ℤ}
 use Rattle.sql_dialect.specs.declared.backend.Dialect.{Dialect}
 use Rattle.sql_dialect.specs.declared.backend.Dialect.TheVariants.{Pg, Mysql, Sqlite}
 use Rattle.sql_grammar.specs.Fits.{FitsMark, FitsExpression, FitsExpressions, FitsSource, FitsMaybeSource, FitsMaybeExpression, FitsQuery, FitsMaybeMark}
-use Rattle.sql_grammar.specs.MarkTree as marked
-use Rattle.sql_grammar.specs.Numbering.{mark_of, each_expression, each_expressions, each_maybe, each_maybe_source, each_option, each_query, after_expression, after_expressions, after_maybe, after_maybe_source, numbered}
-use Rattle.sql_grammar.specs.Tree.{Mark, Expression, Expressions, OnlyExpression, MoreExpression, MaybeSource, SomeSource, MaybeExpression, SomeExpression, Compared, Placeholder, NoExpressions, NoExpression, NoItems, Every, PageBy, Unlocked, Query, Select}
+use Rattle.sql_grammar.specs.Numbering.{mark_of, each_expression, each_expressions, each_maybe, each_maybe_source, each_option, each_query, after_expression, after_expressions, after_maybe, after_maybe_source}
+use Rattle.sql_grammar.specs.Tree.{OnlyExpression, MoreExpression, SomeSource, SomeExpression, Compared, Placeholder, NoExpressions, NoExpression, NoItems, Every, PageBy, Unlocked, Select}
 use Rattle.sql_grammar.specs.Values.{values_expression, values_expressions, values_maybe, values_maybe_source, values_query, values_option}
-use Rattle.sql_schema.specs.declared.declaration.TableDecl.{TableDecl}
-use Rattle.sql_pass.specs.declared.value.Bound.{Bound}
 use Rattle.sql_tool.specs.Pieces.{condition_bound, limit_bound, bounds_of, binds_of}
 use Rattle.sql_tool.specs.Reading.{comparison_of, column_path, column_expression, column_list, selection, table_path, table_source, condition, statement_query, filled, normal}
 use Rattle.sql_tool.specs.Statement.{ColumnTree, ConditionTree, StatementTree}

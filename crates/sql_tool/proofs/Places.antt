@@ -2,7 +2,7 @@
 use Rattle.std.proofs.Common.{◌≡◌, ℕ, suc, ◌+◌, Bool, true, false, ◌&&◌, cond, Option, Some, None, List, [], ◌∷◌, ◌++◌, length, refl, sym, ap, ◌∙◌, arith}
 use Rattle.std.specs.Cmp.{first_so, second_so}
 use Rattle.std.specs.Cmp.Lexicographic.{pointwise}
-use Rattle.std.specs.Option.{option_eq, option_or, option_map, unwrap_or}
+use Rattle.std.specs.Option.{option_eq, option_or, unwrap_or}
 use Rattle.std.specs.Ordering.{is_eq}
 use Rattle.std.specs.Prelude.{nat_eq}
 use denote.Enum.Bare.{same_true}
@@ -18,7 +18,6 @@ use Rattle.sql_schema.specs.contracts.types.SqlTypePartialEq.TheImpl as type_eq
 use Rattle.sql_schema.proofs.Exact.{IsExact, exact-option, exact-list}
 use Rattle.sql_schema.proofs.ExactTypes.{exact-bool, exact-text, exact-type}
 use Rattle.sql_tool.specs.Shape.{same_shape, place}
-use Rattle.sql_tool.specs.declared.shape.ConditionShape.{ConditionShape}
 use Rattle.sql_tool.specs.declared.shape.Shape.{Shape}
 use Rattle.sql_tool.specs.contracts.shape.ConditionShapePartialEq.TheImpl as condition_eq
 use Rattle.sql_tool.specs.contracts.shape.ShapePartialEq.TheImpl as shape_eq

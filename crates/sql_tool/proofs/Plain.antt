@@ -1,5 +1,5 @@
 -- A statement's pieces have its condition's value, and no piece is unsafe.
-use Rattle.std.proofs.Common.{◌≡◌, ◌≤◌, ◌<◌, ℕ, ◌+◌, Bool, true, false, ◌&&◌, List, [], ◌∷◌, ◌++◌, map, length, codes, Option, Some, None, refl, sym, ap, ◌∙◌, arith, length-append}
+use Rattle.std.proofs.Common.{◌≡◌, ◌≤◌, ℕ, Bool, true, false, ◌&&◌, List, [], ◌∷◌, ◌++◌, map, length, codes, Option, Some, None, refl, ◌∙◌, arith, length-append}
 use Rattle.std.specs.Prelude.{ℤ}
 use Rattle.sql_pass.specs.Commas.{next_of, commas}
 use Rattle.sql_pass.specs.Pieces.{Piece, one, Text, Ident, Bind, values_of, is_safe}

@@ -8,14 +8,14 @@ use Rattle.sql_grammar.proofs.TextLaws.{mark-placeholder}
 use Rattle.sql_grammar.specs.Numbering.{mark_of}
 use Rattle.sql_grammar.specs.Spelling.{sign_text}
 use Rattle.sql_grammar.specs.Text as x
-use Rattle.sql_grammar.specs.Tree.{PageBy, SomeSource}
+use Rattle.sql_grammar.specs.Tree.{PageBy}
 use Rattle.sql_pass.specs.Commas.{commas}
 use Rattle.sql_pass.specs.Pieces.{Piece, one, Text, Ident, Bind, text_of}
 use Rattle.sql_document.specs.declared.document.Operator.{Operator}
 use Rattle.sql_document.specs.declared.document.Operator.TheVariants.{Eq, Ne, Gt, Ge, Lt, Le}
 use Rattle.sql_tool.proofs.NormalLaws.{places, normal-statement}
-use Rattle.sql_tool.specs.Pieces.{path_pieces, table_pieces, column_pieces, operator_sql, condition_bound, condition_pieces, where_pieces, limit_bound, limit_pieces, selection_pieces, statement_pieces}
-use Rattle.sql_tool.specs.Reading.{comparison_of, column_path, column_expression, column_list, selection, table_path, table_source, condition, statement_query, normal}
+use Rattle.sql_tool.specs.Pieces.{path_pieces, table_pieces, column_pieces, operator_sql, condition_bound, where_pieces, limit_pieces, selection_pieces, statement_pieces}
+use Rattle.sql_tool.specs.Reading.{comparison_of, column_path, column_expression, column_list, selection, table_path, table_source, condition, normal}
 use Rattle.sql_tool.specs.Statement.{ColumnTree, ConditionTree, StatementTree}
 
 path-text : (d : Dialect) (n : ℕ) (schema : Option (List ℕ)) (t c : List ℕ) (more : List Piece)

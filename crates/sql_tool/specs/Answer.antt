@@ -1,5 +1,5 @@
 -- The JSON object that answers a request.
-use Rattle.std.specs.Prelude.{ℕ, List, [], ◌∷◌, map, Bool, true, codes, Option, Some, None}
+use Rattle.std.specs.Prelude.{ℕ, map, codes, Option, Some, None}
 use Rattle.serde_json.specs.Data.{Data, null, boolean, number, string, array, object, unsigned, no_items, item, no_members, member}
 use Rattle.serde_json.specs.View.{items_of}
 use Rattle.serde_json.specs.Find.{of_integer}
@@ -12,7 +12,6 @@ use Rattle.sql_pass.specs.declared.value.Value.TheVariants as V
 use Rattle.sql_pass.specs.declared.value.Bound.{Bound}
 use Rattle.sql_pass.specs.declared.value.Bound.TheVariants as B
 use Rattle.sql_document.specs.Names.{type_text}
-use Rattle.sql_document.specs.declared.document.Request.{Request}
 use Rattle.sql_tool.specs.Pieces.{statement_pieces, binds_of, columns_of, is_safe_in}
 use Rattle.sql_tool.specs.Rules.{least_broken, rule_text}
 use Rattle.sql_tool.specs.Statement.{StatementTree}

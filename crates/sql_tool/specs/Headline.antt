@@ -1,5 +1,5 @@
 -- What the lines of a document say, request by request.
-use Rattle.std.specs.Prelude.{◌≡◌, ℕ, List, [], ◌∷◌, ◌++◌, Option, Some, None, MatchOption}
+use Rattle.std.specs.Prelude.{◌≡◌, ℕ, List, [], ◌∷◌, ◌++◌, Option, MatchOption}
 use Rattle.serde_json.specs.Data.{Data}
 use Rattle.serde_json.specs.Written.{compact_text}
 use Rattle.sql_dialect.specs.declared.backend.Dialect.{Dialect}
@@ -13,9 +13,7 @@ use Rattle.sql_tool.specs.Output.{shapes, place_among, line}
 use Rattle.sql_tool.specs.Pieces.{statement_pieces, binds_of}
 use Rattle.sql_tool.specs.Reading.{IsRead}
 use Rattle.sql_tool.specs.Rules.{least_broken}
-use Rattle.sql_tool.specs.Shape.{shape_of}
 use Rattle.sql_tool.specs.Statement.{StatementTree, statement_in}
-use Rattle.sql_tool.specs.declared.rule.Rule.{Rule}
 use Rattle.sql_tool.specs.declared.rule.Rule.TheVariants.{UnknownName}
 use Rattle.sql_tool.specs.declared.shape.Shape.{Shape}
 

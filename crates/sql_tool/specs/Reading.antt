@@ -5,7 +5,7 @@ use Rattle.sql_grammar.specs.MarkTree as marked
 use Rattle.sql_grammar.specs.Numbering.{numbered, Fills}
 use Rattle.sql_grammar.specs.Reading.{OnlyReading}
 use Rattle.sql_grammar.specs.Token.{Comparison, Equal, NotEqual, Greater, GreaterOrEqual, Less, LessOrEqual}
-use Rattle.sql_grammar.specs.Tree.{Expression, Path, Placeholder, CountAll, Compared, Expressions, OnlyExpression, MoreExpression, Source, Table, Whole, MaybeSource, SomeSource, MaybeExpression, NoExpression, SomeExpression, NoExpressions, NoItems, Every, PageBy, Unlocked, Query, Select}
+use Rattle.sql_grammar.specs.Tree.{Expression, Path, Placeholder, CountAll, Compared, Expressions, OnlyExpression, MoreExpression, Source, Table, Whole, SomeSource, MaybeExpression, NoExpression, SomeExpression, NoExpressions, NoItems, Every, PageBy, Unlocked, Query, Select}
 use Rattle.sql_grammar.specs.Values.{values_query}
 use Rattle.sql_schema.specs.declared.declaration.TableDecl.{TableDecl}
 use Rattle.sql_pass.specs.declared.value.Bound.{Bound}

@@ -94,6 +94,7 @@ fn text<DB: Backend>(
         Ok(builder) => Ok(builder.finish()),
         Err(PassError::NoMemory) => Err(AllocError),
         Err(PassError::TooManyBinds) => unreachable!(),
+        Err(PassError::TooLong) => unreachable!(),
     }
 }
 

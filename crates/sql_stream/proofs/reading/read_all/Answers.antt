@@ -1,4 +1,4 @@
-use Rattle.std.proofs.Common.{◌≡◌, ℕ, ◌-◌, ◌<◌, List, ◌++◌, refl, rules, arith, length, take, drop, sym, ap, ◌∙◌, ◌≤◌, length-append, length-take-le}
+use Rattle.std.proofs.Common.{◌≡◌, ℕ, ◌-◌, ◌<◌, List, ◌++◌, refl, rules, arith, length, take, sym, ◌∙◌, ◌≤◌, length-append, length-take-le}
 use Rattle.std.proofs.lemmas.Result.{err_from_is_err_and}
 use Rattle.std.proofs.KnownBytes.{Consumes-trans}
 use Rattle.sql_stream.specs.declared.reading.ReadError.TheVariants.{NoMemory, TooLarge}

@@ -1,4 +1,3 @@
-use Rattle.std.proofs.Common.{rules}
 use Rattle.sql_tool.proofs.Plain.{values-statement}
 use Rattle.sql_tool.specs.Statement.{statement_tree}
 use Rattle.sql_tool.proofs.answer.binds.Goals as goal

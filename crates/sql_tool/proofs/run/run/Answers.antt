@@ -1,4 +1,4 @@
-use Rattle.std.proofs.Common.{rules, ◌≡◌, IfSome, Some, ℕ, List}
+use Rattle.std.proofs.Common.{rules, ◌≡◌, IfSome, Some}
 use Rattle.std.specs.Io.KnownBytes.{Appends, IsAtEnd}
 use Rattle.sql_document.specs.Form.{document as document_of}
 use Rattle.sql_document.specs.declared.document.Document.{Document}

@@ -1,0 +1,19 @@
+/// How a statement combines the rows of its two sides.
+#[derive(Debug, Clone, Copy, PartialEq, Eq)]
+pub enum Combinator {
+    /// The rows of either side: `UNION`.
+    Union,
+    /// The rows of both sides: `INTERSECT`.
+    Intersect,
+    /// The rows of the left side that the right one lacks: `EXCEPT`.
+    Except,
+}
+
+/// What a combination makes of equal rows.
+#[derive(Debug, Clone, Copy, PartialEq, Eq)]
+pub enum DuplicateRule {
+    /// Keeps one of them, as `UNION` alone does.
+    Distinct,
+    /// Counts each of them, as `UNION ALL` does.
+    All,
+}
