@@ -162,6 +162,22 @@ fn documents(rt: HostRuntime) -> Result<(), Fail> {
             "{\"schema\":{\"tables\":[{\"name\":\"t\",\"columns\":[]}]},\"requests\":[]}",
             Status::BadDocument,
         ),
+        (
+            "{\"schema\":{\"tables\":[]},\"requests\":[{\"dialect\":\"Pg\",\"query\":{\"from\":{\"table\":\"t\"},\"calls\":[[\"limit\",1]]}}]}",
+            Status::Done,
+        ),
+        (
+            "{\"schema\":{\"tables\":[]},\"requests\":[{\"dialect\":\"Pg\",\"query\":{\"from\":{\"table\":\"t\"},\"calls\":[[\"having\",1]]}}]}",
+            Status::BadDocument,
+        ),
+        (
+            "{\"schema\":{\"tables\":[]},\"requests\":[{\"dialect\":\"Pg\",\"query\":{\"from\":{\"table\":\"t\"},\"calls\":[[\"filter\",{\"eq\":[{\"col\":[\"t\",\"b\"]},{\"bind\":[\"Binary\",\"0a\"]}]}]]}}]}",
+            Status::Done,
+        ),
+        (
+            "{\"schema\":{\"tables\":[]},\"requests\":[{\"dialect\":\"Pg\",\"query\":{\"from\":{\"table\":\"t\"},\"calls\":[[\"filter\",{\"eq\":[{\"col\":[\"t\",\"b\"]},{\"bind\":[\"Binary\",\"0\"]}]}]]}}]}",
+            Status::BadDocument,
+        ),
         ("", Status::BadDocument),
     ] {
         assert_eq!(rt; status(alloc, text)?, want, "{text}");
