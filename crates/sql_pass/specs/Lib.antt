@@ -4,5 +4,6 @@ pub mod Collected
 pub mod Commas
 pub mod Held
 pub mod Parts
+pub mod Paths
 pub mod Pieces
 pub mod Walks

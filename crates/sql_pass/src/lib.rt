@@ -10,13 +10,17 @@ mod collect;
 mod fragment;
 mod parts;
 mod pass;
+mod path;
 mod to_sql;
 mod value;
 
 pub use collect::{BindCollector, BindType, Binds, CollectError, RawBytesBindCollector};
 pub use fragment::{QueryFragment, debug_binds};
-pub use parts::{Identifier, InfixNode, MiddleFragment, OnKeyword, ParenthesisWrapper};
+pub use parts::{
+    Identifier, InfixNode, MiddleFragment, OnKeyword, ParenthesisWrapper, push_side_open,
+};
 pub use pass::{AstPass, PassError};
+pub use path::push_dotted;
 pub use to_sql::ToSql;
 pub use value::{Bound, BoundRef, Value};
 

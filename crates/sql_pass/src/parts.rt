@@ -100,8 +100,9 @@ impl<DB: Backend, T: QueryFragment<DB>> QueryFragment<DB> for ParenthesisWrapper
     }
 }
 
+/// Pushes what stands before a query that is a side of a combination: `(`, in SQLite `SELECT * FROM (`.
 #[tactic(auto, unfolding(crate::specs::Parts::side_open))]
-fn push_side_open<DB: Backend>(pass: &mut AstPass<DB>) -> Result<(), PassError>
+pub fn push_side_open<DB: Backend>(pass: &mut AstPass<DB>) -> Result<(), PassError>
     ensures { Walks DB.speaks (held DB.QueryBuilder.text DB.QueryBuilder.count pass.old) (one (Text (side_open DB.speaks))) result (held DB.QueryBuilder.text DB.QueryBuilder.count pass.new) }
 {
     match pass.backend().dialect() {

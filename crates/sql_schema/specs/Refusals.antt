@@ -104,10 +104,6 @@ has_bad_joinable s = list_any (λ j. is_bad_joinable s.tables j) s.joinables || 
 abbrev pub is_unsound : TableDecl → Bool
 is_unsound t = lacks_columns t || (has_duplicate_column t || lacks_key t)
 
--- what is wrong with the tables, without their relations: one to four
-unfoldable pub is_refused : List TableDecl → Bool
-is_refused tables = any_two tables_clash tables || list_any is_unsound tables
-
 -- the refusal of least number that holds
 unfoldable pub least_refusal : Declarations → Option SchemaError
 least_refusal s =

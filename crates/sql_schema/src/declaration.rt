@@ -62,6 +62,7 @@ fn clone_schema(alloc: Global, schema: &Option<SqlText>) -> Result<Option<SqlTex
 }
 
 impl ColumnDecl {
+    /// An equal declaration.
     pub fn try_clone(&self, alloc: Global) -> Result<ColumnDecl, NoMemory>
         ensures { IfOk result (λ v. v ≡ self.now) }
     {
@@ -77,6 +78,7 @@ impl ColumnDecl {
 }
 
 impl TableDecl {
+    /// An equal declaration.
     pub fn try_clone(&self, alloc: Global) -> Result<TableDecl, NoMemory>
         ensures { IfOk result (λ v. v ≡ self.now) }
     {
@@ -96,6 +98,7 @@ impl TableDecl {
 }
 
 impl JoinableDecl {
+    /// An equal declaration.
     pub fn try_clone(&self, alloc: Global) -> Result<JoinableDecl, NoMemory>
         ensures { IfOk result (λ v. v ≡ self.now) }
     {

@@ -18,7 +18,6 @@ mod types;
 pub use declaration::{ColumnDecl, JoinableDecl, TableDecl};
 pub use error::SchemaError;
 pub use list::SqlList;
-pub use refusal::is_refused;
 pub use schema::{Schema, SchemaBuilder, TableNotEqual};
 pub use table::{Column, SizeRestrictedColumn, Table};
 pub use text::{SqlBytes, SqlText};

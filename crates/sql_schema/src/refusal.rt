@@ -1,7 +1,7 @@
 ghost use Rattle.std.specs.Prelude.{◌≡◌, ◌<◌, ◌^◌, ℕ, List, length, not, Bool, ◌||◌, option_map};
 ghost use Rattle.std.specs.List.{list_any};
 ghost use Rattle.sql_schema.specs.Columns.{table_named, column_named};
-ghost use Rattle.sql_schema.specs.Refusals.{any_two, tables_clash, columns_clash, relate_alike, has_column as column_stands, has_table as table_stands, lacks_key as key_lacking, lacks_columns as columns_lacking, lacks_table as table_lacking, is_unsound as unsound, is_refused as refused, is_bad_joinable as bad, single_column, bases_agree as agree, refers as referring, has_duplicate_column as column_doubled, names_unknown_table as table_unknown, least_refusal};
+ghost use Rattle.sql_schema.specs.Refusals.{any_two, tables_clash, columns_clash, relate_alike, has_column as column_stands, has_table as table_stands, lacks_key as key_lacking, lacks_columns as columns_lacking, lacks_table as table_lacking, is_bad_joinable as bad, single_column, bases_agree as agree, refers as referring, has_duplicate_column as column_doubled, names_unknown_table as table_unknown, least_refusal};
 
 use crate::{ColumnDecl, JoinableDecl, SchemaError, SqlText, TableDecl};
 
@@ -87,27 +87,6 @@ fn has_duplicate_column(table: &TableDecl) -> bool
     ensures { result ≡ column_doubled table.now }
 {
     any_two_clash(table.columns.as_slice())
-}
-
-fn is_unsound(table: &TableDecl) -> bool
-    ensures { result ≡ unsound table.now }
-{
-    lacks_columns(table) || has_duplicate_column(table) || lacks_key(table)
-}
-
-fn any_is_unsound(tables: &[TableDecl]) -> bool
-    ensures { result ≡ list_any unsound tables.now }
-{
-    tables.iter().any(|table| is_unsound(table))
-}
-
-/// Whether the tables can't stand together as a schema: two of one name or path, a table without columns, two columns
-/// of a table with one name, or a key that is empty or names no column of its table.
-#[tactic(auto, unfolding(crate::specs::Refusals::is_refused))]
-pub fn is_refused(tables: &[TableDecl]) -> bool
-    ensures { result ≡ refused tables.now }
-{
-    any_two_clash(tables) || any_is_unsound(tables)
 }
 
 fn find_table<'d>(tables: &'d [TableDecl], name: &SqlText) -> Option<&'d TableDecl>

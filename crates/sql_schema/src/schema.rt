@@ -115,7 +115,7 @@ fn sound_tables(alloc: Global, decls: Vec<TableDecl>) -> Result<Vec<Table>, NoMe
 {
     let mut tables = Vec::new(alloc);
     for decl in decls {
-        tables.push(Table::new(decl))?;
+        tables.push(Table::new(alloc, decl)?)?;
     }
     Ok(tables)
 }

@@ -3,12 +3,13 @@ ghost use Rattle.std.specs.Prelude.{◌≡◌, ℕ, Option, IfOk};
 use crate::{ColumnDecl, NoMemory, SqlText, SqlType, TableDecl};
 use std::alloc::Global;
 use std::marker::Model;
+use std::rc::Rc;
 
 /// A table of a schema. Contracts see it as its declaration, which has columns, no two of one name or SQL name, and a
-/// key of one column or more.
-#[derive(Debug, Drop, PartialEq, Eq)]
+/// key of one column or more. Copies share the declaration, so a copy takes no memory.
+#[derive(Debug, Drop)]
 pub struct Table {
-    decl: TableDecl,
+    decl: Rc<TableDecl>,
 }
 
 impl Model for Table {
@@ -18,11 +19,9 @@ impl Model for Table {
 
     ghost Value = { TableDecl };
 
-    ghost view = { λ t. t.decl };
+    ghost view = { λ t. t.decl.value };
 
-    ghost invariant = { λ t. is_unsound t.decl ≡ false };
-
-    ghost inverse = { λ d. record { decl = d } };
+    ghost invariant = { λ t. is_unsound t.decl.value ≡ false };
 }
 
 impl Table {
@@ -30,11 +29,12 @@ impl Table {
     ghost use Rattle.sql_schema.specs.Columns.{column_in, columns_in};
     ghost use Rattle.sql_schema.specs.Refusals.{is_unsound};
 
-    pub(crate) fn new(decl: TableDecl) -> Table
+    pub(crate) fn new(alloc: Global, decl: TableDecl) -> Result<Table, NoMemory>
         requires { is_unsound decl ≡ false }
-        ensures { result ≡ decl }
+        ensures { IfOk result (λ t. t ≡ decl) }
     {
-        Table { decl }
+        let decl = Rc::new(alloc, decl)?;
+        Ok(Table { decl })
     }
 
     /// The name by which Rust code looks it up.
@@ -86,7 +86,7 @@ impl Table {
         Ok(None)
     }
 
-    /// All columns, in order. Each holds a copy of the table.
+    /// All columns, in order.
     pub fn all_columns(&self, alloc: Global) -> Result<Vec<Column>, NoMemory>
         ensures { IfOk result (λ v. v.items ≡ columns_in self.now) }
     {
@@ -99,16 +99,17 @@ impl Table {
         Ok(all)
     }
 
-    pub fn try_clone(&self, alloc: Global) -> Result<Table, NoMemory>
+    /// The same table, over the same declaration.
+    pub fn try_clone(&self, _alloc: Global) -> Result<Table, NoMemory>
         ensures { IfOk result (λ v. v ≡ self.now) }
     {
-        let decl = self.decl.try_clone(alloc)?;
+        let decl = self.decl.clone()?;
         Ok(Table { decl })
     }
 }
 
 /// A column of a table. Contracts see it as the table's declaration and its own.
-#[derive(Debug, Drop, PartialEq, Eq)]
+#[derive(Debug, Drop)]
 pub struct Column {
     table: Table,
     decl: ColumnDecl,
@@ -120,8 +121,6 @@ impl Model for Column {
     ghost Value = { DeclaredColumn };
 
     ghost view = { λ c. column_of c.table c.decl };
-
-    ghost inverse = { λ c. record { table = c.table; decl = c.decl } };
 }
 
 impl Column {
@@ -153,6 +152,7 @@ impl Column {
         self.decl.ty
     }
 
+    /// The same column, of the same table.
     pub fn try_clone(&self, alloc: Global) -> Result<Column, NoMemory>
         ensures { IfOk result (λ v. v ≡ self.now) }
     {

@@ -41,7 +41,6 @@ fn answer(
 }
 
 /// The line that answers the request with this number, where `seen` has the shapes of those before it.
-
 pub fn request_line(
     alloc: Global,
     tables: &[Table],

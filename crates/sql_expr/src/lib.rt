@@ -1,0 +1,26 @@
+//! Expressions, sources, clauses and statements, and the calls that make expressions of expressions.
+//!
+//! The nodes themselves stand in `sql_node` and `sql_leaf`, and are given on from here.
+#![tactic(auto)]
+
+mod calls;
+mod conditions;
+mod methods;
+mod on_clause;
+#[cfg(test)]
+mod tests;
+
+pub use calls::{count, count_star, exists, not, value};
+pub use conditions::{WhereAnd, WhereOr};
+pub use methods::{ExpressionMethods, OrderDecorator};
+pub use on_clause::{JoinRhs, OnClauseWrapper};
+pub use sql_leaf::{
+    Alias, AliasedField, BoxedLimitOffset, Direction, JoinKind, LimitOffsetClause, LockMode,
+    LockingClause, Marks, Modifier, OrderColumn, PositionalItem, TableSource, Tablesample,
+    TablesampleMethod,
+};
+pub use sql_node::{
+    BoxedSelectStatement, CombinationClause, DistinctClause, Expr, FromClause, GroupByClause,
+    HavingClause, InValues, Join, JoinOn, OrderClause, OrderItem, SelectClause, SelectStatement,
+    Source, Statement, WhereClause,
+};

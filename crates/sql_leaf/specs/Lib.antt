@@ -1,0 +1,6 @@
+pub mod Limits
+pub mod Locks
+pub mod Marking
+pub mod Numbers
+pub mod Positions
+pub mod Sources

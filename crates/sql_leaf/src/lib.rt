@@ -1,0 +1,20 @@
+//! The parts of a statement that hold no expression: tables as they are read from, aliases, aliased fields, samples, limits,
+//! locks, positions in an order, and the marks that calls leave.
+//!
+//! Each is copied by `try_clone` and written as a fragment.
+#![tactic(auto)]
+
+mod alias;
+mod bound;
+mod limit_offset;
+mod locking;
+mod marks;
+mod position;
+mod table_source;
+
+pub use alias::{Alias, AliasedField};
+pub use limit_offset::{BoxedLimitOffset, LimitOffsetClause};
+pub use locking::{LockMode, LockingClause, Modifier};
+pub use marks::Marks;
+pub use position::{Direction, OrderColumn, PositionalItem};
+pub use table_source::{JoinKind, TableSource, Tablesample, TablesampleMethod};

@@ -1,0 +1,132 @@
+//! Whether an expression is one of some values, or of the rows of a statement.
+#![tactic(auto, using(sql_pass::proofs::Walking::walking))]
+
+ghost use Rattle.std.specs.Prelude.{◌≡◌, ◌++◌, map, true, false, codes};
+ghost use Rattle.sql_pass.specs.Commas.{next_of};
+ghost use Rattle.sql_pass.specs.Held.{held};
+ghost use Rattle.sql_pass.specs.Pieces.{one, Text, Bind};
+ghost use Rattle.sql_pass.specs.Walks.{Walks};
+ghost use Rattle.sql_pass.specs.declared.value.Bound.TheVariants.{Value as OneValue, List as ManyValues};
+ghost use Rattle.sql_node.specs.Pieces.{around, expr_pieces, among_sql, constant_sql, values_pieces, one_by_one, among_pieces};
+ghost use Rattle.sql_node.specs.View.{expr_tree};
+
+use crate::Expr;
+use crate::expr::walk_around;
+use sql_dialect::{Backend, Dialect};
+use sql_pass::{AstPass, BoundRef, PassError, QueryFragment, Value};
+use sql_schema::{SqlList, SqlType};
+
+fn constant_word(negated: bool) -> &'static str
+    ensures { result.now ≡ constant_sql negated }
+{
+    match negated {
+        false => "(1=0)",
+        true => "(1=1)",
+    }
+}
+
+fn walk_value<DB: Backend>(
+    first: bool,
+    ty: SqlType,
+    value: &Value,
+    pass: &mut AstPass<DB>,
+) -> Result<(), PassError>
+    ensures { Walks DB.speaks (held DB.QueryBuilder.text DB.QueryBuilder.count pass.old) (next_of first (one (Bind (OneValue ty value.now)))) result (held DB.QueryBuilder.text DB.QueryBuilder.count pass.new) }
+{
+    if !first {
+        pass.push_sql(", ")?;
+    }
+    pass.push_bind_param(BoundRef::Value(ty, value))
+}
+
+pub(crate) fn walk_values<DB: Backend>(
+    ty: SqlType,
+    values: &[Value],
+    pass: &mut AstPass<DB>,
+) -> Result<(), PassError>
+    ensures { Walks DB.speaks (held DB.QueryBuilder.text DB.QueryBuilder.count pass.old) (values_pieces ty values.now) result (held DB.QueryBuilder.text DB.QueryBuilder.count pass.new) }
+{
+    let mut first = true;
+    for value in values {
+        walk_value(first, ty, value, pass)?;
+        first = false;
+    }
+    Ok(())
+}
+
+pub(crate) fn walk_bound_list<DB: Backend>(
+    ty: SqlType,
+    values: &[Value],
+    pass: &mut AstPass<DB>,
+) -> Result<(), PassError>
+    ensures { Walks DB.speaks (held DB.QueryBuilder.text DB.QueryBuilder.count pass.old) (one (Bind (ManyValues ty values.now))) result (held DB.QueryBuilder.text DB.QueryBuilder.count pass.new) }
+{
+    pass.push_bind_param(BoundRef::List(ty, values))
+}
+
+/// Pushes what is sought, as far as the bracket that opens in front of what it is looked for in.
+#[cycle(walk)]
+pub(crate) fn walk_sought<DB: Backend>(
+    negated: bool,
+    a: &Expr,
+    pass: &mut AstPass<DB>,
+) -> Result<(), PassError>
+    ensures { Walks DB.speaks (held DB.QueryBuilder.text DB.QueryBuilder.count pass.old) (around (codes "(") (expr_pieces DB.speaks (expr_tree a.now)) (among_sql DB.speaks negated)) result (held DB.QueryBuilder.text DB.QueryBuilder.count pass.new) }
+{
+    match pass.backend().dialect() {
+        Dialect::Pg => match negated {
+            false => walk_around("(", a, " = ANY(", pass),
+            true => walk_around("(", a, " != ALL(", pass),
+        },
+        Dialect::Mysql => match negated {
+            false => walk_around("(", a, " IN (", pass),
+            true => walk_around("(", a, " NOT IN (", pass),
+        },
+        Dialect::Sqlite => match negated {
+            false => walk_around("(", a, " IN (", pass),
+            true => walk_around("(", a, " NOT IN (", pass),
+        },
+    }
+}
+
+/// Pushes `(x = ANY($1))`, or each value for itself.
+#[cycle(walk)]
+pub(crate) fn walk_among_values<DB: Backend>(
+    negated: bool,
+    a: &Expr,
+    ty: SqlType,
+    values: &SqlList<Value>,
+    pass: &mut AstPass<DB>,
+) -> Result<(), PassError>
+    ensures { Walks DB.speaks (held DB.QueryBuilder.text DB.QueryBuilder.count pass.old) (among_pieces DB.speaks negated (expr_pieces DB.speaks (expr_tree a.now)) ty values.now) result (held DB.QueryBuilder.text DB.QueryBuilder.count pass.new) }
+{
+    match pass.backend().dialect() {
+        Dialect::Pg => {
+            walk_sought(negated, a, pass)?;
+            walk_bound_list(ty, values.as_slice(), pass)?;
+            pass.push_sql("))")
+        }
+        Dialect::Mysql => walk_one_by_one(negated, a, ty, values.as_slice(), pass),
+        Dialect::Sqlite => walk_one_by_one(negated, a, ty, values.as_slice(), pass),
+    }
+}
+
+#[cycle(walk)]
+fn walk_one_by_one<DB: Backend>(
+    negated: bool,
+    a: &Expr,
+    ty: SqlType,
+    values: &[Value],
+    pass: &mut AstPass<DB>,
+) -> Result<(), PassError>
+    ensures { Walks DB.speaks (held DB.QueryBuilder.text DB.QueryBuilder.count pass.old) (one_by_one DB.speaks negated (expr_pieces DB.speaks (expr_tree a.now)) ty values.now) result (held DB.QueryBuilder.text DB.QueryBuilder.count pass.new) }
+{
+    pass.unsafe_to_cache_prepared();
+    if values.is_empty() {
+        return pass.push_sql(constant_word(negated));
+    }
+    walk_sought(negated, a, pass)?;
+    walk_values(ty, values, pass)?;
+    pass.push_sql("))")?;
+    Ok(())
+}
