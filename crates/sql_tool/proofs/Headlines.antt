@@ -12,6 +12,7 @@ use Rattle.sql_tool.proofs.TextLaws.{statement-text}
 use Rattle.sql_grammar.proofs.Filling.{fills, as_many}
 use Rattle.sql_grammar.specs.Numbering.{Fills}
 use Rattle.sql_schema.specs.Refusals.{is_empty}
+use Rattle.sql_schema.specs.Columns.{DeclaredColumn}
 use Rattle.sql_schema.specs.declared.declaration.TableDecl.{TableDecl}
 use Rattle.sql_document.specs.Form.{document}
 use Rattle.sql_document.specs.declared.document.Document.{Document}
@@ -25,28 +26,28 @@ use Rattle.sql_tool.specs.Output.{shapes, place_among, answer_line, line}
 use Rattle.sql_tool.specs.Pieces.{statement_pieces, binds_of}
 use Rattle.sql_tool.specs.Reading.{filled, normal, IsRead}
 use Rattle.sql_tool.specs.Rules.{least_broken}
-use Rattle.sql_tool.specs.Statement.{ColumnTree, StatementTree, statement_in}
+use Rattle.sql_tool.specs.Statement.{columns, StatementTree, statement_in}
 use Rattle.sql_tool.specs.declared.rule.Rule.{Rule}
 use Rattle.sql_tool.specs.declared.rule.Rule.TheVariants.{UnknownName}
 use Rattle.sql_tool.specs.declared.shape.Shape.{Shape}
 
-pub reading-statement : (d : Dialect) (s : StatementTree) (c : ColumnTree) (cs : List ColumnTree) → s.columns ≡ c ∷ cs → OnlyReading d (text_of d 0 (statement_pieces s)) (normal d s)
+pub reading-statement : (d : Dialect) (s : StatementTree) (c : DeclaredColumn) (cs : List DeclaredColumn) → columns s ≡ c ∷ cs → OnlyReading d (text_of d 0 (statement_pieces d s)) (normal d s)
 reading-statement d s c cs is =
     let fits : FitsQuery d (normal d s) = subst (FitsQuery d) (sym (normal-statement d s)) (fits-statement d s) in
     subst (λ t. OnlyReading d t (normal d s)) (sym (statement-text d s c cs is)) (only-reading d (normal d s) fits)
 
 -- a statement of a query over a schema that breaks no rule
-pub accepted-read : (tables : List TableDecl) (q : Query) (d : Dialect) (s : StatementTree) → statement_in tables q ≡ Some s → least_broken s ≡ None → IsRead d s (text_of d 0 (statement_pieces s)) (binds_of s)
+pub accepted-read : (tables : List TableDecl) (q : Query) (d : Dialect) (s : StatementTree) → statement_in tables q ≡ Some s → least_broken s ≡ None → IsRead d s (text_of d 0 (statement_pieces d s)) (binds_of s)
 accepted-read tables q d s is accepted =
     let kept = rules-kept s accepted in record {
-      reading = selected s.columns refl kept.1.0;
+      reading = selected (columns s) refl kept.1.0;
       as_many = as_many d (filled s) ∙ ap length (values-filled s);
       fills = subst (λ vs. Fills (normal d s) vs (filled s)) (values-filled s) (fills d (filled s));
       named = statement-named tables s (statement-declared tables q s is) kept.1.1.0;
     }
   where
-    selected : (cs : List ColumnTree) → s.columns ≡ cs → is_empty s.columns ≡ false → OnlyReading d (text_of d 0 (statement_pieces s)) (normal d s)
-    selected [] none some = let wrong : is_empty s.columns ≡ true = ap is_empty none in cc
+    selected : (cs : List DeclaredColumn) → columns s ≡ cs → is_empty (columns s) ≡ false → OnlyReading d (text_of d 0 (statement_pieces d s)) (normal d s)
+    selected [] none some = let wrong : is_empty (columns s) ≡ true = ap is_empty none in cc
     selected (c ∷ cs) are some = reading-statement d s c cs are
 
 answers-judged : (tables : List TableDecl) (r : Request) (place : StatementTree → Option ℕ) (s : StatementTree) → statement_in tables r.query ≡ Some s → (o : Option Rule) → least_broken s ≡ o → (text : List ℕ)

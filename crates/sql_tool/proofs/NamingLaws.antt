@@ -4,6 +4,7 @@ use Rattle.std.proofs.Common.{◌≡◌, ℕ, Bool, true, false, not, ◌||◌, 
 use Rattle.std.specs.List.{list_any, slice_get}
 use Rattle.std.specs.Str.{bytes_eq}
 use Rattle.sql_schema.proofs.ExactTypes.{exact-text}
+use Rattle.sql_schema.specs.Columns.{DeclaredColumn, column_of, table_named, column_named, column_in as column_of_table}
 use Rattle.sql_schema.specs.declared.declaration.ColumnDecl.{ColumnDecl}
 use Rattle.sql_schema.specs.declared.declaration.TableDecl.{TableDecl}
 use Rattle.sql_document.specs.Scalar.{◌>>=◌}
@@ -17,8 +18,7 @@ use Rattle.sql_tool.specs.Lists.{AnyOf, Each}
 use Rattle.sql_tool.specs.Naming.{exposed, path, NamesOnly, view, condition_columns, written_columns}
 use Rattle.sql_tool.specs.Rules.{is_out_of_scope, of_condition, is_broken, all_rules, least_broken}
 use Rattle.sql_tool.specs.declared.rule.Rule.TheVariants.{NotInScope}
-use Rattle.sql_tool.specs.declared.statement.SelectKind.TheVariants.{Column, List as Listed}
-use Rattle.sql_tool.specs.Statement.{ColumnTree, ConditionTree, StatementTree, table_named, column_named, in_table, column_in, columns_in, with_columns, with_condition, selected, called, called_by, simple, statement_in}
+use Rattle.sql_tool.specs.Statement.{Selected, one_column, a_list, selected_columns, columns, ConditionTree, StatementTree, column_in, columns_in, selected_in, with_selected, with_condition, called, called_by, simple, statement_in}
 
 -- ---- what a look-up finds
 
@@ -55,88 +55,92 @@ or-false false b h = (refl, h)
 -- ---- declared columns
 
 -- the table is the schema's, and the column is one of the table's
-pub record IsDeclared (tables : List TableDecl) (c : ColumnTree) : Type 0 where
-  pub table : table_named c.table.name tables ≡ Some c.table
-  pub column : AnyOf (λ d. d.sql_name ≡ c.column.sql_name) c.table.columns
+pub record IsDeclared (tables : List TableDecl) (c : DeclaredColumn) : Type 0 where
+  pub table : table_named tables c.table.name ≡ Some c.table
+  pub column : AnyOf (λ d. d.sql_name ≡ c.decl.sql_name) c.table.columns
 
-table-found : (tables : List TableDecl) (name : List ℕ) (t : TableDecl) → table_named name tables ≡ Some t → table_named t.name tables ≡ Some t
+table-found : (tables : List TableDecl) (name : List ℕ) (t : TableDecl) → table_named tables name ≡ Some t → table_named tables t.name ≡ Some t
 table-found tables name t h =
     let same = exact-text t.name name (found (λ u. bytes_eq u.name name) tables t h).0 in
-    ap (λ n. table_named n tables) same ∙ h
+    ap (λ n. table_named tables n) same ∙ h
 
 module _ (tables : List TableDecl) where
-  column-found : (name : ColumnName) (c : ColumnTree) → column_in tables name ≡ Some c → IsDeclared tables c
+  column-found : (name : ColumnName) (c : DeclaredColumn) → column_in tables name ≡ Some c → IsDeclared tables c
   unfolding column_in
-  column-found name c h = at_table (table_named name.table tables) refl h
+  column-found name c h = at_table (table_named tables name.table) refl h
     where
-      at_column : (t : TableDecl) → table_named name.table tables ≡ Some t → (o : Option ColumnDecl) → column_named name.column t ≡ o → (o >>= λ k. Some (in_table t k)) ≡ Some c → IsDeclared tables c
+      at_column : (t : TableDecl) → table_named tables name.table ≡ Some t → (o : Option ColumnDecl) → column_named t.columns name.column ≡ o → option_map (λ k. column_of t k) o ≡ Some c → IsDeclared tables c
       at_column t is None none k = cc
       at_column t is (Some d) some k =
-          let e : in_table t d ≡ c = cc in
+          let e : column_of t d ≡ c = cc in
           let among = (found (λ u. bytes_eq u.name name.column) t.columns d some).1 in
-          let declared : IsDeclared tables (in_table t d) = record {
+          let declared : IsDeclared tables (column_of t d) = record {
             table = table-found tables name.table t is;
             column = any-map (λ u. u ≡ d) (λ u. u.sql_name ≡ d.sql_name) (λ u same. ap (λ v. v.sql_name) same) t.columns among;
           } in
           subst (IsDeclared tables) e declared
 
-      at_table : (o : Option TableDecl) → table_named name.table tables ≡ o → (o >>= λ t. column_named name.column t >>= λ k. Some (in_table t k)) ≡ Some c → IsDeclared tables c
+      at_table : (o : Option TableDecl) → table_named tables name.table ≡ o → (o >>= λ t. column_of_table t name.column) ≡ Some c → IsDeclared tables c
       at_table None none k = cc
-      at_table (Some t) some k = at_column t some (column_named name.column t) refl k
+      at_table (Some t) some k = at_column t some (column_named t.columns name.column) refl k
 
-  columns-found : (names : List ColumnName) (cs : List ColumnTree) → columns_in tables names ≡ Some cs → Each (IsDeclared tables) cs
+  columns-found : (names : List ColumnName) (cs : List DeclaredColumn) → columns_in tables names ≡ Some cs → Each (IsDeclared tables) cs
   columns-found [] cs h = let e : [] ≡ cs = cc in subst (Each (IsDeclared tables)) e tt
   columns-found (n ∷ ns) cs h = at_first (column_in tables n) refl h (λ ds k. columns-found ns ds k)
     where
-      at_rest : (c : ColumnTree) → IsDeclared tables c → (o : Option (List ColumnTree)) → ((ds : List ColumnTree) → o ≡ Some ds → Each (IsDeclared tables) ds) → (o >>= λ ds. Some (c ∷ ds)) ≡ Some cs → Each (IsDeclared tables) cs
+      at_rest : (c : DeclaredColumn) → IsDeclared tables c → (o : Option (List DeclaredColumn)) → ((ds : List DeclaredColumn) → o ≡ Some ds → Each (IsDeclared tables) ds) → (o >>= λ ds. Some (c ∷ ds)) ≡ Some cs → Each (IsDeclared tables) cs
       at_rest c first None rest k = cc
       at_rest c first (Some ds) rest k = let e : c ∷ ds ≡ cs = cc in subst (Each (IsDeclared tables)) e (first, rest ds refl)
 
-      at_first : (o : Option ColumnTree) → column_in tables n ≡ o → (o >>= λ c. columns_in tables ns >>= λ ds. Some (c ∷ ds)) ≡ Some cs
-          → ((ds : List ColumnTree) → columns_in tables ns ≡ Some ds → Each (IsDeclared tables) ds) → Each (IsDeclared tables) cs
+      at_first : (o : Option DeclaredColumn) → column_in tables n ≡ o → (o >>= λ c. columns_in tables ns >>= λ ds. Some (c ∷ ds)) ≡ Some cs
+          → ((ds : List DeclaredColumn) → columns_in tables ns ≡ Some ds → Each (IsDeclared tables) ds) → Each (IsDeclared tables) cs
       at_first None none k rest = cc
       at_first (Some c) some k rest = at_rest c (column-found n c some) (columns_in tables ns) rest k
 
   -- ---- statements
 
   pub record AllDeclared (s : StatementTree) : Type 0 where
-    pub from : table_named s.from.name tables ≡ Some s.from
-    pub columns : Each (IsDeclared tables) s.columns
+    pub from : table_named tables s.from.name ≡ Some s.from
+    pub columns : Each (IsDeclared tables) (columns s)
     pub condition : Each (IsDeclared tables) (condition_columns s.condition)
 
-  own-columns : (t : TableDecl) → table_named t.name tables ≡ Some t → (front rest : List ColumnDecl) → t.columns ≡ front ++ rest → Each (IsDeclared tables) (map (in_table t) rest)
+  own-columns : (t : TableDecl) → table_named tables t.name ≡ Some t → (front rest : List ColumnDecl) → t.columns ≡ front ++ rest → Each (IsDeclared tables) (map (λ c. column_of t c) rest)
   own-columns t is front [] e = tt
   own-columns t is front (c ∷ cs) e = (
     record { table = is; column = subst (AnyOf (λ d. d.sql_name ≡ c.sql_name)) (sym e) (any-behind (λ d. d.sql_name ≡ c.sql_name) c refl front cs) },
     own-columns t is (front ++ c ∷ []) cs (e ∙ sym (append_assoc front (c ∷ []) cs)),
   )
 
-  simple-declared : (name : List ℕ) (t : TableDecl) → table_named name tables ≡ Some t → AllDeclared (simple t)
+  simple-declared : (name : List ℕ) (t : TableDecl) → table_named tables name ≡ Some t → AllDeclared (simple t)
   simple-declared name t h = let is = table-found tables name t h in record { from = is; columns = own-columns t is [] t.columns refl; condition = tt }
 
-  select-declared : (s : StatementTree) → AllDeclared s → (selection : Selection) (r : StatementTree) → selected tables s selection ≡ Some r → AllDeclared r
-  select-declared s all (NamedColumn name) r h = here (column_in tables name) refl h
+  selected-declared : (selection : Selection) (x : Selected) → selected_in tables selection ≡ Some x → Each (IsDeclared tables) (selected_columns x)
+  selected-declared (NamedColumn name) x h = here (column_in tables name) refl h
     where
-      here : (o : Option ColumnTree) → column_in tables name ≡ o → option_map (λ c. with_columns s Column (c ∷ [])) o ≡ Some r → AllDeclared r
+      here : (o : Option DeclaredColumn) → column_in tables name ≡ o → option_map one_column o ≡ Some x → Each (IsDeclared tables) (selected_columns x)
       here None none k = cc
       here (Some c) some k =
-          let e : with_columns s Column (c ∷ []) ≡ r = cc in
-          let declared : AllDeclared (with_columns s Column (c ∷ [])) = record { from = all.from; columns = (column-found name c some, tt); condition = all.condition } in
-          subst AllDeclared e declared
-  select-declared s all (NamedList names) r h = here (columns_in tables names) refl h
+          let e : one_column c ≡ x = cc in
+          let declared : Each (IsDeclared tables) (c ∷ []) = (column-found name c some, tt) in
+          subst (λ y. Each (IsDeclared tables) (selected_columns y)) e declared
+  selected-declared (NamedList names) x h = here (columns_in tables names) refl h
     where
-      here : (o : Option (List ColumnTree)) → columns_in tables names ≡ o → option_map (with_columns s Listed) o ≡ Some r → AllDeclared r
+      here : (o : Option (List DeclaredColumn)) → columns_in tables names ≡ o → option_map a_list o ≡ Some x → Each (IsDeclared tables) (selected_columns x)
       here None none k = cc
-      here (Some cs) some k =
-          let e : with_columns s Listed cs ≡ r = cc in
-          let declared : AllDeclared (with_columns s Listed cs) = record { from = all.from; columns = columns-found names cs some; condition = all.condition } in
-          subst AllDeclared e declared
+      here (Some cs) some k = let e : a_list cs ≡ x = cc in subst (λ y. Each (IsDeclared tables) (selected_columns y)) e (columns-found names cs some)
 
   call-declared : (s : StatementTree) → AllDeclared s → (c : Call) (r : StatementTree) → called tables s c ≡ Some r → AllDeclared r
-  call-declared s all (Select selection) r h = select-declared s all selection r h
+  call-declared s all (Select selection) r h = here (selected_in tables selection) refl h
+    where
+      here : (o : Option Selected) → selected_in tables selection ≡ o → option_map (with_selected s) o ≡ Some r → AllDeclared r
+      here None none k = cc
+      here (Some x) some k =
+          let e : with_selected s x ≡ r = cc in
+          let declared : AllDeclared (with_selected s x) = record { from = all.from; columns = selected-declared selection x some; condition = all.condition } in
+          subst AllDeclared e declared
   call-declared s all (Filter c) r h = here (column_in tables c.column) refl h
     where
-      here : (o : Option ColumnTree) → column_in tables c.column ≡ o → option_map (with_condition s c) o ≡ Some r → AllDeclared r
+      here : (o : Option DeclaredColumn) → column_in tables c.column ≡ o → option_map (with_condition s c) o ≡ Some r → AllDeclared r
       here None none k = cc
       here (Some column) some k =
           let e : with_condition s c column ≡ r = cc in
@@ -157,9 +161,9 @@ module _ (tables : List TableDecl) where
 
   pub statement-declared : (q : Query) (s : StatementTree) → statement_in tables q ≡ Some s → AllDeclared s
   unfolding statement_in
-  statement-declared q s h = here (table_named q.table tables) refl h
+  statement-declared q s h = here (table_named tables q.table) refl h
     where
-      here : (o : Option TableDecl) → table_named q.table tables ≡ o → (o >>= λ t. called_by tables (simple t) q.calls) ≡ Some s → AllDeclared s
+      here : (o : Option TableDecl) → table_named tables q.table ≡ o → (o >>= λ t. called_by tables (simple t) q.calls) ≡ Some s → AllDeclared s
       here None none k = cc
       here (Some t) some k = calls-declared q.calls (simple t) (simple-declared q.table t some) s k
 
@@ -173,18 +177,18 @@ module _ (tables : List TableDecl) where
   not-false true h = refl
   not-false false h = cc
 
-  column-named : (s : StatementTree) → AllDeclared s → (c : ColumnTree) → IsDeclared tables c → is_out_of_scope s c ≡ false → NamesOnly (view s) (path c) c.table
+  column-named : (s : StatementTree) → AllDeclared s → (c : DeclaredColumn) → IsDeclared tables c → is_out_of_scope s c ≡ false → NamesOnly (view s) (path c) c.table
   column-named s all c declared inside =
       let name = exact-text c.table.name s.from.name (not-false _ inside) in
-      let both : Some c.table ≡ Some s.from = sym declared.table ∙ ap (λ n. table_named n tables) name ∙ all.from in
+      let both : Some c.table ≡ Some s.from = sym declared.table ∙ ap (λ n. table_named tables n) name ∙ all.from in
       let same : c.table ≡ s.from = cc in (
         0,
         ap Some (sym same),
-        (exposed c.table, c.column.sql_name, refl, ([], refl), declared.column),
+        (exposed c.table, c.decl.sql_name, refl, ([], refl), declared.column),
         λ j other is names. only-place s.from other j is,
       )
 
-  columns-named : (s : StatementTree) → AllDeclared s → (cs : List ColumnTree) → Each (IsDeclared tables) cs → list_any (is_out_of_scope s) cs ≡ false → Each (λ c. NamesOnly (view s) (path c) c.table) cs
+  columns-named : (s : StatementTree) → AllDeclared s → (cs : List DeclaredColumn) → Each (IsDeclared tables) cs → list_any (is_out_of_scope s) cs ≡ false → Each (λ c. NamesOnly (view s) (path c) c.table) cs
   columns-named s all [] declared inside = tt
   columns-named s all (c ∷ cs) declared inside =
       let both = or-false (is_out_of_scope s c) (list_any (is_out_of_scope s) cs) inside in
@@ -200,8 +204,8 @@ module _ (tables : List TableDecl) where
 
   pub statement-named : (s : StatementTree) → AllDeclared s → is_broken s NotInScope ≡ false → Each (λ c. NamesOnly (view s) (path c) c.table) (written_columns s)
   statement-named s all inside =
-      let both = or-false (list_any (is_out_of_scope s) s.columns) (of_condition (λ k. is_out_of_scope s k.column) s.condition) inside in
-      each-append (λ c. NamesOnly (view s) (path c) c.table) s.columns (condition_columns s.condition) (columns-named s all s.columns all.columns both.0)
+      let both = or-false (list_any (is_out_of_scope s) (columns s)) (of_condition (λ k. is_out_of_scope s k.column) s.condition) inside in
+      each-append (λ c. NamesOnly (view s) (path c) c.table) (columns s) (condition_columns s.condition) (columns-named s all (columns s) all.columns both.0)
       (columns-named s all (condition_columns s.condition) all.condition (condition-inside s s.condition both.1))
 
 -- where no rule is broken, each is kept

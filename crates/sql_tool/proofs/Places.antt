@@ -10,8 +10,8 @@ use Rattle.sql_dialect.specs.contracts.backend.DialectPartialEq.TheImpl as diale
 use Rattle.sql_dialect.specs.contracts.backend.Dialect.{the_type as the_dialect}
 use Rattle.sql_document.specs.contracts.document.OperatorPartialEq.TheImpl as operator_eq
 use Rattle.sql_document.specs.contracts.document.Operator.{the_type as the_operator}
-use Rattle.sql_tool.specs.contracts.statement.SelectKindPartialEq.TheImpl as kind_eq
-use Rattle.sql_tool.specs.contracts.statement.SelectKind.{the_type as the_kind}
+use Rattle.sql_tool.specs.contracts.parts.SelectKindPartialEq.TheImpl as kind_eq
+use Rattle.sql_tool.specs.contracts.parts.SelectKind.{the_type as the_kind}
 use Rattle.sql_tool.specs.contracts.shape.ColumnShapePartialEq.TheImpl as column_eq
 use mathlib.Core.Bool.{beq}
 use Rattle.sql_schema.specs.contracts.types.SqlTypePartialEq.TheImpl as type_eq

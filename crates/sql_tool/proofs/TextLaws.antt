@@ -9,14 +9,19 @@ use Rattle.sql_grammar.specs.Numbering.{mark_of}
 use Rattle.sql_grammar.specs.Spelling.{sign_text}
 use Rattle.sql_grammar.specs.Text as x
 use Rattle.sql_grammar.specs.Tree.{PageBy}
+use Rattle.sql_schema.specs.Columns.{DeclaredColumn}
 use Rattle.sql_pass.specs.Commas.{commas}
+use Rattle.sql_pass.specs.Paths.{path_pieces, table_pieces, column_pieces}
 use Rattle.sql_pass.specs.Pieces.{Piece, one, Text, Ident, Bind, text_of}
+use Rattle.sql_node.specs.Pieces.{comparison_sql}
 use Rattle.sql_document.specs.declared.document.Operator.{Operator}
 use Rattle.sql_document.specs.declared.document.Operator.TheVariants.{Eq, Ne, Gt, Ge, Lt, Le}
 use Rattle.sql_tool.proofs.NormalLaws.{places, normal-statement}
-use Rattle.sql_tool.specs.Pieces.{path_pieces, table_pieces, column_pieces, operator_sql, condition_bound, where_pieces, limit_pieces, selection_pieces, statement_pieces}
+use Rattle.sql_tool.proofs.PieceLaws.{selection_pieces, where_pieces, page_pieces, flat_pieces, pieces-flat}
+use Rattle.sql_tool.specs.Pieces.{condition_bound, statement_pieces}
 use Rattle.sql_tool.specs.Reading.{comparison_of, column_path, column_expression, column_list, selection, table_path, table_source, condition, normal}
-use Rattle.sql_tool.specs.Statement.{ColumnTree, ConditionTree, StatementTree}
+use Rattle.sql_tool.specs.Select.{comparison}
+use Rattle.sql_tool.specs.Statement.{columns, ConditionTree, StatementTree}
 
 path-text : (d : Dialect) (n : ℕ) (schema : Option (List ℕ)) (t c : List ℕ) (more : List Piece)
     → text_of d n ((path_pieces schema t ++ (one (Text (codes ".")) ++ one (Ident c))) ++ more) ≡ x.expression d (column_path schema t c) (text_of d n more)
@@ -24,15 +29,15 @@ unfolding one x.expression x.names
 path-text d n None t c more = refl
 path-text d n (Some s) t c more = refl
 
-column-text : (d : Dialect) (n : ℕ) (c : ColumnTree) (more : List Piece) → text_of d n (column_pieces c ++ more) ≡ x.expression d (column_expression c) (text_of d n more)
-column-text d n c more = path-text d n c.table.schema c.table.sql_name c.column.sql_name more
+column-text : (d : Dialect) (n : ℕ) (c : DeclaredColumn) (more : List Piece) → text_of d n (column_pieces c ++ more) ≡ x.expression d (column_expression c) (text_of d n more)
+column-text d n c more = path-text d n c.table.schema c.table.sql_name c.decl.sql_name more
 
-comma-text : (d : Dialect) (n : ℕ) (c : ColumnTree) (cs : List ColumnTree) (more : List Piece)
+comma-text : (d : Dialect) (n : ℕ) (c : DeclaredColumn) (cs : List DeclaredColumn) (more : List Piece)
     → text_of d n (commas false (map column_pieces (c ∷ cs)) ++ more) ≡ codes ", " ++ text_of d n (commas true (map column_pieces (c ∷ cs)) ++ more)
 unfolding one
 comma-text d n c cs more = refl
 
-list-text : (d : Dialect) (n : ℕ) (c : ColumnTree) (cs : List ColumnTree) (more : List Piece)
+list-text : (d : Dialect) (n : ℕ) (c : DeclaredColumn) (cs : List DeclaredColumn) (more : List Piece)
     → text_of d n (commas true (map column_pieces (c ∷ cs)) ++ more) ≡ x.expressions d (column_list c cs) (text_of d n more)
 unfolding x.expressions
 list-text d n c [] more = ap (λ ps. text_of d n (ps ++ more)) (append-nil (column_pieces c)) ∙ column-text d n c more
@@ -46,7 +51,7 @@ unfolding one x.source x.names x.only x.sample
 table-text d n None t more = refl
 table-text d n (Some s) t more = refl
 
-operator-text : (o : Operator) (rest : List ℕ) → operator_sql o ++ rest ≡ codes " " ++ sign_text (comparison_of o) (codes " " ++ rest)
+operator-text : (o : Operator) (rest : List ℕ) → comparison_sql (comparison o) ++ rest ≡ codes " " ++ sign_text (comparison_of o) (codes " " ++ rest)
 unfolding sign_text
 operator-text Eq rest = refl
 operator-text Ne rest = refl
@@ -62,9 +67,9 @@ counted d (Some c) = raised d 0
 
 -- what stands behind the column of a condition
 abbrev after_column : ConditionTree → List Piece
-after_column c = one (Text (operator_sql c.operator)) ++ (one (Bind (condition_bound c)) ++ one (Text (codes ")")))
+after_column c = one (Text (comparison_sql (comparison c.operator))) ++ (one (Bind (condition_bound c)) ++ one (Text (codes ")")))
 
-value-text : (d : Dialect) (c : ConditionTree) (more : List Piece) → text_of d 0 (after_column c ++ more) ≡ operator_sql c.operator ++ (placeholder d 1 ++ (codes ")" ++ text_of d (raised d 0) more))
+value-text : (d : Dialect) (c : ConditionTree) (more : List Piece) → text_of d 0 (after_column c ++ more) ≡ comparison_sql (comparison c.operator) ++ (placeholder d 1 ++ (codes ")" ++ text_of d (raised d 0) more))
 unfolding one
 value-text d c more = refl
 
@@ -88,13 +93,13 @@ place-text Pg (Some c) = refl
 place-text Mysql (Some c) = refl
 place-text Sqlite (Some c) = refl
 
-limit-text : (d : Dialect) (n k : ℕ) (o : Option ℤ) → placeholder d (n + 1) ≡ placeholder d (k + 1) → text_of d n (limit_pieces o) ≡ x.page d (PageBy (option_map (λ z. mark_of d k) o) None) []
+limit-text : (d : Dialect) (n k : ℕ) (o : Option ℤ) → placeholder d (n + 1) ≡ placeholder d (k + 1) → text_of d n (page_pieces o) ≡ x.page d (PageBy (option_map (λ z. mark_of d k) o) None) []
 unfolding one x.page
 limit-text d n k None h = refl
 limit-text d n k (Some z) h = ap (λ p. codes " LIMIT " ++ (p ++ [])) h ∙ ap (λ t. codes " LIMIT " ++ t) (sym (mark-placeholder d k []))
 
-head-text : (d : Dialect) (s : StatementTree) → text_of d 0 (statement_pieces s)
-    ≡ codes "SELECT " ++ text_of d 0 (selection_pieces s.columns ++ (one (Text (codes " FROM ")) ++ (table_pieces s.from ++ (where_pieces s.condition ++ limit_pieces s.limit))))
+head-text : (d : Dialect) (s : StatementTree) → text_of d 0 (flat_pieces s)
+    ≡ codes "SELECT " ++ text_of d 0 (selection_pieces (columns s) ++ (one (Text (codes " FROM ")) ++ (table_pieces s.from ++ (where_pieces s.condition ++ page_pieces s.limit))))
 unfolding one
 head-text d s = refl
 
@@ -102,14 +107,14 @@ from-text : (d : Dialect) (more : List Piece) → text_of d 0 (one (Text (codes 
 unfolding one
 from-text d more = refl
 
-pub statement-text : (d : Dialect) (s : StatementTree) (c : ColumnTree) (cs : List ColumnTree) → s.columns ≡ c ∷ cs → text_of d 0 (statement_pieces s) ≡ x.text d (normal d s)
+pub statement-text : (d : Dialect) (s : StatementTree) (c : DeclaredColumn) (cs : List DeclaredColumn) → columns s ≡ c ∷ cs → text_of d 0 (statement_pieces d s) ≡ x.text d (normal d s)
 unfolding x.text x.query x.distinct x.from x.group_by x.having_by x.order_by x.lock
 statement-text d s c cs is =
-    let behind = where_pieces s.condition ++ limit_pieces s.limit in
+    let behind = where_pieces s.condition ++ page_pieces s.limit in
     let source = table_pieces s.from ++ behind in
     let limit = limit-text d (counted d s.condition) (places s.condition) s.limit (place-text d s.condition) in
-    let filter = where-text d s.condition (limit_pieces s.limit) ∙ ap (x.where_by d (condition (λ k. mark_of d 0) s.condition)) limit in
+    let filter = where-text d s.condition (page_pieces s.limit) ∙ ap (x.where_by d (condition (λ k. mark_of d 0) s.condition)) limit in
     let from = from-text d source ∙ ap (λ t. codes " FROM " ++ t) (table-text d 0 s.from.schema s.from.sql_name behind ∙ ap (x.source d (table_source s.from)) filter) in
-    let list : text_of d 0 (selection_pieces s.columns ++ (one (Text (codes " FROM ")) ++ source)) ≡ x.expressions d (selection s.columns) (text_of d 0 (one (Text (codes " FROM ")) ++ source)) =
+    let list : text_of d 0 (selection_pieces (columns s) ++ (one (Text (codes " FROM ")) ++ source)) ≡ x.expressions d (selection (columns s)) (text_of d 0 (one (Text (codes " FROM ")) ++ source)) =
     rw is (list-text d 0 c cs (one (Text (codes " FROM ")) ++ source)) in
-    head-text d s ∙ ap (λ t. codes "SELECT " ++ t) (list ∙ ap (x.expressions d (selection s.columns)) from) ∙ ap (λ q. x.query d q []) (sym (normal-statement d s))
+    ap (text_of d 0) (pieces-flat d s) ∙ head-text d s ∙ ap (λ t. codes "SELECT " ++ t) (list ∙ ap (x.expressions d (selection (columns s))) from) ∙ ap (λ q. x.query d q []) (sym (normal-statement d s))

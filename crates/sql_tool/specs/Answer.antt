@@ -1,5 +1,5 @@
 -- The JSON object that answers a request.
-use Rattle.std.specs.Prelude.{ℕ, map, codes, Option, Some, None}
+use Rattle.std.specs.Prelude.{ℕ, List, Bool, map, codes, Option, Some, None}
 use Rattle.serde_json.specs.Data.{Data, null, boolean, number, string, array, object, unsigned, no_items, item, no_members, member}
 use Rattle.serde_json.specs.View.{items_of}
 use Rattle.serde_json.specs.Find.{of_integer}
@@ -39,14 +39,17 @@ abbrev pub place_data : Option ℕ → Data
 place_data None = null
 place_data (Some n) = number (unsigned n)
 
+abbrev pub statement_data : List Bound → List SqlType → Option ℕ → Bool → List ℕ → Data
+statement_data binds columns place safe text =
+    object (member (codes "binds") (array (items_of (map bound_data binds)))
+    (member (codes "columns") (array (items_of (map type_data columns)))
+    (member (codes "id") (place_data place)
+    (member (codes "safe") (boolean safe)
+    (member (codes "sql") (string text) no_members)))))
+
 -- the text of a statement, its values in the order of their placeholders, and what else is told of it
 abbrev pub accepted : Dialect → Option ℕ → StatementTree → Data
-accepted d place s =
-    object (member (codes "binds") (array (items_of (map bound_data (binds_of s))))
-    (member (codes "columns") (array (items_of (map type_data (columns_of s))))
-    (member (codes "id") (place_data place)
-    (member (codes "safe") (boolean (is_safe_in d s))
-    (member (codes "sql") (string (text_of d 0 (statement_pieces s))) no_members)))))
+accepted d place s = statement_data (binds_of s) (columns_of s) place (is_safe_in d s) (text_of d 0 (statement_pieces d s))
 
 abbrev pub refused : Rule → Data
 refused rule = object (member (codes "refused") (string (rule_text rule)) no_members)

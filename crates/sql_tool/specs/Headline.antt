@@ -22,7 +22,7 @@ Tells text d = text ≡ compact_text d ++ 10 ∷ []
 
 -- the line of an accepted statement has its text and its values, and they are read as the statement
 abbrev pub Accepts : Dialect → Option ℕ → StatementTree → List ℕ → Type 0
-Accepts d place s text = Tells text (accepted d place s) × IsRead d s (text_of d 0 (statement_pieces s)) (binds_of s)
+Accepts d place s text = Tells text (accepted d place s) × IsRead d s (text_of d 0 (statement_pieces d s)) (binds_of s)
 
 -- The line of a request tells UnknownName where its query names what the schema lacks, else the first rule that its statement
 -- breaks, else the statement.

@@ -3,10 +3,12 @@ pub mod Headline
 pub mod Lists
 pub mod Naming
 pub mod Output
+pub mod Parts
 pub mod Pieces
 pub mod Reading
 pub mod Rules
 pub mod Run
+pub mod Select
 pub mod Shape
 pub mod Statement
 pub mod Status

@@ -1,9 +1,10 @@
 -- Which source a column's path names, where a clause sees a list of them (PostgreSQL, 4.2.1 Column References).
 use Rattle.std.specs.Prelude.{◌≡◌, ℕ, List, [], ◌∷◌, ◌++◌, Option, Some, None}
 use Rattle.std.specs.List.{slice_get}
+use Rattle.sql_schema.specs.Columns.{DeclaredColumn}
 use Rattle.sql_schema.specs.declared.declaration.TableDecl.{TableDecl}
 use Rattle.sql_tool.specs.Lists.{AnyOf, IsSuffix}
-use Rattle.sql_tool.specs.Statement.{ColumnTree, ConditionTree, StatementTree}
+use Rattle.sql_tool.specs.Statement.{columns, ConditionTree, StatementTree}
 
 abbrev pub schema_names : Option (List ℕ) → List (List ℕ)
 schema_names None = []
@@ -14,8 +15,8 @@ abbrev pub exposed : TableDecl → List (List ℕ)
 exposed t = schema_names t.schema ++ t.sql_name ∷ []
 
 -- a column as it is written
-abbrev pub path : ColumnTree → List (List ℕ)
-path c = exposed c.table ++ c.column.sql_name ∷ []
+abbrev pub path : DeclaredColumn → List (List ℕ)
+path c = exposed c.table ++ c.decl.sql_name ∷ []
 
 -- The path without its last part is the end of what the table exposes, and the last part is a column of the table.
 abbrev pub Names : List (List ℕ) → TableDecl → Type 0
@@ -29,10 +30,10 @@ NamesOnly view p t = (k : ℕ) × (slice_get view k ≡ Some t) × Names p t × 
 abbrev pub view : StatementTree → List TableDecl
 view s = s.from ∷ []
 
-abbrev pub condition_columns : Option ConditionTree → List ColumnTree
+abbrev pub condition_columns : Option ConditionTree → List DeclaredColumn
 condition_columns None = []
 condition_columns (Some c) = c.column ∷ []
 
 -- the columns that are written, in order
-abbrev pub written_columns : StatementTree → List ColumnTree
-written_columns s = s.columns ++ condition_columns s.condition
+abbrev pub written_columns : StatementTree → List DeclaredColumn
+written_columns s = columns s ++ condition_columns s.condition

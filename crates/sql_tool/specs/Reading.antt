@@ -7,14 +7,16 @@ use Rattle.sql_grammar.specs.Reading.{OnlyReading}
 use Rattle.sql_grammar.specs.Token.{Comparison, Equal, NotEqual, Greater, GreaterOrEqual, Less, LessOrEqual}
 use Rattle.sql_grammar.specs.Tree.{Expression, Path, Placeholder, CountAll, Compared, Expressions, OnlyExpression, MoreExpression, Source, Table, Whole, SomeSource, MaybeExpression, NoExpression, SomeExpression, NoExpressions, NoItems, Every, PageBy, Unlocked, Query, Select}
 use Rattle.sql_grammar.specs.Values.{values_query}
+use Rattle.sql_schema.specs.Columns.{DeclaredColumn}
 use Rattle.sql_schema.specs.declared.declaration.TableDecl.{TableDecl}
 use Rattle.sql_pass.specs.declared.value.Bound.{Bound}
+use Rattle.sql_leaf.specs.Numbers.{big}
 use Rattle.sql_document.specs.declared.document.Operator.{Operator}
 use Rattle.sql_document.specs.declared.document.Operator.TheVariants.{Eq, Ne, Gt, Ge, Lt, Le}
 use Rattle.sql_tool.specs.Lists.{Each}
 use Rattle.sql_tool.specs.Naming.{NamesOnly, view, path, written_columns}
-use Rattle.sql_tool.specs.Pieces.{condition_bound, limit_bound}
-use Rattle.sql_tool.specs.Statement.{ColumnTree, ConditionTree, StatementTree}
+use Rattle.sql_tool.specs.Pieces.{condition_bound}
+use Rattle.sql_tool.specs.Statement.{columns, ConditionTree, StatementTree}
 
 abbrev pub comparison_of : Operator → Comparison
 comparison_of Eq = Equal
@@ -28,15 +30,15 @@ abbrev pub column_path : {P : Type 0} → Option (List ℕ) → List ℕ → Lis
 column_path None table column = Path table (column ∷ [])
 column_path (Some schema) table column = Path schema (table ∷ column ∷ [])
 
-abbrev pub column_expression : {P : Type 0} → ColumnTree → Expression P
-column_expression c = column_path c.table.schema c.table.sql_name c.column.sql_name
+abbrev pub column_expression : {P : Type 0} → DeclaredColumn → Expression P
+column_expression c = column_path c.table.schema c.table.sql_name c.decl.sql_name
 
-abbrev pub column_list : {P : Type 0} → ColumnTree → List ColumnTree → Expressions P
+abbrev pub column_list : {P : Type 0} → DeclaredColumn → List DeclaredColumn → Expressions P
 column_list c [] = OnlyExpression (column_expression c)
 column_list c (next ∷ cs) = MoreExpression (column_expression c) (column_list next cs)
 
 -- an empty list is no selection, and is refused
-abbrev pub selection : {P : Type 0} → List ColumnTree → Expressions P
+abbrev pub selection : {P : Type 0} → List DeclaredColumn → Expressions P
 selection [] = OnlyExpression CountAll
 selection (c ∷ cs) = column_list c cs
 
@@ -54,11 +56,11 @@ condition at (Some c) = SomeExpression (Compared (comparison_of c.operator) (col
 -- the tree of a statement, with this in the place of its condition's value and of its limit
 abbrev pub statement_query : {P : Type 0} → (ConditionTree → P) → (ℤ → P) → StatementTree → Query P
 statement_query at limit s =
-    Select Every (selection s.columns) (SomeSource (table_source s.from)) (condition at s.condition) NoExpressions NoExpression NoItems (PageBy (option_map limit s.limit) None) Unlocked
+    Select Every (selection (columns s)) (SomeSource (table_source s.from)) (condition at s.condition) NoExpressions NoExpression NoItems (PageBy (option_map limit s.limit) None) Unlocked
 
 -- with the values at their places
 abbrev pub filled : StatementTree → Query Bound
-filled = statement_query condition_bound limit_bound
+filled = statement_query condition_bound big
 
 -- with a placeholder for each value
 abbrev pub normal : Dialect → StatementTree → marked.Query

@@ -1,17 +1,21 @@
 ghost use Rattle.std.specs.Prelude.{◌≡◌, map, IfOk, Some, string_bytes};
 ghost use Rattle.serde_json.specs.View.{view};
+ghost use Rattle.sql_node.specs.Pieces.{pieces};
+ghost use Rattle.sql_node.specs.View.{select_statement_tree};
 ghost use Rattle.sql_pass.specs.Pieces.{text_of};
-ghost use Rattle.sql_tool.specs.Answer.{value_data, type_data, bound_data, accepted as accepted_data, refused as refused_data};
-ghost use Rattle.sql_tool.specs.Pieces.{statement_pieces, binds_of, column_type, is_safe_in};
-ghost use Rattle.sql_tool.specs.Statement.{column_tree, statement_tree};
+ghost use Rattle.sql_tool.specs.Answer.{value_data, type_data, bound_data, statement_data, accepted as accepted_data, refused as refused_data};
+ghost use Rattle.sql_tool.specs.Pieces.{IsShort, binds_of, column_type, is_safe_in};
+ghost use Rattle.sql_tool.specs.Select.{as_select};
+ghost use Rattle.sql_tool.specs.Statement.{StatementTree};
 
+use crate::parts;
 use crate::rule::Rule;
-use crate::statement::{ColumnRef, Statement};
 use serde_json::{Value as Json, json};
 use sql_dialect::{Backend, Dialect, Mysql, Pg, QueryBuilder, Sqlite};
 use sql_document::type_name;
+use sql_expr::SelectStatement;
 use sql_pass::{Bound, PassError, QueryFragment, Value, debug_binds};
-use sql_schema::SqlType;
+use sql_schema::{Column, SqlType};
 use std::alloc::{AllocError, Global};
 
 fn value_json(alloc: Global, value: &Value) -> Result<Json, AllocError>
@@ -72,12 +76,12 @@ fn binds_json(alloc: Global, binds: &[Bound]) -> Result<Vec<Json>, AllocError>
     Ok(all)
 }
 
-fn columns_json(alloc: Global, columns: &[ColumnRef<'_>]) -> Result<Vec<Json>, AllocError>
-    ensures { IfOk result (λ v. map view v.items ≡ map type_data (map column_type (map column_tree columns.now))) }
+fn columns_json(alloc: Global, columns: &[&Column]) -> Result<Vec<Json>, AllocError>
+    ensures { IfOk result (λ v. map view v.items ≡ map type_data (map column_type (map (λ c. c.now) columns.now))) }
 {
     let mut all = Vec::new(alloc);
     for column in columns {
-        all.push(type_json(alloc, column.column.ty)?)?;
+        all.push(type_json(alloc, column.ty())?)?;
     }
     Ok(all)
 }
@@ -86,9 +90,10 @@ fn columns_json(alloc: Global, columns: &[ColumnRef<'_>]) -> Result<Vec<Json>, A
 fn text<DB: Backend>(
     alloc: Global,
     backend: &DB,
-    statement: &Statement<'_>,
+    statement: &SelectStatement,
 ) -> Result<String, AllocError>
-    ensures { IfOk result (λ s. string_bytes s ≡ text_of DB.speaks 0 (statement_pieces (statement_tree statement.now))) }
+    requires { IsShort DB.speaks (select_statement_tree statement.now) }
+    ensures { IfOk result (λ t. string_bytes t ≡ text_of DB.speaks 0 (pieces DB.speaks (select_statement_tree statement.now))) }
 {
     match statement.to_sql(backend.query_builder(alloc), backend) {
         Ok(builder) => Ok(builder.finish()),
@@ -102,51 +107,67 @@ fn text<DB: Backend>(
 fn binds<DB: Backend>(
     alloc: Global,
     backend: &DB,
-    statement: &Statement<'_>,
+    statement: &SelectStatement,
 ) -> Result<Vec<Bound>, AllocError>
-    ensures { IfOk result (λ v. v.items ≡ binds_of (statement_tree statement.now)) }
+    ensures { (s : StatementTree) → select_statement_tree statement.now ≡ as_select s → IfOk result (λ v. v.items ≡ binds_of s) }
 {
     debug_binds(alloc, backend, statement)
 }
 
 /// Whether the statement, prepared once, serves for other values.
-fn is_safe<DB: Backend>(backend: &DB, statement: &Statement<'_>) -> bool
-    ensures { result ≡ is_safe_in DB.speaks (statement_tree statement.now) }
+fn is_safe<DB: Backend>(backend: &DB, statement: &SelectStatement) -> bool
+    ensures { (s : StatementTree) → select_statement_tree statement.now ≡ as_select s → result ≡ is_safe_in DB.speaks s }
 {
     statement.is_safe_to_cache_prepared(backend)
+}
+
+/// `{"binds":[["Integer",1]],"columns":["Integer"],"id":1,"safe":true,"sql":"SELECT .."}`.
+fn statement_json(
+    alloc: Global,
+    binds: &[Bound],
+    columns: &[&Column],
+    id: u64,
+    safe: bool,
+    text: &str,
+) -> Result<Json, AllocError>
+    ensures { IfOk result (λ v. view v ≡ statement_data binds.now (map column_type (map (λ c. c.now) columns.now)) (Some id) safe text.now) }
+{
+    let binds = binds_json(alloc, binds)?;
+    let columns = columns_json(alloc, columns)?;
+    json!(in alloc; {
+        "binds": binds,
+        "columns": columns,
+        "id": id,
+        "safe": safe,
+        "sql": text,
+    })
 }
 
 fn accept_for<DB: Backend>(
     alloc: Global,
     backend: &DB,
     id: u64,
-    statement: &Statement<'_>,
+    statement: &SelectStatement,
 ) -> Result<Json, AllocError>
-    ensures { IfOk result (λ v. view v ≡ accepted_data DB.speaks (Some id) (statement_tree statement.now)) }
+    requires { IsShort DB.speaks (select_statement_tree statement.now) }
+    ensures { (s : StatementTree) → select_statement_tree statement.now ≡ as_select s → IfOk result (λ v. view v ≡ accepted_data DB.speaks (Some id) s) }
 {
     let text = text(alloc, backend, statement)?;
     let binds = binds(alloc, backend, statement)?;
-    let binds = binds_json(alloc, &binds)?;
-    let columns = columns_json(alloc, &statement.columns)?;
+    let columns = parts::columns(alloc, &statement.select)?;
     let safe = is_safe(backend, statement);
-    json!(in alloc; {
-        "binds": binds,
-        "columns": columns,
-        "id": id,
-        "safe": safe,
-        "sql": text.as_str(),
-    })
+    statement_json(alloc, &binds, &columns, id, safe, text.as_str())
 }
 
-/// The answer to a request that is accepted:
-/// `{"binds":[["Integer",1]],"columns":["Integer"],"id":1,"safe":true,"sql":"SELECT .."}`.
+/// The answer to a request that is accepted: the text and the values of its statement, and what else is told of it.
 pub fn accepted(
     alloc: Global,
     dialect: Dialect,
     id: u64,
-    statement: &Statement<'_>,
+    statement: &SelectStatement,
 ) -> Result<Json, AllocError>
-    ensures { IfOk result (λ v. view v ≡ accepted_data dialect (Some id) (statement_tree statement.now)) }
+    requires { IsShort dialect (select_statement_tree statement.now) }
+    ensures { (s : StatementTree) → select_statement_tree statement.now ≡ as_select s → IfOk result (λ v. view v ≡ accepted_data dialect (Some id) s) }
 {
     match dialect {
         Dialect::Pg => accept_for(alloc, &Pg, id, statement),

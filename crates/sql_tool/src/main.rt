@@ -3,12 +3,12 @@
 
 mod answer;
 mod line;
+mod parts;
 mod rule;
 mod run;
 mod shape;
 mod statement;
 mod status;
-mod walk;
 
 use run::run;
 use sql_stream::{StdSink, StdSource};

@@ -1,11 +1,16 @@
-ghost use Rattle.std.specs.Prelude.{◌≡◌, map};
+ghost use Rattle.std.specs.Prelude.{◌≡◌, map, None, option_map, IfOk};
 ghost use Rattle.std.specs.List.{list_any};
-ghost use Rattle.sql_tool.specs.Rules.{fits as value_fits, is_out_of_scope, is_ill_typed, of_condition, least_broken as first_broken, rule_text};
-ghost use Rattle.sql_tool.specs.Statement.{column_tree, condition_tree, statement_tree};
+ghost use Rattle.sql_node.specs.View.{select_statement_tree};
+ghost use Rattle.sql_tool.specs.Parts.{condition_tree};
+ghost use Rattle.sql_tool.specs.Rules.{fits as value_fits, is_foreign as is_foreign_to, is_ill_typed, of_condition, least_broken as first_broken, rule_text};
+ghost use Rattle.sql_tool.specs.Select.{as_select};
+ghost use Rattle.sql_tool.specs.Statement.{StatementTree, a_list};
 
-use crate::statement::{ColumnRef, Condition, Statement};
+use crate::parts::{self, Condition};
+use sql_expr::SelectStatement;
 use sql_pass::Value;
-use sql_schema::{Base, SqlType};
+use sql_schema::{Base, Column, SqlType, Table};
+use std::alloc::{AllocError, Global};
 
 /// A rule that a statement has to keep.
 #[derive(Debug, Clone, Copy, PartialEq, Eq)]
@@ -48,60 +53,72 @@ fn fits(ty: SqlType, value: &Value) -> bool
     }
 }
 
-fn is_foreign(statement: &Statement<'_>, column: &ColumnRef<'_>) -> bool
-    ensures { result ≡ is_out_of_scope (statement_tree statement.now) (column_tree column.now) }
+fn is_foreign(table: &Table, column: &Column) -> bool
+    ensures { result ≡ is_foreign_to table.now column.now }
 {
-    column.table.name() != statement.from.name()
+    column.table().name() != table.name()
 }
 
-fn any_is_foreign(statement: &Statement<'_>, columns: &[ColumnRef<'_>]) -> bool
-    ensures { result ≡ list_any (is_out_of_scope (statement_tree statement.now)) (map column_tree columns.now) }
+fn any_is_foreign(table: &Table, columns: &[&Column]) -> bool
+    ensures { result ≡ list_any (is_foreign_to table.now) (map (λ c. c.now) columns.now) }
 {
     for column in columns {
-        if is_foreign(statement, column) {
+        if is_foreign(table, column) {
             return true;
         }
     }
     false
 }
 
-fn condition_is_foreign(statement: &Statement<'_>) -> bool
-    ensures { result ≡ of_condition (λ c. is_out_of_scope (statement_tree statement.now) c.column) (statement_tree statement.now).condition }
+fn condition_is_foreign(table: &Table, condition: &Option<Condition<'_>>) -> bool
+    ensures { result ≡ of_condition (λ c. is_foreign_to table.now c.column) (option_map condition_tree condition.now) }
 {
-    match &statement.condition {
+    match condition {
         None => false,
-        Some(condition) => is_foreign(statement, &condition.column),
+        Some(condition) => is_foreign(table, condition.column),
     }
 }
 
 fn ill_typed(condition: &Condition<'_>) -> bool
     ensures { result ≡ is_ill_typed (condition_tree condition.now) }
 {
-    condition.column.column.ty != condition.ty || !fits(condition.ty, condition.value)
+    condition.column.ty() != condition.ty || !fits(condition.ty, condition.value)
 }
 
-fn condition_is_ill_typed(statement: &Statement<'_>) -> bool
-    ensures { result ≡ of_condition is_ill_typed (statement_tree statement.now).condition }
+fn condition_is_ill_typed(condition: &Option<Condition<'_>>) -> bool
+    ensures { result ≡ of_condition is_ill_typed (option_map condition_tree condition.now) }
 {
-    match &statement.condition {
+    match condition {
         None => false,
         Some(condition) => ill_typed(condition),
     }
 }
 
-/// The first rule that the statement breaks, in the order of their declaration.
+/// The first rule that is broken by a statement that reads this table, selects these columns and has this condition.
 #[tactic(auto, unfolding(crate::specs::Rules::least_broken))]
-pub fn least_broken(statement: &Statement<'_>) -> Option<Rule>
-    ensures { result ≡ first_broken (statement_tree statement.now) }
+fn broken_by(table: &Table, columns: &[&Column], condition: &Option<Condition<'_>>) -> Option<Rule>
+    ensures { result ≡ first_broken (record { from = table.now; selected = a_list (map (λ c. c.now) columns.now); condition = option_map condition_tree condition.now; limit = None }) }
 {
-    if statement.columns.is_empty() {
+    if columns.is_empty() {
         return Some(Rule::EmptyList);
     }
-    if any_is_foreign(statement, &statement.columns) || condition_is_foreign(statement) {
+    if any_is_foreign(table, columns) || condition_is_foreign(table, condition) {
         return Some(Rule::NotInScope);
     }
-    if condition_is_ill_typed(statement) {
+    if condition_is_ill_typed(condition) {
         return Some(Rule::TypeMismatch);
     }
     None
+}
+
+/// The first rule that the statement breaks, in the order of their declaration.
+pub fn least_broken(alloc: Global, statement: &SelectStatement) -> Result<Option<Rule>, AllocError>
+    ensures { (s : StatementTree) → select_statement_tree statement.now ≡ as_select s → IfOk result (λ o. o ≡ first_broken s) }
+{
+    let Some(table) = parts::table(&statement.from) else {
+        return Ok(None);
+    };
+    let columns = parts::columns(alloc, &statement.select)?;
+    let condition = parts::where_condition(&statement.where_clause);
+    Ok(broken_by(table, &columns, &condition))
 }

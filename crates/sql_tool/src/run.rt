@@ -64,10 +64,15 @@ fn write_answers<K: Sink>(
     ensures no_fault { IfErr result (λ e. e ≡ WriteError.Memory → K.faults sink.new ≡ K.faults sink.old) }
     ensures ok { OnOk result (K.faults sink.new ≡ K.faults sink.old) }
 {
-    let tables = document.schema.tables();
     let mut seen: BTreeMap<Shape, u64> = BTreeMap::new(alloc);
     for (before, request) in document.requests.as_slice().iter().enumerate() {
-        let text = request_line(alloc, tables, &mut seen, before as u64 + 1, request)?;
+        let text = request_line(
+            alloc,
+            &document.schema,
+            &mut seen,
+            before as u64 + 1,
+            request,
+        )?;
         write_all(sink, text.as_bytes())?;
     }
     Ok(())

@@ -1,13 +1,17 @@
 ghost use Rattle.std.specs.Prelude.{◌≡◌, [], ◌∷◌, map, Some, IfOk, OnOk, option_map};
 ghost use Rattle.std.specs.Option.{option_or, unwrap_or};
 ghost use Rattle.std.specs.BTreeMap as tree;
+ghost use Rattle.sql_node.specs.View.{select_statement_tree};
+ghost use Rattle.sql_tool.specs.Parts.{condition_tree};
+ghost use Rattle.sql_tool.specs.Select.{as_select};
 ghost use Rattle.sql_tool.specs.Shape.{column_shape as shape_of_column, condition_shape as shape_of_condition, selection_shape as shape_of_selection, shape_of, place};
-ghost use Rattle.sql_tool.specs.Statement.{column_tree, condition_tree, statement_tree};
+ghost use Rattle.sql_tool.specs.Statement.{StatementTree};
 
-use crate::statement::{ColumnRef, Condition, SelectKind, Statement};
+use crate::parts::{self, Condition, SelectKind};
 use sql_dialect::Dialect;
 use sql_document::Operator;
-use sql_schema::{SqlList, SqlText, SqlType};
+use sql_expr::SelectStatement;
+use sql_schema::{Column, SqlList, SqlText, SqlType, Table};
 use std::alloc::{AllocError, Global};
 use std::collections::BTreeMap;
 
@@ -38,16 +42,22 @@ pub struct Shape {
     pub limited: bool,
 }
 
-fn column_shape(alloc: Global, column: &ColumnRef<'_>) -> Result<ColumnShape, AllocError>
-    ensures { IfOk result (λ s. s ≡ shape_of_column (column_tree column.now)) }
+fn text(alloc: Global, text: &str) -> Result<SqlText, AllocError>
+    ensures { IfOk result (λ t. t ≡ text.now) }
 {
-    let table = SqlText::from(String::from_str(alloc, column.table.name())?);
-    let column = column.column.name.try_clone(alloc)?;
+    Ok(SqlText::from(String::from_str(alloc, text)?))
+}
+
+fn column_shape(alloc: Global, column: &Column) -> Result<ColumnShape, AllocError>
+    ensures { IfOk result (λ s. s ≡ shape_of_column column.now) }
+{
+    let table = text(alloc, column.table().name())?;
+    let column = text(alloc, column.name())?;
     Ok(ColumnShape { table, column })
 }
 
-fn column_shapes(alloc: Global, columns: &[ColumnRef<'_>]) -> Result<Vec<ColumnShape>, AllocError>
-    ensures { IfOk result (λ v. v.items ≡ map shape_of_column (map column_tree columns.now)) }
+fn column_shapes(alloc: Global, columns: &[&Column]) -> Result<Vec<ColumnShape>, AllocError>
+    ensures { IfOk result (λ v. v.items ≡ map shape_of_column (map (λ c. c.now) columns.now)) }
 {
     let mut all = Vec::new(alloc);
     for column in columns {
@@ -59,9 +69,9 @@ fn column_shapes(alloc: Global, columns: &[ColumnRef<'_>]) -> Result<Vec<ColumnS
 fn selection_shape(
     alloc: Global,
     kind: SelectKind,
-    columns: &[ColumnRef<'_>],
+    columns: &[&Column],
 ) -> Result<SqlList<ColumnShape>, AllocError>
-    ensures { IfOk result (λ l. l ≡ shape_of_selection kind (map column_tree columns.now)) }
+    ensures { IfOk result (λ l. l ≡ shape_of_selection kind (map (λ c. c.now) columns.now)) }
 {
     match kind {
         SelectKind::Default => Ok(SqlList::from(Vec::new(alloc))),
@@ -72,14 +82,14 @@ fn selection_shape(
 
 fn condition_shape(
     alloc: Global,
-    condition: &Option<Condition<'_>>,
+    condition: Option<Condition<'_>>,
 ) -> Result<Option<ConditionShape>, AllocError>
-    ensures { IfOk result (λ s. s ≡ option_map shape_of_condition (option_map condition_tree condition.now)) }
+    ensures { IfOk result (λ s. s ≡ option_map shape_of_condition (option_map condition_tree condition.entry)) }
 {
     match condition {
         None => Ok(None),
         Some(condition) => {
-            let column = column_shape(alloc, &condition.column)?;
+            let column = column_shape(alloc, condition.column)?;
             Ok(Some(ConditionShape {
                 operator: condition.operator,
                 column,
@@ -89,24 +99,36 @@ fn condition_shape(
     }
 }
 
+/// The name of the table, or an empty one where there is none.
+fn table_shape(alloc: Global, table: Option<&Table>) -> Result<SqlText, AllocError>
+    ensures { IfOk result (λ t. t ≡ unwrap_or (option_map (λ t. t.name) (option_map (λ t. t.now) table.entry)) []) }
+{
+    match table {
+        None => text(alloc, ""),
+        Some(table) => text(alloc, table.name()),
+    }
+}
+
 /// The shape of a statement for a dialect.
 pub fn request_shape(
     alloc: Global,
     dialect: Dialect,
-    statement: &Statement<'_>,
+    statement: &SelectStatement,
 ) -> Result<Shape, AllocError>
-    ensures { IfOk result (λ s. s ≡ shape_of dialect (statement_tree statement.now)) }
+    ensures { (s : StatementTree) → select_statement_tree statement.now ≡ as_select s → IfOk result (λ v. v ≡ shape_of dialect s) }
 {
-    let table = SqlText::from(String::from_str(alloc, statement.from.name())?);
-    let columns = selection_shape(alloc, statement.kind, &statement.columns)?;
-    let condition = condition_shape(alloc, &statement.condition)?;
+    let table = table_shape(alloc, parts::table(&statement.from))?;
+    let kind = parts::kind(&statement.select);
+    let columns = parts::columns(alloc, &statement.select)?;
+    let columns = selection_shape(alloc, kind, &columns)?;
+    let condition = condition_shape(alloc, parts::where_condition(&statement.where_clause))?;
     Ok(Shape {
         dialect,
         table,
-        kind: statement.kind,
+        kind,
         columns,
         condition,
-        limited: statement.limit.is_some(),
+        limited: statement.limit_offset.limit_clause.is_some(),
     })
 }
 

@@ -1,89 +1,42 @@
-ghost use Rattle.std.specs.Prelude.{◌≡◌, [], ◌∷◌, map, option_map, IfOk};
-ghost use Rattle.sql_tool.specs.Statement.{ColumnTree, column_tree, condition_tree, statement_tree, table_named, column_named, in_table, column_in, columns_in, selected, called, called_by, simple as simple_tree, statement_in};
+ghost use Rattle.std.specs.Prelude.{◌≡◌, map, option_map, IfOk};
+ghost use Rattle.sql_node.specs.Tree as tree;
+ghost use Rattle.sql_node.specs.View.{expr_tree, select_clause_tree, select_statement_tree};
+ghost use Rattle.sql_tool.specs.Select.{as_select, comparison, list_of, select_of};
+ghost use Rattle.sql_tool.specs.Statement.{StatementTree, column_in, columns_in, selected_in, called, called_by, simple as simple_tree, statement_in};
 
 use sql_document::{Call, ColumnName, Comparison, Operator, Query, Selection};
-use sql_pass::Value;
-use sql_schema::{ColumnDecl, SqlType, Table};
-use std::alloc::{AllocError, Global};
-
-/// A column of a table: `"users"."id"`.
-#[derive(Debug, Clone, Copy)]
-pub struct ColumnRef<'d> {
-    pub table: &'d Table,
-    pub column: &'d ColumnDecl,
-}
-
-/// A column compared with a value: `("users"."id" = $1)`.
-#[derive(Debug, Clone, Copy)]
-pub struct Condition<'d> {
-    pub operator: Operator,
-    pub column: ColumnRef<'d>,
-    pub ty: SqlType,
-    pub value: &'d Value,
-}
-
-/// Where a statement's columns come from.
-#[derive(Debug, Clone, Copy, PartialEq, Eq, PartialOrd, Ord)]
-pub enum SelectKind {
-    /// They are all columns of the table.
-    Default,
-    /// One column was selected.
-    Column,
-    /// A list was selected.
-    List,
-}
-
-/// `SELECT columns FROM from WHERE condition LIMIT limit`.
-#[derive(Debug, Drop)]
-pub struct Statement<'d> {
-    pub from: &'d Table,
-    pub kind: SelectKind,
-    pub columns: Vec<ColumnRef<'d>>,
-    pub condition: Option<Condition<'d>>,
-    pub limit: Option<i64>,
-}
-
-fn find_table<'d>(tables: &'d [Table], name: &str) -> Option<&'d Table>
-    ensures { option_map (λ t. t.now) result ≡ table_named name.now tables.now }
-{
-    for table in tables {
-        if table.name() == name {
-            return Some(table);
-        }
-    }
-    None
-}
-
-fn find_column<'d>(table: &'d Table, name: &str) -> Option<&'d ColumnDecl>
-    ensures { option_map (λ c. c.now) result ≡ column_named name.now table.now }
-{
-    for column in table.columns() {
-        if column.name.as_str() == name {
-            return Some(column);
-        }
-    }
-    None
-}
+use sql_expr::{
+    DistinctClause, Expr, ExpressionMethods, FromClause, GroupByClause, HavingClause,
+    LimitOffsetClause, LockingClause, Marks, OrderClause, SelectClause, SelectStatement, Source,
+    TableSource, WhereClause,
+};
+use sql_schema::{Column, NoMemory, Schema, SqlList, Table};
+use std::alloc::Global;
 
 #[tactic(auto, unfolding(crate::specs::Statement::column_in))]
-fn look_up_column<'d>(tables: &'d [Table], name: &ColumnName) -> Option<ColumnRef<'d>>
-    ensures { option_map column_tree result ≡ column_in tables.now name.now }
+fn look_up_column(
+    alloc: Global,
+    schema: &Schema,
+    name: &ColumnName,
+) -> Result<Option<Column>, NoMemory>
+    ensures { IfOk result (λ o. o ≡ column_in schema.now.tables name.now) }
 {
-    let table = find_table(tables, name.table.as_str())?;
-    let column = find_column(table, name.column.as_str())?;
-    Some(ColumnRef { table, column })
+    match schema.table(name.table.as_str()) {
+        None => Ok(None),
+        Some(table) => table.column(alloc, name.column.as_str()),
+    }
 }
 
-fn look_up_columns<'d>(
+fn look_up_columns(
     alloc: Global,
-    tables: &'d [Table],
+    schema: &Schema,
     names: &[ColumnName],
-) -> Result<Option<Vec<ColumnRef<'d>>>, AllocError>
-    ensures { IfOk result (λ o. option_map (λ v. map column_tree v.items) o ≡ columns_in tables.now names.now) }
+) -> Result<Option<Vec<Column>>, NoMemory>
+    ensures { IfOk result (λ o. option_map (λ v. v.items) o ≡ columns_in schema.now.tables names.now) }
 {
     let mut columns = Vec::new(alloc);
     for name in names {
-        match look_up_column(tables, name) {
+        match look_up_column(alloc, schema, name)? {
             None => return Ok(None),
             Some(column) => columns.push(column)?,
         }
@@ -91,112 +44,149 @@ fn look_up_columns<'d>(
     Ok(Some(columns))
 }
 
-fn table_columns<'d>(alloc: Global, table: &'d Table) -> Result<Vec<ColumnRef<'d>>, AllocError>
-    ensures { IfOk result (λ v. map column_tree v.items ≡ map (in_table table.now) table.now.columns) }
+/// `"users"."id", "users"."name"`.
+#[tactic(auto, using(sql_node::proofs::Trees::opens_expr))]
+fn column_list(alloc: Global, columns: Vec<Column>) -> Result<Expr, NoMemory>
+    ensures { IfOk result (λ e. expr_tree e ≡ list_of columns.items) }
 {
-    let mut columns = Vec::new(alloc);
-    for column in table.columns() {
-        columns.push(ColumnRef { table, column })?;
+    let mut exprs = Vec::new(alloc);
+    for column in columns {
+        exprs.push(Expr::Column(column))?;
     }
-    Ok(columns)
-}
-
-fn one_column<'d>(alloc: Global, column: ColumnRef<'d>) -> Result<Vec<ColumnRef<'d>>, AllocError>
-    ensures { IfOk result (λ v. map column_tree v.items ≡ column_tree column.entry ∷ []) }
-{
-    let mut columns = Vec::new(alloc);
-    columns.push(column)?;
-    Ok(columns)
+    Ok(Expr::List(SqlList::from(exprs)))
 }
 
 /// All columns of the table, in the order of their declaration: `SELECT "users"."id", "users"."name" FROM "users"`.
-fn simple<'d>(alloc: Global, table: &'d Table) -> Result<Statement<'d>, AllocError>
-    ensures { IfOk result (λ s. statement_tree s ≡ simple_tree table.now) }
+#[tactic(auto, using(sql_node::proofs::Trees::opens_select_statement, sql_node::proofs::Trees::opens_select_clause, sql_node::proofs::Trees::opens_from_clause, sql_node::proofs::Trees::opens_source, sql_node::proofs::Trees::opens_distinct_clause, sql_node::proofs::Trees::opens_where_clause, sql_node::proofs::Trees::opens_order_clause, sql_node::proofs::Trees::opens_group_by_clause, sql_node::proofs::Trees::opens_having_clause))]
+fn simple(alloc: Global, table: &Table) -> Result<SelectStatement, NoMemory>
+    ensures { IfOk result (λ v. select_statement_tree v ≡ as_select (simple_tree table.now)) }
 {
-    let columns = table_columns(alloc, table)?;
-    Ok(Statement {
-        from: table,
-        kind: SelectKind::Default,
-        columns,
-        condition: None,
-        limit: None,
+    let columns = column_list(alloc, table.all_columns(alloc)?)?;
+    let table = table.try_clone(alloc)?;
+    Ok(SelectStatement {
+        select: SelectClause::DefaultSelectClause(columns),
+        from: FromClause::FromClause(Source::Table(TableSource {
+            table,
+            only: false,
+            sample: None,
+        })),
+        distinct: DistinctClause::NoDistinctClause,
+        where_clause: WhereClause::NoWhereClause,
+        order: OrderClause::NoOrderClause,
+        limit_offset: LimitOffsetClause {
+            limit_clause: None,
+            offset_clause: None,
+        },
+        group_by: GroupByClause::NoGroupByClause,
+        having: HavingClause::NoHavingClause,
+        locking: LockingClause::NoLockingClause,
+        marks: Marks::none(),
     })
 }
 
-fn select<'d>(
+#[tactic(auto, using(sql_node::proofs::Trees::opens_select_clause, sql_node::proofs::Trees::opens_expr))]
+fn look_up_selection(
     alloc: Global,
-    tables: &'d [Table],
-    mut statement: Statement<'d>,
+    schema: &Schema,
     selection: &Selection,
-) -> Result<Option<Statement<'d>>, AllocError>
-    ensures { IfOk result (λ o. option_map statement_tree o ≡ selected tables.now (statement_tree statement.entry) selection.now) }
+) -> Result<Option<SelectClause>, NoMemory>
+    ensures { IfOk result (λ o. option_map select_clause_tree o ≡ option_map select_of (selected_in schema.now.tables selection.now)) }
 {
     match selection {
-        Selection::Column(name) => match look_up_column(tables, name) {
+        Selection::Column(name) => match look_up_column(alloc, schema, name)? {
             None => Ok(None),
-            Some(column) => {
-                statement.kind = SelectKind::Column;
-                statement.columns = one_column(alloc, column)?;
-                Ok(Some(statement))
-            }
+            Some(column) => Ok(Some(SelectClause::SelectClause(Expr::Column(column)))),
         },
-        Selection::List(names) => match look_up_columns(alloc, tables, names.as_slice())? {
+        Selection::List(names) => match look_up_columns(alloc, schema, names.as_slice())? {
             None => Ok(None),
-            Some(columns) => {
-                statement.kind = SelectKind::List;
-                statement.columns = columns;
-                Ok(Some(statement))
-            }
+            Some(columns) => Ok(Some(SelectClause::SelectClause(column_list(alloc, columns)?))),
         },
     }
 }
 
-fn filter<'d>(
-    tables: &'d [Table],
-    mut statement: Statement<'d>,
-    comparison: &'d Comparison,
-) -> Option<Statement<'d>>
-    ensures { option_map statement_tree result ≡ called tables.now (statement_tree statement.entry) (Call.Filter comparison.now) }
-{
-    let column = look_up_column(tables, &comparison.column)?;
-    statement.condition = Some(Condition {
-        operator: comparison.operator,
-        column,
-        ty: comparison.ty,
-        value: &comparison.value,
-    });
-    Some(statement)
-}
-
-fn call<'d>(
+fn select(
     alloc: Global,
-    tables: &'d [Table],
-    mut statement: Statement<'d>,
-    call: &'d Call,
-) -> Result<Option<Statement<'d>>, AllocError>
-    ensures { IfOk result (λ o. option_map statement_tree o ≡ called tables.now (statement_tree statement.entry) call.now) }
+    schema: &Schema,
+    mut statement: SelectStatement,
+    selection: &Selection,
+) -> Result<Option<SelectStatement>, NoMemory>
+    ensures { (s : StatementTree) → select_statement_tree statement ≡ as_select s
+        → IfOk result (λ o. option_map select_statement_tree o ≡ option_map as_select (called schema.now.tables s (Call.Select selection.now))) }
 {
-    match call {
-        Call::Select(selection) => select(alloc, tables, statement, selection),
-        Call::Filter(comparison) => Ok(filter(tables, statement, comparison)),
-        Call::Limit(limit) => {
-            statement.limit = Some(*limit);
+    match look_up_selection(alloc, schema, selection)? {
+        None => Ok(None),
+        Some(clause) => {
+            statement.select = clause;
             Ok(Some(statement))
         }
     }
 }
 
-fn call_each<'d>(
+/// `(left = right)`.
+fn compare(alloc: Global, operator: Operator, left: Expr, right: Expr) -> Result<Expr, NoMemory>
+    ensures { IfOk result (λ e. expr_tree e ≡ tree.compared (comparison operator) (expr_tree left) (expr_tree right)) }
+{
+    match operator {
+        Operator::Eq => left.eq(alloc, right),
+        Operator::Ne => left.ne(alloc, right),
+        Operator::Gt => left.gt(alloc, right),
+        Operator::Ge => left.ge(alloc, right),
+        Operator::Lt => left.lt(alloc, right),
+        Operator::Le => left.le(alloc, right),
+    }
+}
+
+fn filter(
     alloc: Global,
-    tables: &'d [Table],
-    start: Statement<'d>,
-    calls: &'d [Call],
-) -> Result<Option<Statement<'d>>, AllocError>
-    ensures { IfOk result (λ o. option_map statement_tree o ≡ called_by tables.now (statement_tree start.entry) calls.now) }
+    schema: &Schema,
+    mut statement: SelectStatement,
+    comparison: &Comparison,
+) -> Result<Option<SelectStatement>, NoMemory>
+    ensures { (s : StatementTree) → select_statement_tree statement ≡ as_select s
+        → IfOk result (λ o. option_map select_statement_tree o ≡ option_map as_select (called schema.now.tables s (Call.Filter comparison.now))) }
+{
+    match look_up_column(alloc, schema, &comparison.column)? {
+        None => Ok(None),
+        Some(column) => {
+            let value = Expr::Value(comparison.ty, comparison.value.try_clone(alloc)?);
+            let condition = compare(alloc, comparison.operator, Expr::Column(column), value)?;
+            statement.where_clause = WhereClause::WhereClause(condition);
+            Ok(Some(statement))
+        }
+    }
+}
+
+fn call(
+    alloc: Global,
+    schema: &Schema,
+    mut statement: SelectStatement,
+    call: &Call,
+) -> Result<Option<SelectStatement>, NoMemory>
+    ensures { (s : StatementTree) → select_statement_tree statement ≡ as_select s
+        → IfOk result (λ o. option_map select_statement_tree o ≡ option_map as_select (called schema.now.tables s call.now)) }
+{
+    match call {
+        Call::Select(selection) => select(alloc, schema, statement, selection),
+        Call::Filter(comparison) => filter(alloc, schema, statement, comparison),
+        Call::Limit(limit) => {
+            statement.limit_offset.limit_clause = Some(*limit);
+            Ok(Some(statement))
+        }
+    }
+}
+
+fn call_each(
+    alloc: Global,
+    schema: &Schema,
+    start: SelectStatement,
+    calls: &[Call],
+) -> Result<Option<SelectStatement>, NoMemory>
+    ensures { (s : StatementTree) → select_statement_tree start ≡ as_select s
+        → IfOk result (λ o. option_map select_statement_tree o ≡ option_map as_select (called_by schema.now.tables s calls.now)) }
 {
     let mut statement = start;
     for next in calls {
-        match call(alloc, tables, statement, next)? {
+        match call(alloc, schema, statement, next)? {
             None => return Ok(None),
             Some(changed) => statement = changed,
         }
@@ -204,20 +194,20 @@ fn call_each<'d>(
     Ok(Some(statement))
 }
 
-/// The statement of a query over these tables, or none where the query names a table or a column that they lack.
+/// The statement of a query over the schema, or none where the query names a table or a column that it lacks.
 #[tactic(auto, unfolding(crate::specs::Statement::statement_in))]
-pub fn look_up<'d>(
+pub fn look_up(
     alloc: Global,
-    tables: &'d [Table],
-    query: &'d Query,
-) -> Result<Option<Statement<'d>>, AllocError>
-    ensures { IfOk result (λ o. option_map statement_tree o ≡ statement_in tables.now query.now) }
+    schema: &Schema,
+    query: &Query,
+) -> Result<Option<SelectStatement>, NoMemory>
+    ensures { IfOk result (λ o. option_map select_statement_tree o ≡ option_map as_select (statement_in schema.now.tables query.now)) }
 {
-    match find_table(tables, query.table.as_str()) {
+    match schema.table(query.table.as_str()) {
         None => Ok(None),
         Some(table) => {
             let start = simple(alloc, table)?;
-            call_each(alloc, tables, start, query.calls.as_slice())
+            call_each(alloc, schema, start, query.calls.as_slice())
         }
     }
 }

@@ -3,7 +3,7 @@ use crate::status::Status;
 use sql_dialect::{Backend, Mysql, Pg, QueryBuilder, Sqlite};
 use sql_document::read_document;
 use sql_pass::{Bound, BoundRef, Value};
-use sql_schema::{Base, SqlBytes, SqlList, SqlText, SqlType};
+use sql_schema::{Base, JoinableDecl, SqlBytes, SqlList, SqlText, SqlType};
 use sql_stream::{MemorySink, MemorySource, SureSink, SureSource, read_all};
 use std::alloc::{AllocError, Global};
 use std::num::NonZeroUsize;
@@ -202,6 +202,15 @@ fn every_call_once(rt: HostRuntime) -> Result<(), Fail> {
     assert_eq!(rt; built(alloc, Pg)?.as_str(), "SELECT \"a\"$1$3");
     assert_eq!(rt; built(alloc, Mysql)?.as_str(), "SELECT `a`??");
     assert_eq!(rt; built(alloc, Sqlite)?.as_str(), "SELECT `a`??");
+    let input = read_all(alloc, &mut source(alloc, Vec::new(alloc))?, INPUT.len())?;
+    assert_eq!(rt; input.as_slice(), INPUT.as_bytes());
+    assert_eq!(rt; read_document(alloc, &input)?.requests.as_slice().len(), 2);
+    Ok(())
+}
+
+#[test]
+fn every_copy_once(rt: HostRuntime) -> Result<(), Fail> {
+    let alloc = rt.alloc();
     let text = SqlText::from(String::from_str(alloc, "a")?);
     assert_eq!(rt; text.try_clone(alloc)?.into_inner().as_str(), "a");
     let bytes = SqlBytes::from(vec![in alloc; 7u8; 2]?);
@@ -223,8 +232,30 @@ fn every_call_once(rt: HostRuntime) -> Result<(), Fail> {
     );
     let list = Bound::List(ty, SqlList::from(Vec::new(alloc)));
     assert!(rt; matches!(list.view().to_bound(alloc)?, Bound::List(_, _)));
-    let input = read_all(alloc, &mut source(alloc, Vec::new(alloc))?, INPUT.len())?;
-    assert_eq!(rt; input.as_slice(), INPUT.as_bytes());
-    assert_eq!(rt; read_document(alloc, &input)?.requests.as_slice().len(), 2);
+    Ok(())
+}
+
+#[test]
+fn a_copy_of_a_column(rt: HostRuntime) -> Result<(), Fail> {
+    let alloc = rt.alloc();
+    let document = read_document(alloc, INPUT.as_bytes())?;
+    let table = document.schema.table("foo").ok_or("no table")?;
+    let column = table.column(alloc, "id")?.ok_or("no column")?;
+    assert_eq!(rt; column.try_clone(alloc)?.name(), "id");
+    Ok(())
+}
+
+fn text(alloc: Global, text: &str) -> Result<SqlText, Fail> {
+    Ok(SqlText::from(String::from_str(alloc, text)?))
+}
+
+#[test]
+fn a_copy_of_a_relation(rt: HostRuntime) -> Result<(), Fail> {
+    let alloc = rt.alloc();
+    let child = text(alloc, "posts")?;
+    let key = text(alloc, "user_id")?;
+    let parent = text(alloc, "users")?;
+    let relation = JoinableDecl { child, key, parent };
+    assert!(rt; relation.try_clone(alloc)? == relation);
     Ok(())
 }

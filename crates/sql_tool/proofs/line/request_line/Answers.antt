@@ -16,5 +16,5 @@ returns-clause-told c =
     let r = c.args.request.now in
     let place = λ (s : StatementTree). Some (unwrap_or (tree.get (shape_ord.ghosts).cmp c.args.seen.now (shape_of r.dialect s)) c.args.number) in
     let is = c.in_ok-value.ensures.told in
-    let whole : has_float (view c.in_ok-value.value) ≡ false = ap has_float is ∙ float-answer r.dialect place (statement_in c.args.tables.now r.query) in
+    let whole : has_float (view c.in_ok-value.value) ≡ false = ap has_float is ∙ float-answer r.dialect place (statement_in c.args.schema.now.tables r.query) in
     c.in_ok-push_str.ensures.bytes ∙ ap (λ t. t ++ 10 ∷ []) (c.in_ok-text.ensures.text whole ∙ ap compact_text is)

@@ -45,7 +45,7 @@ returns-in_err-write_all-clause-front g c =
     let (done, after, cut, more) = c.in_err-write_all.ensures.front in
     let within : l.before < length d.requests = search rules in
     let is : r ≡ get_or d.requests l.before r = search rules in
-    let told : c.as_bytes.result.now ≡ answer_line r.dialect (λ s. Some (unwrap_or (f (shape_of r.dialect s)) (l.before + 1))) (statement_in d.schema.tables r.query) = c.as_bytes.ensures.value ∙ rw c.tables-tables.ensures.tables at c.in_ok-text.ensures.told in
+    let told : c.as_bytes.result.now ≡ answer_line r.dialect (λ s. Some (unwrap_or (f (shape_of r.dialect s)) (l.before + 1))) (statement_in d.schema.tables r.query) = c.as_bytes.ensures.value ∙ c.in_ok-text.ensures.told in
     let next = comes d l.before r within is f c.as_bytes.result.now l.invariant.seen told in
     let p = err_from_is_err_and c.from_residual-in_err-write_all.result c.from_residual-in_err-write_all.ensures.1 in
     rw p.1 (written ++ done, (after ++ rest d l.before r within is, front_of _ written _ _ done after (split ∙ ap (λ t. written ++ t) next) cut), Appends-trans _ _ _ _ _ appended more)
@@ -59,12 +59,12 @@ loop-before-preserved g c =
     let (written, split, appended) = l.invariant.written in
     let within : l.before < length d.requests = search rules in
     let is : r ≡ get_or d.requests l.before r = search rules in
-    let told : c.as_bytes.result.now ≡ answer_line r.dialect (λ s. Some (unwrap_or (f (shape_of r.dialect s)) (l.before + 1))) (statement_in d.schema.tables r.query) = c.as_bytes.ensures.value ∙ rw c.tables-tables.ensures.tables at c.in_ok-text.ensures.told in
+    let told : c.as_bytes.result.now ≡ answer_line r.dialect (λ s. Some (unwrap_or (f (shape_of r.dialect s)) (l.before + 1))) (statement_in d.schema.tables r.query) = c.as_bytes.ensures.value ∙ c.in_ok-text.ensures.told in
     let next = comes d l.before r within is f c.as_bytes.result.now l.invariant.seen told in
     record {
       written = (written ++ c.as_bytes.result.now, one_more _ written _ _ (split ∙ ap (λ t. written ++ t) next), Appends-trans _ _ _ _ _ appended c.in_ok-write_all.ensures.all);
       faults = c.in_ok-write_all.ensures.cause.kept ∙ l.invariant.faults;
-      seen = told-more d.schema.tables d.requests l.before r within is f (l.before + 1) refl l.invariant.seen (tree.get (shape_ord.ghosts).cmp c.request_line.new.seen) (rw c.tables-tables.ensures.tables at c.in_ok-text.ensures.kept);
+      seen = told-more d.schema.tables d.requests l.before r within is f (l.before + 1) refl l.invariant.seen (tree.get (shape_ord.ghosts).cmp c.request_line.new.seen) c.in_ok-text.ensures.kept;
     }
 
 pub returns-clause-all : goal.returns-clause-all
