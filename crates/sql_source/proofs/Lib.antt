@@ -1,0 +1,5 @@
+pub mod CountLaws
+pub mod FieldLaws
+pub mod JoinLaws
+pub mod OriginLaws
+pub mod SelectionLaws

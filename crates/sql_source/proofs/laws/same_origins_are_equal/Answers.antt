@@ -1,0 +1,5 @@
+use Rattle.sql_source.proofs.OriginLaws.{same-equal}
+use Rattle.sql_source.proofs.laws.same_origins_are_equal.Goals as goal
+
+pub returns : goal.returns
+returns c = same-equal
