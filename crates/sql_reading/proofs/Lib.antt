@@ -1,0 +1,7 @@
+pub mod Lists
+pub mod TextLaws
+pub mod ValueLaws
+pub mod FitsLaws
+pub mod ReadingLaws
+pub mod Parts
+pub mod Worked

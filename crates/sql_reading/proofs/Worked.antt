@@ -1,0 +1,68 @@
+-- The examples have texts, and their normal trees are those that the grammar has as examples.
+use Rattle.std.proofs.Common.{◌≡◌, length, refl, rules, arith, subst, List}
+use Rattle.std.specs.Prelude.{ℕ, decimal, codes}
+use Rattle.std.proofs.lemmas.Fmt.{decimal_digit}
+use Rattle.sql_dialect.specs.declared.backend.Dialect.{Dialect}
+use Rattle.sql_dialect.specs.declared.backend.Dialect.TheVariants.{Pg, Mysql, Sqlite}
+use Rattle.sql_grammar.specs.Examples.{pg_query, mysql_query, sqlite_query}
+use Rattle.sql_grammar.specs.MarkTree.{Query}
+use Rattle.sql_grammar.specs.Reading.{OnlyReading}
+use Rattle.sql_pass.specs.Pieces.{one, text_of, values_of}
+use Rattle.sql_pass.specs.Parts.{side_open, from_open}
+use Rattle.sql_leaf.specs.Limits.{least_limit, largest_limit}
+use Rattle.sql_leaf.specs.Locks.{skip_locked}
+use Rattle.sql_node.specs.Pieces.{pieces, distinct_on_open, group_by, order_by_sql}
+use Rattle.sql_node.specs.Tree.{Statement}
+use Rattle.sql_reading.specs.Examples.{pg_statement, mysql_statement, sqlite_statement, pg_text, mysql_text, sqlite_text}
+use Rattle.sql_reading.specs.Filled.{normal}
+use Rattle.sql_reading.specs.HasText.{HasText, HasNumbers}
+use Rattle.sql_reading.proofs.ReadingLaws.{only_reading}
+
+read-as : (d : Dialect) (s : Statement) (text : List ℕ) (q : Query) → HasText d s → HasNumbers d (length (values_of (pieces d s))) → text_of d 0 (pieces d s) ≡ text → normal d s ≡ q → OnlyReading d text q
+read-as d s text q h k w e = subst (λ t. OnlyReading d t q) w (subst (λ t. OnlyReading d (text_of d 0 (pieces d s)) t) e (only_reading d s h k))
+
+digit-1 : decimal 1 ≡ codes "1"
+digit-1 = decimal_digit 1 (omega arith)
+
+digit-2 : decimal 2 ≡ codes "2"
+digit-2 = decimal_digit 2 (omega arith)
+
+digit-3 : decimal 3 ≡ codes "3"
+digit-3 = decimal_digit 3 (omega arith)
+
+pg-has-text : HasText Pg pg_statement
+pg-has-text = search (rules, arith)
+
+pg-has-numbers : HasNumbers Pg (length (values_of (pieces Pg pg_statement)))
+unfolding one
+pg-has-numbers = omega arith
+
+pub pg-text : text_of Pg 0 (pieces Pg pg_statement) ≡ pg_text
+unfolding one distinct_on_open order_by_sql skip_locked
+pg-text = rw (digit-1, digit-2, digit-3) refl
+
+pub pg : OnlyReading Pg pg_text pg_query
+pg = read-as Pg pg_statement pg_text pg_query pg-has-text pg-has-numbers pg-text refl
+
+mysql-has-text : HasText Mysql mysql_statement
+mysql-has-text = search (rules, arith)
+
+mysql-normal : normal Mysql mysql_statement ≡ mysql_query
+mysql-normal = rw digit-1 refl
+
+pub mysql-text : text_of Mysql 0 (pieces Mysql mysql_statement) ≡ mysql_text
+unfolding one side_open order_by_sql largest_limit
+mysql-text = rw digit-1 refl
+
+pub mysql : OnlyReading Mysql mysql_text mysql_query
+mysql = read-as Mysql mysql_statement mysql_text mysql_query mysql-has-text tt mysql-text mysql-normal
+
+sqlite-has-text : HasText Sqlite sqlite_statement
+sqlite-has-text = search (rules, arith)
+
+pub sqlite-text : text_of Sqlite 0 (pieces Sqlite sqlite_statement) ≡ sqlite_text
+unfolding one side_open from_open group_by least_limit
+sqlite-text = refl
+
+pub sqlite : OnlyReading Sqlite sqlite_text sqlite_query
+sqlite = read-as Sqlite sqlite_statement sqlite_text sqlite_query sqlite-has-text tt sqlite-text refl

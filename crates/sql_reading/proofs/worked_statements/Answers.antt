@@ -1,0 +1,12 @@
+use Rattle.sql_reading.proofs.Worked as worked
+use Rattle.sql_reading.proofs.worked_statements.Goals as goal
+
+pub returns : goal.returns
+returns c = record {
+  pg_written = worked.pg-text;
+  pg_read = worked.pg;
+  mysql_written = worked.mysql-text;
+  mysql_read = worked.mysql;
+  sqlite_written = worked.sqlite-text;
+  sqlite_read = worked.sqlite;
+}

@@ -1,0 +1,4 @@
+pub mod Words
+pub mod Filled
+pub mod HasText
+pub mod Examples

@@ -1,0 +1,3 @@
+pub mod ClauseLaws
+pub mod FindLaws
+pub mod OrderLaws

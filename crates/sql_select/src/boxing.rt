@@ -1,0 +1,85 @@
+#![tactic(auto, using(sql_pass::proofs::Walking::walking, sql_node::proofs::Trees::opens_select_statement, sql_node::proofs::Trees::opens_boxed_select_statement))]
+
+ghost use Rattle.std.specs.Prelude.{◌≡◌};
+ghost use Rattle.sql_leaf.specs.declared.limit_offset.LimitOffsetClause.{LimitOffsetClause};
+ghost use Rattle.sql_node.specs.Pieces.{pieces};
+ghost use Rattle.sql_node.specs.View.{boxed_select_statement_tree};
+ghost use Rattle.sql_pass.specs.Held.{held};
+ghost use Rattle.sql_pass.specs.Walks.{Walks};
+ghost use Rattle.sql_select.specs.Changes.{boxed_for, dropped_lock};
+
+use crate::query::Query;
+use sql_dialect::Backend;
+use sql_expr::{
+    BoxedLimitOffset, BoxedSelectStatement, LimitOffsetClause, LockingClause, Marks,
+    SelectStatement,
+};
+use sql_pass::{AstPass, PassError, QueryFragment};
+
+/// A clause as it stands in a boxed statement.
+pub trait IntoBoxedClause {
+    ghost rows: { Self → LimitOffsetClause };
+
+    /// In MySQL and SQLite an offset alone is then written behind the greatest limit.
+    fn into_boxed(self) -> BoxedLimitOffset
+        ensures { result.0 ≡ rows self };
+}
+
+/// A statement for one dialect.
+pub trait BoxedDsl: Query {
+    /// The same statement for the backend's dialect. A lock is dropped and leaves a mark, and the statement is refused once it
+    /// is checked.
+    fn internal_into_boxed<DB: Backend>(self, backend: &DB) -> BoxedSelectStatement
+        ensures { boxed_select_statement_tree result ≡ boxed_for DB.speaks (Self.statement self) };
+}
+
+/// The walk of a boxed statement.
+pub trait BoxedQueryHelper: Query {
+    /// Writes the statement, as `walk_ast` does.
+    fn build_query<DB: Backend>(&self, pass: &mut AstPass<DB>) -> Result<(), PassError>
+        ensures { Walks DB.speaks (held DB.QueryBuilder.text DB.QueryBuilder.count pass.old) (pieces DB.speaks (Self.statement self.now)) result (held DB.QueryBuilder.text DB.QueryBuilder.count pass.new) };
+}
+
+impl IntoBoxedClause for LimitOffsetClause {
+    ghost rows = { λ r. r };
+
+    fn into_boxed(self) -> BoxedLimitOffset {
+        BoxedLimitOffset(self)
+    }
+}
+
+fn without_lock(marks: Marks, lock: LockingClause) -> Marks
+    ensures { result ≡ dropped_lock lock marks }
+{
+    match lock {
+        LockingClause::NoLockingClause => marks,
+        LockingClause::LockingClause(_, _) => Marks {
+            boxed_lock: true,
+            ..marks
+        },
+    }
+}
+
+impl BoxedDsl for SelectStatement {
+    fn internal_into_boxed<DB: Backend>(self, backend: &DB) -> BoxedSelectStatement {
+        BoxedSelectStatement {
+            select: self.select,
+            from: self.from,
+            distinct: self.distinct,
+            where_clause: self.where_clause,
+            order: self.order,
+            limit_offset: self.limit_offset,
+            group_by: self.group_by,
+            having: self.having,
+            marks: without_lock(self.marks, self.locking),
+            dialect: backend.dialect(),
+            nullable: false,
+        }
+    }
+}
+
+impl BoxedQueryHelper for BoxedSelectStatement {
+    fn build_query<DB: Backend>(&self, pass: &mut AstPass<DB>) -> Result<(), PassError> {
+        self.walk_ast(pass)
+    }
+}
