@@ -1,9 +1,9 @@
 -- Which JSON is a value of a type.
-use Rattle.std.specs.Prelude.{ℕ, ◌&&◌, not, ℤ, pos, negsuc, int_lt, nat_le, List, Bool, Option, Some, None, option_map, option_and_then, is_some, if◌then◌else◌}
+use Rattle.std.specs.Prelude.{ℕ, ◌&&◌, not, ℤ, pos, negsuc, int_lt, nat_lt, nat_le, List, Bool, Option, Some, None, option_map, option_and_then, is_some, if◌then◌else◌}
 use Rattle.std.specs.List.{list_any}
 use Rattle.std.specs.Result.{result_ok}
 use Rattle.serde_json.specs.Data.{Data}
-use Rattle.serde_json.specs.Find.{as_null, as_bool, as_number, as_i64, as_str}
+use Rattle.serde_json.specs.Find.{as_null, as_bool, as_number, as_i64, as_u64, as_str}
 use Rattle.hex.specs.Hex.{decode_of}
 use Rattle.sql_schema.specs.declared.types.Base.{Base}
 use Rattle.sql_schema.specs.declared.types.Base.TheVariants as base
@@ -27,6 +27,13 @@ small_of d = whole d >>= within (negsuc 32767) (pos 32768)
 
 abbrev pub medium_of : Data → Option ℤ
 medium_of d = whole d >>= within (negsuc 2147483647) (pos 2147483648)
+
+-- such a number of 32 bits and no sign
+abbrev pub below : ℕ → ℕ → Option ℕ
+below high n = if nat_lt n high then Some n else None
+
+abbrev pub place_number_of : Data → Option ℕ
+place_number_of d = (as_number d >>= as_u64) >>= below 4294967296
 
 abbrev pub is_upper_case : ℕ → Bool
 is_upper_case c = nat_le 65 c && nat_le c 90

@@ -1,75 +1,88 @@
+ghost use Rattle.std.specs.Prelude.{◌≡◌, map};
+ghost use Rattle.serde_json.specs.View.{view, items_view};
+ghost use Rattle.sql_document.specs.Documents.{request_of, document_of, of_data, document};
+ghost use Rattle.sql_document.specs.Members.{Gives, each};
+ghost use Rattle.sql_document.specs.Trees.{request_tree, document_tree};
+
+use crate::float::has_float;
+use crate::member::{items, text};
+use crate::names::dialect;
+use crate::query::whole_query;
+use crate::refusal::Refusal;
+use crate::schema::schema;
+use serde_json::Value;
 use sql_dialect::Dialect;
-use sql_pass::Value;
-use sql_schema::{Schema, SqlList, SqlText, SqlType};
-
-/// A column by its lookup names: `["users","id"]`.
-#[derive(Debug, Drop)]
-pub struct ColumnName {
-    pub table: SqlText,
-    pub column: SqlText,
-}
-
-/// How a column is compared with a value.
-#[derive(Debug, Clone, Copy, PartialEq, Eq, PartialOrd, Ord)]
-pub enum Operator {
-    /// `=`
-    Eq,
-    /// `!=`
-    Ne,
-    /// `>`
-    Gt,
-    /// `>=`
-    Ge,
-    /// `<`
-    Lt,
-    /// `<=`
-    Le,
-}
-
-/// A column compared with a value: `{"eq":[{"col":["users","id"]},{"bind":["Integer",1]}]}`.
-#[derive(Debug, Drop)]
-pub struct Comparison {
-    pub operator: Operator,
-    pub column: ColumnName,
-    pub ty: SqlType,
-    pub value: Value,
-}
-
-/// What is selected: `{"col":["users","id"]}`, or an array of such columns.
-#[derive(Debug, Drop)]
-pub enum Selection {
-    Column(ColumnName),
-    List(SqlList<ColumnName>),
-}
-
-/// A call of a query.
-#[derive(Debug, Drop)]
-pub enum Call {
-    /// `["select",SELECTION]`
-    Select(Selection),
-    /// `["filter",COMPARISON]`
-    Filter(Comparison),
-    /// `["limit",5]`
-    Limit(i64),
-}
-
-/// A query over one table: `{"from":{"table":"users"},"calls":[CALL..]}`.
-#[derive(Debug, Drop)]
-pub struct Query {
-    pub table: SqlText,
-    pub calls: SqlList<Call>,
-}
+use sql_schema::{Schema, SqlList};
+use sql_syntax::Query;
+use std::alloc::Global;
 
 /// A query for one dialect: `{"dialect":"Pg","query":QUERY}`.
-#[derive(Debug, Drop)]
+#[derive(Drop)]
 pub struct Request {
     pub dialect: Dialect,
     pub query: Query,
 }
 
 /// A schema and requests: `{"schema":SCHEMA,"requests":[REQUEST..]}`.
-#[derive(Debug, Drop)]
+#[derive(Drop)]
 pub struct Document {
     pub schema: Schema,
     pub requests: SqlList<Request>,
+}
+
+#[tactic(auto, unfolding(crate::specs::Documents::request_of))]
+fn one_request(alloc: Global, value: &Value) -> Result<Request, Refusal>
+    ensures { Gives request_tree result (request_of (view value.now)) }
+{
+    let name = text(value, "dialect").ok_or(Refusal::NotADocument)?;
+    let dialect = dialect(name).ok_or(Refusal::NotADocument)?;
+    let asked = value.get("query").ok_or(Refusal::NotADocument)?;
+    let query = whole_query(alloc, asked)?;
+    Ok(Request { dialect, query })
+}
+
+fn each_request(alloc: Global, items: &Vec<Value>) -> Result<Vec<Request>, Refusal>
+    ensures { Gives (λ v. map request_tree v.items) result (each request_of (items_view items.now.items)) }
+{
+    let mut all = Vec::new(alloc);
+    for item in items {
+        all.push(one_request(alloc, item)?)?;
+    }
+    Ok(all)
+}
+
+#[tactic(auto, unfolding(crate::specs::Documents::document_of))]
+fn whole(alloc: Global, value: &Value) -> Result<Document, Refusal>
+    ensures { Gives document_tree result (document_of (view value.now)) }
+{
+    let declarations = value.get("schema").ok_or(Refusal::NotADocument)?;
+    let schema = schema(alloc, declarations)?;
+    let requests = items(value, "requests").ok_or(Refusal::NotADocument)?;
+    let requests = each_request(alloc, requests)?;
+    Ok(Document {
+        schema,
+        requests: SqlList::from(requests),
+    })
+}
+
+#[tactic(auto, unfolding(crate::specs::Documents::of_data))]
+fn of_value(alloc: Global, value: &Value) -> Result<Document, Refusal>
+    ensures { Gives document_tree result (of_data (view value.now)) }
+{
+    if has_float(value) {
+        return Err(Refusal::NotADocument);
+    }
+    whole(alloc, value)
+}
+
+/// The document that the bytes are.
+#[tactic(auto, unfolding(crate::specs::Documents::document, crate::specs::Documents::of_data))]
+pub fn read_document(alloc: Global, bytes: &[u8]) -> Result<Document, Refusal>
+    ensures { Gives document_tree result (document bytes.now) }
+{
+    match Value::from_slice(alloc, bytes) {
+        Ok(value) => of_value(alloc, &value),
+        Err(error) if error.is_memory() => Err(Refusal::NoMemory),
+        Err(_) => Err(Refusal::NotADocument),
+    }
 }

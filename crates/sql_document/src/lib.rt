@@ -4,16 +4,23 @@
 //! checked in this one pass. Whether the schema has the names is looked up afterwards, request by request.
 #![tactic(auto)]
 
-mod decode;
+mod call;
 mod document;
+mod each;
+mod expr;
 mod float;
 mod member;
 mod names;
+mod order;
 mod query;
 mod refusal;
+mod schema;
+mod source;
+#[cfg(test)]
+mod tests;
 mod value;
 
-pub use decode::read_document;
-pub use document::{Call, ColumnName, Comparison, Document, Operator, Query, Request, Selection};
+pub use document::{Document, Request, read_document};
 pub use names::{dialect_name, type_name};
+pub use query::depth_changes_nothing;
 pub use refusal::Refusal;

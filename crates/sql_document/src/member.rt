@@ -1,7 +1,7 @@
-ghost use Rattle.std.specs.Prelude.{◌≡◌, option_map, string_bytes};
+ghost use Rattle.std.specs.Prelude.{◌≡◌, option_map, string_bytes, option_and_then};
 ghost use Rattle.serde_json.specs.View.{view, items_view, members_view};
-ghost use Rattle.serde_json.specs.Find.{get};
-ghost use Rattle.sql_document.specs.Form.{text_at, text_or, items_at, has as has_member, single, only_member as sole_member, alone as alone_at, two_of};
+ghost use Rattle.serde_json.specs.Find.{get, at, as_str};
+ghost use Rattle.sql_document.specs.Members.{text_at, text_or, items_at, has as has_member, single, only_member as sole_member, two_of, argument_of};
 
 use serde_json::{Map, Value};
 
@@ -36,7 +36,8 @@ pub(crate) fn has(value: &Value, name: &str) -> bool
     value.get(name).is_some()
 }
 
-fn only_entry(members: &Map<String, Value>) -> Option<(&String, &Value)>
+/// The member of an object of one.
+pub(crate) fn only_entry(members: &Map<String, Value>) -> Option<(&String, &Value)>
     ensures { option_map (λ p. (string_bytes p.0.now, view p.1.now)) result ≡ single (members_view members.now.entries) }
 {
     let mut rest = members.iter();
@@ -47,20 +48,12 @@ fn only_entry(members: &Map<String, Value>) -> Option<(&String, &Value)>
     Some(first)
 }
 
-/// The one member of an object of one.
+/// The name and the value of the member of an object of one.
 pub(crate) fn only_member(value: &Value) -> Option<(&str, &Value)>
     ensures { option_map (λ p. (p.0.now, view p.1.now)) result ≡ sole_member (view value.now) }
 {
     let (name, member) = only_entry(value.as_object()?)?;
     Some((name.as_str(), member))
-}
-
-/// The value in an object whose only member has that name.
-pub(crate) fn alone<'v>(value: &'v Value, name: &str) -> Option<&'v Value>
-    ensures { option_map (λ v. view v.now) result ≡ alone_at name.now (view value.now) }
-{
-    let (only, member) = only_member(value)?;
-    if only == name { Some(member) } else { None }
 }
 
 /// The items of an array of two.
@@ -74,4 +67,21 @@ pub(crate) fn two(value: &Value) -> Option<(&Value, &Value)>
     let first = &items[0];
     let second = &items[1];
     Some((first, second))
+}
+
+/// An item that is a text.
+pub(crate) fn text_item(value: &Value, place: usize) -> Option<&str>
+    ensures { option_map (λ s. s.now) result ≡ option_and_then as_str (at place (view value.now)) }
+{
+    value.get(place)?.as_str()
+}
+
+/// The item after the first, in an array of two.
+pub(crate) fn argument(value: &Value) -> Option<&Value>
+    ensures { option_map (λ v. view v.now) result ≡ argument_of (view value.now) }
+{
+    if value.get(2usize).is_some() {
+        return None;
+    }
+    value.get(1usize)
 }

@@ -1,9 +1,10 @@
 ghost use Rattle.std.specs.Prelude.{◌≡◌, true, false};
-ghost use Rattle.sql_document.specs.Names.{dialect_text, dialect_of, operator_of, type_text, type_of};
+ghost use Rattle.sql_document.specs.Names.{dialect_text, dialect_of, type_text, type_of, unary_of, binary_of, quantified_of, side_join_of, method_of, direction_of, plain_of, clause_of, join_of, combination_of};
 
-use crate::document::Operator;
-use sql_dialect::Dialect;
+use sql_dialect::{Combinator, Dialect, DuplicateRule};
+use sql_leaf::{Direction, JoinKind, TablesampleMethod};
 use sql_schema::{Base, SqlType};
+use sql_syntax::{BinaryOperator, ClauseCall, PlainCall, Quantified, UnaryOperator};
 
 /// The name of a dialect in a document and in an answer.
 pub fn dialect_name(dialect: Dialect) -> &'static str
@@ -48,21 +49,6 @@ pub(crate) fn dialect(name: &str) -> Option<Dialect>
     }
 }
 
-#[tactic(auto, unfolding(crate::specs::Names::operator_of))]
-pub(crate) fn comparison_operator(name: &str) -> Option<Operator>
-    ensures { result ≡ operator_of name.now }
-{
-    match name {
-        "eq" => Some(Operator::Eq),
-        "ne" => Some(Operator::Ne),
-        "gt" => Some(Operator::Gt),
-        "ge" => Some(Operator::Ge),
-        "lt" => Some(Operator::Lt),
-        "le" => Some(Operator::Le),
-        _ => None,
-    }
-}
-
 fn not_null(base: Base) -> Option<SqlType>
     ensures { result ≡ Some (record { base = base; nullable = false }) }
 {
@@ -98,6 +84,141 @@ pub(crate) fn sql_type(name: &str) -> Option<SqlType>
         "Text?" => nullable(Base::Text),
         "Binary?" => nullable(Base::Binary),
         "Bool?" => nullable(Base::Bool),
+        _ => None,
+    }
+}
+
+#[tactic(auto, unfolding(crate::specs::Names::unary_of))]
+pub(crate) fn unary_operator(name: &str) -> Option<UnaryOperator>
+    ensures { result ≡ unary_of name.now }
+{
+    match name {
+        "not" => Some(UnaryOperator::Not),
+        "is_null" => Some(UnaryOperator::IsNull),
+        "is_not_null" => Some(UnaryOperator::IsNotNull),
+        "nullable" => Some(UnaryOperator::Nullable),
+        "count" => Some(UnaryOperator::Count),
+        _ => None,
+    }
+}
+
+#[tactic(auto, unfolding(crate::specs::Names::binary_of))]
+pub(crate) fn binary_operator(name: &str) -> Option<BinaryOperator>
+    ensures { result ≡ binary_of name.now }
+{
+    match name {
+        "eq" => Some(BinaryOperator::Eq),
+        "ne" => Some(BinaryOperator::Ne),
+        "gt" => Some(BinaryOperator::Gt),
+        "ge" => Some(BinaryOperator::Ge),
+        "lt" => Some(BinaryOperator::Lt),
+        "le" => Some(BinaryOperator::Le),
+        "and" => Some(BinaryOperator::And),
+        "or" => Some(BinaryOperator::Or),
+        _ => None,
+    }
+}
+
+#[tactic(auto, unfolding(crate::specs::Names::quantified_of))]
+pub(crate) fn quantified_operator(name: &str) -> Option<Quantified>
+    ensures { result ≡ quantified_of name.now }
+{
+    match name {
+        "eq_any" => Some(Quantified::EqAny),
+        "ne_all" => Some(Quantified::NeAll),
+        _ => None,
+    }
+}
+
+#[tactic(auto, unfolding(crate::specs::Names::side_join_of))]
+pub(crate) fn side_join(name: &str) -> Option<JoinKind>
+    ensures { result ≡ side_join_of name.now }
+{
+    match name {
+        "inner" => Some(JoinKind::Inner),
+        "left" => Some(JoinKind::LeftOuter),
+        _ => None,
+    }
+}
+
+#[tactic(auto, unfolding(crate::specs::Names::method_of))]
+pub(crate) fn sample_method(name: &str) -> Option<TablesampleMethod>
+    ensures { result ≡ method_of name.now }
+{
+    match name {
+        "bernoulli" => Some(TablesampleMethod::BernoulliMethod),
+        "system" => Some(TablesampleMethod::SystemMethod),
+        _ => None,
+    }
+}
+
+#[tactic(auto, unfolding(crate::specs::Names::direction_of))]
+pub(crate) fn direction(name: &str) -> Option<Direction>
+    ensures { result ≡ direction_of name.now }
+{
+    match name {
+        "asc" => Some(Direction::Asc),
+        "desc" => Some(Direction::Desc),
+        _ => None,
+    }
+}
+
+#[tactic(auto, unfolding(crate::specs::Names::plain_of))]
+pub(crate) fn plain_call(name: &str) -> Option<PlainCall>
+    ensures { result ≡ plain_of name.now }
+{
+    match name {
+        "distinct" => Some(PlainCall::Distinct),
+        "count" => Some(PlainCall::Count),
+        "nullable" => Some(PlainCall::Nullable),
+        "for_update" => Some(PlainCall::ForUpdate),
+        "for_no_key_update" => Some(PlainCall::ForNoKeyUpdate),
+        "for_share" => Some(PlainCall::ForShare),
+        "for_key_share" => Some(PlainCall::ForKeyShare),
+        "skip_locked" => Some(PlainCall::SkipLocked),
+        "no_wait" => Some(PlainCall::NoWait),
+        _ => None,
+    }
+}
+
+#[tactic(auto, unfolding(crate::specs::Names::clause_of))]
+pub(crate) fn clause_call(name: &str) -> Option<ClauseCall>
+    ensures { result ≡ clause_of name.now }
+{
+    match name {
+        "distinct_on" => Some(ClauseCall::DistinctOn),
+        "group_by" => Some(ClauseCall::GroupBy),
+        "select" => Some(ClauseCall::Select),
+        "filter" => Some(ClauseCall::Filter),
+        "or_filter" => Some(ClauseCall::OrFilter),
+        "having" => Some(ClauseCall::Having),
+        _ => None,
+    }
+}
+
+#[tactic(auto, unfolding(crate::specs::Names::join_of))]
+pub(crate) fn join_kind(name: &str) -> Option<JoinKind>
+    ensures { result ≡ join_of name.now }
+{
+    match name {
+        "inner_join" => Some(JoinKind::Inner),
+        "left_outer_join" => Some(JoinKind::LeftOuter),
+        "left_join" => Some(JoinKind::LeftOuter),
+        _ => None,
+    }
+}
+
+#[tactic(auto, unfolding(crate::specs::Names::combination_of))]
+pub(crate) fn combination(name: &str) -> Option<(Combinator, DuplicateRule)>
+    ensures { result ≡ combination_of name.now }
+{
+    match name {
+        "union" => Some((Combinator::Union, DuplicateRule::Distinct)),
+        "union_all" => Some((Combinator::Union, DuplicateRule::All)),
+        "intersect" => Some((Combinator::Intersect, DuplicateRule::Distinct)),
+        "intersect_all" => Some((Combinator::Intersect, DuplicateRule::All)),
+        "except" => Some((Combinator::Except, DuplicateRule::Distinct)),
+        "except_all" => Some((Combinator::Except, DuplicateRule::All)),
         _ => None,
     }
 }

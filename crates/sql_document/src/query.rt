@@ -1,140 +1,100 @@
-ghost use Rattle.std.specs.Prelude.{◌≡◌, option_map, count_by};
-ghost use Rattle.serde_json.specs.Find.{get};
-ghost use Rattle.serde_json.specs.View.{view};
-ghost use Rattle.sql_document.specs.Form.{Gives, each_if_any, column_name_of, comparison_of, selection_of, call_named, call_of, is_filter, source_of, query_of};
+#![tactic(auto, using(sql_syntax::proofs::Trees::opens_query, sql_syntax::proofs::Trees::opens_query_start))]
 
-use crate::decode::{Decode, decode_each, decode_if_any};
-use crate::document::{Call, ColumnName, Comparison, Query, Selection};
-use crate::member::{alone, has, only_member, text, two};
-use crate::names::{comparison_operator, sql_type};
+ghost use Rattle.std.specs.Prelude.{◌≡◌, ◌<◌, ℕ, map, option_map};
+ghost use Rattle.serde_json.specs.Data.{Data, depth as nesting};
+ghost use Rattle.serde_json.specs.View.{view, items_view};
+ghost use Rattle.sql_document.specs.Members.{Gives, each, each_if_any};
+ghost use Rattle.sql_document.specs.Queries.{start_of, query_from, expr_of, source_of, query_of, call_of, nesting_bound};
+ghost use Rattle.sql_syntax.specs.View.{query_tree, query_start_tree, call_tree};
+
+use crate::call::call;
+use crate::expr::expr;
 use crate::refusal::Refusal;
-use crate::value::value;
+use crate::source::source;
 use serde_json::Value;
-use sql_schema::{SqlList, SqlText};
+use sql_schema::SqlList;
+use sql_syntax::{Call, Query, QueryStart, all_stand};
 use std::alloc::Global;
 
-#[tactic(auto, unfolding(crate::specs::Form::column_name_of))]
-fn column_name(alloc: Global, value: &Value) -> Result<ColumnName, Refusal>
-    ensures { Gives (λ c. c) result (column_name_of (view value.now)) }
+/// More than the deepest value that `serde_json` reads.
+const NESTING_BOUND: u32 = 128;
+
+#[cycle(decode)]
+#[tactic(auto, unfolding(crate::specs::Queries::query_of), using(sql_syntax::proofs::Trees::opens_query))]
+pub(crate) fn query(alloc: Global, value: &Value, depth: u32) -> Result<Query, Refusal>
+    ensures { Gives query_tree result (query_of depth (view value.now)) }
 {
-    let names = alone(value, "col").ok_or(Refusal::NotADocument)?;
-    let (table, column) = two(names).ok_or(Refusal::NotADocument)?;
-    let table = table.as_str().ok_or(Refusal::NotADocument)?;
-    let column = column.as_str().ok_or(Refusal::NotADocument)?;
-    Ok(ColumnName {
-        table: SqlText::from(String::from_str(alloc, table)?),
-        column: SqlText::from(String::from_str(alloc, column)?),
+    if depth == 0 {
+        return Err(Refusal::NotADocument);
+    }
+    let start = start(alloc, value.get("from"), value.get("select"), depth - 1)?;
+    let calls = calls(alloc, value.get("calls"), depth - 1)?;
+    checked(start, calls)
+}
+
+/// A query whose calls stand, each on the form that the calls before it give.
+#[tactic(auto, unfolding(crate::specs::Queries::query_from), using(sql_syntax::proofs::Trees::opens_query))]
+fn checked(start: QueryStart, calls: Vec<Call>) -> Result<Query, Refusal>
+    ensures { Gives query_tree result (query_from (query_start_tree start) (map call_tree calls.items)) }
+{
+    if !all_stand(&calls) {
+        return Err(Refusal::NotADocument);
+    }
+    Ok(Query {
+        start,
+        calls: SqlList::from(calls),
     })
 }
 
-#[tactic(auto, unfolding(crate::specs::Form::comparison_of))]
-fn comparison(alloc: Global, json: &Value) -> Result<Comparison, Refusal>
-    ensures { Gives (λ c. c) result (comparison_of (view json.now)) }
+#[cycle(decode)]
+#[tactic(auto, using(sql_syntax::proofs::Trees::opens_query_start))]
+fn start(
+    alloc: Global,
+    from: Option<&Value>,
+    select: Option<&Value>,
+    depth: u32,
+) -> Result<QueryStart, Refusal>
+    ensures { Gives query_start_tree result (start_of (expr_of depth) (source_of depth) (option_map (λ v. view v.now) from.entry) (option_map (λ v. view v.now) select.entry)) }
 {
-    let (name, sides) = only_member(json).ok_or(Refusal::NotADocument)?;
-    let operator = comparison_operator(name).ok_or(Refusal::NotADocument)?;
-    let (left, right) = two(sides).ok_or(Refusal::NotADocument)?;
-    let column = column_name(alloc, left)?;
-    let bound = alone(right, "bind").ok_or(Refusal::NotADocument)?;
-    let (type_name, json) = two(bound).ok_or(Refusal::NotADocument)?;
-    let type_name = type_name.as_str().ok_or(Refusal::NotADocument)?;
-    let ty = sql_type(type_name).ok_or(Refusal::NotADocument)?;
-    let value = value(alloc, ty.base, json)?;
-    Ok(Comparison {
-        operator,
-        column,
-        ty,
-        value,
-    })
-}
-
-impl Decode for ColumnName {
-    ghost form = { column_name_of };
-
-    fn decode(alloc: Global, value: &Value) -> Result<ColumnName, Refusal> {
-        column_name(alloc, value)
-    }
-}
-
-#[tactic(auto, unfolding(crate::specs::Form::selection_of))]
-fn selection(alloc: Global, value: &Value) -> Result<Selection, Refusal>
-    ensures { Gives (λ s. s) result (selection_of (view value.now)) }
-{
-    match value.as_array() {
-        None => Ok(Selection::Column(column_name(alloc, value)?)),
-        Some(items) => {
-            let columns = decode_each(alloc, items)?;
-            Ok(Selection::List(SqlList::from(columns)))
-        }
-    }
-}
-
-#[tactic(auto, unfolding(crate::specs::Form::call_named))]
-fn call(alloc: Global, name: &str, argument: &Value) -> Result<Call, Refusal>
-    ensures { Gives (λ c. c) result (call_named name.now (view argument.now)) }
-{
-    match name {
-        "select" => Ok(Call::Select(selection(alloc, argument)?)),
-        "filter" => Ok(Call::Filter(comparison(alloc, argument)?)),
-        "limit" => Ok(Call::Limit(argument.as_i64().ok_or(Refusal::NotADocument)?)),
+    match (from, select) {
+        (Some(from), None) => Ok(QueryStart::From(source(alloc, from, depth)?)),
+        (None, Some(select)) => Ok(QueryStart::Select(expr(alloc, select, depth)?)),
         _ => Err(Refusal::NotADocument),
     }
 }
 
-impl Decode for Call {
-    ghost form = { call_of };
-
-    #[tactic(auto, unfolding(crate::specs::Form::call_of))]
-    fn decode(alloc: Global, value: &Value) -> Result<Call, Refusal> {
-        let (name, argument) = two(value).ok_or(Refusal::NotADocument)?;
-        let name = name.as_str().ok_or(Refusal::NotADocument)?;
-        call(alloc, name, argument)
-    }
-}
-
-fn filters_rows(call: &Call) -> bool
-    ensures { result ≡ is_filter call.now }
+#[cycle(decode)]
+fn calls(alloc: Global, value: Option<&Value>, depth: u32) -> Result<Vec<Call>, Refusal>
+    ensures { Gives (λ v. map call_tree v.items) result (each_if_any (call_of depth) (option_map (λ v. view v.now) value.entry)) }
 {
-    match call {
-        Call::Filter(_) => true,
-        Call::Select(_) | Call::Limit(_) => false,
-    }
-}
-
-fn filters(calls: &[Call]) -> usize
-    ensures { result ≡ count_by is_filter calls.now }
-{
-    let mut count = 0;
-    for call in calls {
-        if filters_rows(call) {
-            count += 1;
+    match value {
+        None => Ok(Vec::new(alloc)),
+        Some(value) => {
+            let items = value.as_array().ok_or(Refusal::NotADocument)?;
+            each_call(alloc, items, depth)
         }
     }
-    count
 }
 
-#[tactic(auto, unfolding(crate::specs::Form::source_of))]
-fn source(value: &Value) -> Option<&str>
-    ensures { option_map (λ s. s.now) result ≡ source_of (view value.now) }
+#[cycle(decode)]
+fn each_call(alloc: Global, items: &Vec<Value>, depth: u32) -> Result<Vec<Call>, Refusal>
+    ensures { Gives (λ v. map call_tree v.items) result (each (call_of depth) (items_view items.now.items)) }
 {
-    if has(value, "alias") || has(value, "join") || has(value, "only") || has(value, "sample") {
-        return None;
+    let mut all = Vec::new(alloc);
+    for item in items {
+        all.push(call(alloc, item, depth)?)?;
     }
-    text(value, "table")
+    Ok(all)
 }
 
-#[tactic(auto, unfolding(crate::specs::Form::query_of))]
-pub(crate) fn query(alloc: Global, value: &Value) -> Result<Query, Refusal>
-    ensures { Gives (λ q. q) result (query_of (view value.now)) }
+/// The query that a JSON value is.
+pub(crate) fn whole_query(alloc: Global, value: &Value) -> Result<Query, Refusal>
+    ensures { Gives query_tree result (query_of nesting_bound (view value.now)) }
 {
-    let from = value.get("from").ok_or(Refusal::NotADocument)?;
-    let table = source(from).ok_or(Refusal::NotADocument)?;
-    let calls: Vec<Call> = decode_if_any(alloc, value.get("calls"))?;
-    if has(value, "select") || filters(&calls) > 1 {
-        return Err(Refusal::NotADocument);
-    }
-    Ok(Query {
-        table: SqlText::from(String::from_str(alloc, table)?),
-        calls: SqlList::from(calls),
-    })
+    query(alloc, value, NESTING_BOUND)
 }
+
+/// Beyond a value's own depth, the bound on the nesting changes nothing.
+pub fn depth_changes_nothing()
+    ensures { (n m : ℕ) (d : Data) → nesting d < n → nesting d < m → query_of n d ≡ query_of m d }
+{}

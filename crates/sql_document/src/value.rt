@@ -1,8 +1,8 @@
 ghost use Rattle.std.specs.Prelude.{◌≡◌};
 ghost use Rattle.std.specs.List.{list_any};
-ghost use Rattle.serde_json.specs.View.{view};
-ghost use Rattle.sql_document.specs.Form.{Gives};
-ghost use Rattle.sql_document.specs.Scalar.{small_of, medium_of, is_upper_case, bytes_of, of_base, value_of};
+ghost use Rattle.serde_json.specs.View.{view, items_view};
+ghost use Rattle.sql_document.specs.Members.{Gives, each};
+ghost use Rattle.sql_document.specs.Scalar.{small_of, medium_of, place_number_of, is_upper_case, bytes_of, of_base, value_of};
 
 use crate::refusal::Refusal;
 use hex::FromHexError;
@@ -11,7 +11,7 @@ use sql_pass::Value;
 use sql_schema::{Base, SqlBytes, SqlText};
 use std::alloc::Global;
 
-fn small(value: &Json) -> Option<i16>
+pub(crate) fn small(value: &Json) -> Option<i16>
     ensures { result ≡ small_of (view value.now) }
 {
     let number = value.as_i64()?;
@@ -22,12 +22,24 @@ fn small(value: &Json) -> Option<i16>
     }
 }
 
-fn medium(value: &Json) -> Option<i32>
+pub(crate) fn medium(value: &Json) -> Option<i32>
     ensures { result ≡ medium_of (view value.now) }
 {
     let number = value.as_i64()?;
     if number >= -2147483648 && number < 2147483648 {
         Some(number as i32)
+    } else {
+        None
+    }
+}
+
+/// A place in an order.
+pub(crate) fn place_number(value: &Json) -> Option<u32>
+    ensures { result ≡ place_number_of (view value.now) }
+{
+    let number = value.as_u64()?;
+    if number < 4294967296 {
+        Some(number as u32)
     } else {
         None
     }
@@ -82,4 +94,19 @@ pub(crate) fn value(alloc: Global, base: Base, value: &Json) -> Result<Value, Re
         return Ok(Value::Null);
     }
     of_base_or_refused(alloc, base, value)
+}
+
+/// Values of one base.
+pub(crate) fn each_value(
+    alloc: Global,
+    base: Base,
+    items: &Vec<Json>,
+) -> Result<Vec<Value>, Refusal>
+    ensures { Gives (λ v. v.items) result (each (value_of base) (items_view items.now.items)) }
+{
+    let mut all = Vec::new(alloc);
+    for item in items {
+        all.push(value(alloc, base, item)?)?;
+    }
+    Ok(all)
 }

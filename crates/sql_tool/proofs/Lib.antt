@@ -1,11 +1,4 @@
-pub mod Found
 pub mod Headlines
+pub mod Judging
 pub mod Lines
-pub mod Mapped
-pub mod NamingLaws
-pub mod NormalLaws
-pub mod PartLaws
-pub mod PieceLaws
 pub mod Places
-pub mod Plain
-pub mod TextLaws

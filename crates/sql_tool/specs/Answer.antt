@@ -6,17 +6,18 @@ use Rattle.serde_json.specs.Find.{of_integer}
 use Rattle.hex.specs.Hex.{encode_lower}
 use Rattle.sql_dialect.specs.declared.backend.Dialect.{Dialect}
 use Rattle.sql_schema.specs.declared.types.SqlType.{SqlType}
-use Rattle.sql_pass.specs.Pieces.{text_of}
 use Rattle.sql_pass.specs.declared.value.Value.{Value}
 use Rattle.sql_pass.specs.declared.value.Value.TheVariants as V
 use Rattle.sql_pass.specs.declared.value.Bound.{Bound}
 use Rattle.sql_pass.specs.declared.value.Bound.TheVariants as B
 use Rattle.sql_document.specs.Names.{type_text}
-use Rattle.sql_tool.specs.Pieces.{statement_pieces, binds_of, columns_of, is_safe_in}
-use Rattle.sql_tool.specs.Rules.{least_broken, rule_text}
-use Rattle.sql_tool.specs.Statement.{StatementTree}
-use Rattle.sql_tool.specs.declared.rule.Rule.{Rule}
-use Rattle.sql_tool.specs.declared.rule.Rule.TheVariants.{UnknownName}
+use Rattle.sql_node.specs.Tree.{Statement}
+use Rattle.sql_rules.specs.Texts.{rule_text}
+use Rattle.sql_rules.specs.Types.{columns}
+use Rattle.sql_rules.specs.declared.rule.Rule.{Rule}
+use Rattle.sql_check.specs.Compiled.{sql_of, binds_of, is_safe_in}
+use Rattle.sql_check.specs.Typed.{known}
+use Rattle.sql_tool.specs.Judgement.{Judgement, refuses, accepts}
 
 abbrev pub value_data : Value → Data
 value_data (V.SmallInt z) = number (of_integer z)
@@ -48,17 +49,13 @@ statement_data binds columns place safe text =
     (member (codes "sql") (string text) no_members)))))
 
 -- the text of a statement, its values in the order of their placeholders, and what else is told of it
-abbrev pub accepted : Dialect → Option ℕ → StatementTree → Data
-accepted d place s = statement_data (binds_of s) (columns_of s) place (is_safe_in d s) (text_of d 0 (statement_pieces d s))
+abbrev pub accepted : Dialect → Option ℕ → Statement → Data
+accepted d place s = statement_data (binds_of d s) (known (columns s)) place (is_safe_in d s) (sql_of d s)
 
 abbrev pub refused : Rule → Data
 refused rule = object (member (codes "refused") (string (rule_text rule)) no_members)
 
-abbrev pub judged : Option Rule → Data → Data
-judged None accepted = accepted
-judged (Some rule) accepted = refused rule
-
--- the answer to a request, where a statement's place is that of the first request of its shape
-abbrev pub answer_to : Dialect → (StatementTree → Option ℕ) → Option StatementTree → Data
-answer_to d place None = refused UnknownName
-answer_to d place (Some s) = judged (least_broken s) (accepted d (place s) s)
+-- the answer to a request, where a statement's place is this
+abbrev pub answer_to : Dialect → Option ℕ → Judgement → Data
+answer_to d place (refuses rule) = refused rule
+answer_to d place (accepts s) = accepted d place s

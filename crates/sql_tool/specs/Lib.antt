@@ -1,14 +1,6 @@
 pub mod Answer
-pub mod Headline
-pub mod Lists
-pub mod Naming
+pub mod Judgement
+pub mod Known
 pub mod Output
-pub mod Parts
-pub mod Pieces
-pub mod Reading
-pub mod Rules
 pub mod Run
-pub mod Select
-pub mod Shape
-pub mod Statement
 pub mod Status

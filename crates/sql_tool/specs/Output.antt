@@ -1,49 +1,39 @@
--- What is written for a document: a line of JSON for each request.
-use Rattle.std.specs.Prelude.{ℕ, List, [], ◌∷◌, ◌++◌, map, Option, Some, None}
+-- What is written for requests of which it is known what becomes of each: a line of JSON for each.
+use Rattle.std.specs.Prelude.{◌≡◌, ℕ, List, [], ◌∷◌, ◌++◌, Option, None}
 use Rattle.serde_json.specs.Written.{compact_text}
 use Rattle.sql_dialect.specs.declared.backend.Dialect.{Dialect}
-use Rattle.sql_schema.specs.declared.declaration.TableDecl.{TableDecl}
-use Rattle.sql_document.specs.declared.document.Request.{Request}
-use Rattle.sql_document.specs.declared.document.Document.{Document}
+use Rattle.sql_document.specs.Documents.{Request, Document}
 use Rattle.sql_tool.specs.Answer.{answer_to}
-use Rattle.sql_tool.specs.Rules.{least_broken}
-use Rattle.sql_tool.specs.Shape.{shape_of, place}
-use Rattle.sql_tool.specs.Statement.{StatementTree, statement_in}
-use Rattle.sql_tool.specs.declared.rule.Rule.{Rule}
-use Rattle.sql_tool.specs.declared.shape.Shape.{Shape}
+use Rattle.sql_tool.specs.Judgement.{Judgement, refuses, accepts, JudgesEach}
+use Rattle.sql_tool.specs.Known.{request_key, place_behind}
+use Rattle.sql_tool.specs.declared.known.RequestKey.{RequestKey}
 
-abbrev pub unless_broken : Option Rule → Shape → Option Shape
-unless_broken None shape = Some shape
-unless_broken (Some rule) shape = None
-
-abbrev pub shape_if_accepted : Dialect → Option StatementTree → Option Shape
-shape_if_accepted d None = None
-shape_if_accepted d (Some s) = unless_broken (least_broken s) (shape_of d s)
-
--- the shape of a request's statement, none where the request is refused
-abbrev pub shape_seen : List TableDecl → Request → Option Shape
-shape_seen tables r = shape_if_accepted r.dialect (statement_in tables r.query)
-
--- the shapes of all requests, in order
-abbrev pub shapes : List TableDecl → List Request → List (Option Shape)
-shapes tables rs = map (shape_seen tables) rs
-
--- The place, from 1, of the first accepted request that has the statement's dialect and shape.
-abbrev pub place_among : List (Option Shape) → Dialect → StatementTree → Option ℕ
-place_among all d s = place 1 all (shape_of d s)
+-- by what a cache knows a request, none where it is refused or its statement has no id
+abbrev pub key_seen : Dialect → Judgement → Option RequestKey
+key_seen d (refuses rule) = None
+key_seen d (accepts s) = request_key d s
 
 -- an answer as compact JSON, and a newline
-unfoldable pub answer_line : Dialect → (StatementTree → Option ℕ) → Option StatementTree → List ℕ
-answer_line d place s = compact_text (answer_to d place s) ++ 10 ∷ []
+unfoldable pub answer_line : Dialect → Option ℕ → Judgement → List ℕ
+answer_line d place j = compact_text (answer_to d place j) ++ 10 ∷ []
 
--- the line of a request among requests of these shapes
-abbrev pub line : List TableDecl → List (Option Shape) → Request → List ℕ
-line tables all r = answer_line r.dialect (place_among all r.dialect) (statement_in tables r.query)
+-- The line of a request behind requests of these keys. Its id is the place, from 1, of the first accepted request that has its
+-- dialect and its statement's key.
+abbrev pub line : List (Option RequestKey) → Dialect → Judgement → List ℕ
+line earlier d j = answer_line d (place_behind earlier (key_seen d j)) j
 
-unfoldable pub lines : List TableDecl → List (Option Shape) → List Request → List ℕ
-lines tables all [] = []
-lines tables all (r ∷ rs) = line tables all r ++ lines tables all rs
+-- a line for each request, in order, behind requests of these keys
+abbrev pub lines : List (Option RequestKey) → List Request → List Judgement → List ℕ
+lines earlier [] js = []
+lines earlier (r ∷ rs) [] = []
+lines earlier (r ∷ rs) (j ∷ js) = line earlier r.dialect j ++ lines (earlier ++ key_seen r.dialect j ∷ []) rs js
 
--- a line for each request, in order
-unfoldable pub output : Document → List ℕ
-output d = lines d.schema.tables (shapes d.schema.tables d.requests) d.requests
+-- The text answers each request of the document, in order: with the first rule that its statement breaks, or with the text and
+-- the values of its statement, which are read as that.
+abbrev pub Answers : Document → List ℕ → Type 0
+Answers d text = (js : List Judgement) × JudgesEach d.schema d.requests js × (text ≡ lines [] d.requests js)
+
+-- The text is a front of what answers the first of the requests.
+abbrev pub AnswersFront : Document → List ℕ → Type 0
+AnswersFront d text = (rs later : List Request) × (d.requests ≡ rs ++ later)
+    × ((js : List Judgement) × JudgesEach d.schema rs js × ((rest : List ℕ) × (lines [] rs js ≡ text ++ rest)))

@@ -1,10 +1,9 @@
 -- What a run of the program does.
 use Rattle.std.specs.Prelude.{◌≡◌, ◌≤◌, ◌<◌, ◌⊎◌, ℕ, List, [], ◌∷◌, ◌++◌, length, Bool, true, false, codes, Option, Some, None, nat_lt, if◌then◌else◌}
 use Rattle.std.specs.Str.{bytes_eq}
-use Rattle.sql_document.specs.declared.document.Document.{Document}
-use Rattle.sql_document.specs.Form.{document}
+use Rattle.sql_document.specs.Documents.{Document, document}
 use Rattle.sql_tool.specs.declared.run.TheConstants.{LIMIT}
-use Rattle.sql_tool.specs.Output.{output}
+use Rattle.sql_tool.specs.Output.{Answers, AnswersFront}
 use Rattle.sql_tool.specs.declared.status.Status.{Status}
 use Rattle.sql_tool.specs.declared.status.Status.TheVariants.{Done, Usage, BadDocument, ReadFault, WriteFault, NoMemory, TooLarge}
 
@@ -14,16 +13,13 @@ is_build [] = false
 is_build (w ∷ []) = bytes_eq w (codes "build")
 is_build (w ∷ v ∷ words) = false
 
-abbrev pub IsPrefix : List ℕ → List ℕ → Type 0
-IsPrefix front all = (rest : List ℕ) × (all ≡ front ++ rest)
-
--- the bytes are a document, and these are written for it
+-- the bytes are a document, and these answer it
 abbrev pub Answered : List ℕ → List ℕ → Type 0
-Answered given written = (d : Document) × (document given ≡ Some d) × (written ≡ output d)
+Answered given written = (d : Document) × (document given ≡ Some d) × Answers d written
 
--- the bytes are a document, and a front of what is written for it is these
+-- the bytes are a document, and these are a front of what answers it
 abbrev pub PartlyAnswered : List ℕ → List ℕ → Type 0
-PartlyAnswered given written = (d : Document) × (document given ≡ Some d) × IsPrefix written (output d)
+PartlyAnswered given written = (d : Document) × (document given ≡ Some d) × AnswersFront d written
 
 -- What a run that ends so has taken and has written, where AtEnd says that the source is at its end.
 abbrev pub Outcome : Status → Bool → List ℕ → List ℕ → Type 0 → Type 0

@@ -1,77 +1,111 @@
-ghost use Rattle.std.specs.Prelude.{◌≡◌, [], ◌∷◌, ℕ, Option, Some, IfOk, OnOk, string_bytes};
+ghost use Rattle.std.specs.Prelude.{◌≡◌, [], ◌∷◌, IfOk, IfErr, OnOk, Some, option_map, string_bytes};
 ghost use Rattle.std.specs.Option.{option_or, unwrap_or};
 ghost use Rattle.std.specs.BTreeMap as tree;
 ghost use Rattle.serde_json.specs.View.{view};
-ghost use Rattle.sql_node.specs.View.{select_statement_tree};
-ghost use Rattle.sql_tool.specs.Answer.{answer_to};
-ghost use Rattle.sql_tool.specs.Output.{shape_seen, shape_if_accepted, answer_line};
-ghost use Rattle.sql_tool.specs.Pieces.{IsShort};
-ghost use Rattle.sql_tool.specs.Select.{as_select};
-ghost use Rattle.sql_tool.specs.Shape.{shape_of, place};
-ghost use Rattle.sql_tool.specs.Statement.{StatementTree, statement_in};
+ghost use Rattle.sql_check.specs.Compiled.{IsBuilt, IsLeast, IsRead};
+ghost use Rattle.sql_check.specs.Errors.{rule_of};
+ghost use Rattle.sql_document.specs.Trees.{request_tree};
+ghost use Rattle.sql_node.specs.View.{statement_tree};
+ghost use Rattle.sql_rules.specs.declared.rule.Rule.{Rule};
+ghost use Rattle.sql_tool.specs.Answer.{answer_to, refused as refused_data, statement_data};
+ghost use Rattle.sql_tool.specs.Judgement.{Judgement, Judges};
+ghost use Rattle.sql_tool.specs.Known.{keyed, place, place_found};
+ghost use Rattle.sql_tool.specs.Output.{key_seen, answer_line};
 
 use crate::answer::{accepted, refused};
-use crate::rule::{Rule, least_broken};
-use crate::shape::{Shape, id, request_shape};
-use crate::statement::look_up;
+use crate::known::{RequestKey, id};
 use serde_json::Value as Json;
-use sql_dialect::Dialect;
+use sql_build::statement;
+use sql_check::{Built, CompileError, Rule, compile};
+use sql_dialect::{Dialect, Mysql, Pg, Sqlite};
 use sql_document::Request;
-use sql_expr::SelectStatement;
+use sql_node::Statement;
 use sql_schema::Schema;
 use std::alloc::{AllocError, Global};
 use std::collections::BTreeMap;
 
-/// The answer to a statement, where `seen` has the shapes of the requests before it.
-fn answer_statement(
+/// `compile` for a dialect of the product.
+fn compile_for(
     alloc: Global,
     dialect: Dialect,
-    seen: &mut BTreeMap<Shape, u64>,
-    number: u64,
-    statement: &SelectStatement,
-) -> Result<Json, AllocError>
-    requires { IsShort dialect (select_statement_tree statement.now) }
-    ensures told { (s : StatementTree) → select_statement_tree statement.now ≡ as_select s → IfOk result (λ v. view v ≡ answer_to dialect
-        (λ q. Some (unwrap_or (tree.get ⟦<Shape as Ord>⟧.cmp seen.old (shape_of dialect q)) number)) (Some s)) }
-    ensures kept { (s : StatementTree) → select_statement_tree statement.now ≡ as_select s → OnOk result ((q : Shape) → tree.get ⟦<Shape as Ord>⟧.cmp seen.new q ≡ option_or (tree.get ⟦<Shape as Ord>⟧.cmp seen.old q) (place number (shape_if_accepted dialect (Some s) ∷ []) q)) }
+    schema: &Schema,
+    statement: &Statement,
+) -> Result<Built, CompileError>
+    ensures built { IfOk result (λ b. IsBuilt schema.now dialect (statement_tree statement.now) b) }
+    ensures read { IfOk result (λ b. IsRead dialect (statement_tree statement.now) (string_bytes b.sql) b.binds.items) }
+    ensures refused { IfErr result (λ e. (r : Rule) → rule_of e ≡ Some r → IsLeast r schema.now dialect (statement_tree statement.now)) }
 {
-    if let Some(rule) = least_broken(alloc, statement)? {
-        return refused(alloc, rule);
+    match dialect {
+        Dialect::Pg => compile(alloc, &Pg, schema, statement),
+        Dialect::Mysql => compile(alloc, &Mysql, schema, statement),
+        Dialect::Sqlite => compile(alloc, &Sqlite, schema, statement),
     }
-    let shape = request_shape(alloc, dialect, statement)?;
-    let id = id(seen, shape, number)?;
-    accepted(alloc, dialect, id, statement)
 }
 
-/// The answer to the request with this number, where `seen` has the shapes of those before it.
+/// The answer to a request whose statement is accepted.
+fn accept(
+    alloc: Global,
+    dialect: Dialect,
+    seen: &mut BTreeMap<RequestKey, u64>,
+    number: u64,
+    built: Built,
+) -> Result<Json, AllocError>
+    ensures answer { IfOk result (λ v. view v ≡ statement_data built.binds.items built.sql_types.items (option_map (λ k. unwrap_or (tree.get ⟦<RequestKey as Ord>⟧.cmp seen.old (keyed dialect k)) number) built.id) built.safe (string_bytes built.sql)) }
+    ensures kept { OnOk result ((q : RequestKey) → tree.get ⟦<RequestKey as Ord>⟧.cmp seen.new q ≡ option_or (tree.get ⟦<RequestKey as Ord>⟧.cmp seen.old q) (place number (option_map (keyed dialect) built.id ∷ []) q)) }
+{
+    let Built {
+        sql,
+        binds,
+        sql_types,
+        safe,
+        id: key,
+    } = built;
+    let id = id(seen, dialect, key, number)?;
+    accepted(alloc, &binds, &sql_types, id, safe, sql.as_str())
+}
+
+/// The answer to a request whose statement is not compiled.
+fn refuse(alloc: Global, error: CompileError) -> Result<Json, AllocError>
+    ensures { IfOk result (λ v. (rule : Rule) × (rule_of error ≡ Some rule) × (view v ≡ refused_data rule)) }
+{
+    match error.rule() {
+        Some(rule) => refused(alloc, rule),
+        None => Err(AllocError),
+    }
+}
+
+/// The answer to a request, where `seen` has the keys of those before it.
 fn answer(
     alloc: Global,
     schema: &Schema,
-    seen: &mut BTreeMap<Shape, u64>,
+    seen: &mut BTreeMap<RequestKey, u64>,
     number: u64,
     request: &Request,
 ) -> Result<Json, AllocError>
-    ensures told { IfOk result (λ v. view v ≡ answer_to request.now.dialect
-        (λ s. Some (unwrap_or (tree.get ⟦<Shape as Ord>⟧.cmp seen.old (shape_of request.now.dialect s)) number)) (statement_in schema.now.tables request.now.query)) }
-    ensures kept { OnOk result ((q : Shape) → tree.get ⟦<Shape as Ord>⟧.cmp seen.new q ≡ option_or (tree.get ⟦<Shape as Ord>⟧.cmp seen.old q) (place number (shape_seen schema.now.tables request.now ∷ []) q)) }
+    ensures { IfOk result (λ v. (j : Judgement) × Judges schema.now (request_tree request.now) j
+        × (view v ≡ answer_to request.now.dialect (place_found (tree.get ⟦<RequestKey as Ord>⟧.cmp seen.old) number (key_seen request.now.dialect j)) j)
+        × ((q : RequestKey) → tree.get ⟦<RequestKey as Ord>⟧.cmp seen.new q ≡ option_or (tree.get ⟦<RequestKey as Ord>⟧.cmp seen.old q) (place number (key_seen request.now.dialect j ∷ []) q))) }
 {
-    match look_up(alloc, schema, &request.query)? {
+    match statement(alloc, schema, request.dialect, &request.query)? {
         None => refused(alloc, Rule::UnknownName),
-        Some(statement) => answer_statement(alloc, request.dialect, seen, number, &statement),
+        Some(statement) => match compile_for(alloc, request.dialect, schema, &statement) {
+            Ok(built) => accept(alloc, request.dialect, seen, number, built),
+            Err(error) => refuse(alloc, error),
+        },
     }
 }
 
-/// The line that answers the request with this number, where `seen` has the shapes of those before it.
+/// The line that answers the request with this number, where `seen` has the keys of those before it.
 pub fn request_line(
     alloc: Global,
     schema: &Schema,
-    seen: &mut BTreeMap<Shape, u64>,
+    seen: &mut BTreeMap<RequestKey, u64>,
     number: u64,
     request: &Request,
 ) -> Result<String, AllocError>
-    ensures told { IfOk result (λ text. string_bytes text ≡ answer_line request.now.dialect
-        (λ s. Some (unwrap_or (tree.get ⟦<Shape as Ord>⟧.cmp seen.old (shape_of request.now.dialect s)) number)) (statement_in schema.now.tables request.now.query)) }
-    ensures kept { OnOk result ((q : Shape) → tree.get ⟦<Shape as Ord>⟧.cmp seen.new q ≡ option_or (tree.get ⟦<Shape as Ord>⟧.cmp seen.old q) (place number (shape_seen schema.now.tables request.now ∷ []) q)) }
+    ensures { IfOk result (λ text. (j : Judgement) × Judges schema.now (request_tree request.now) j
+        × (string_bytes text ≡ answer_line request.now.dialect (place_found (tree.get ⟦<RequestKey as Ord>⟧.cmp seen.old) number (key_seen request.now.dialect j)) j)
+        × ((q : RequestKey) → tree.get ⟦<RequestKey as Ord>⟧.cmp seen.new q ≡ option_or (tree.get ⟦<RequestKey as Ord>⟧.cmp seen.old q) (place number (key_seen request.now.dialect j ∷ []) q))) }
 {
     let value = answer(alloc, schema, seen, number, request)?;
     let mut text = value.to_string(alloc)?;

@@ -2,12 +2,9 @@
 #![tactic(auto)]
 
 mod answer;
+mod known;
 mod line;
-mod parts;
-mod rule;
 mod run;
-mod shape;
-mod statement;
 mod status;
 
 use run::run;
@@ -44,5 +41,7 @@ fn run_over_standard_streams(rt: &HostRuntime) -> Status {
     )
 }
 
+#[cfg(test)]
+mod rule_tests;
 #[cfg(test)]
 mod tests;

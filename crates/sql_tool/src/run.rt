@@ -1,15 +1,14 @@
 ghost use Rattle.std.specs.Prelude.{◌≡◌, ◌<◌, ◌+◌, ◌↔◌, length, ◌⊎◌, ◌++◌, List, ℕ, map, IfSome, OnOk, OnErr, IfErr, IsTrue, true, false, Some, string_bytes, []};
 ghost use Rattle.std.specs.Io.KnownBytes.{Consumes, Appends, Keeps, IsAtEnd};
 ghost use Rattle.sql_stream.specs.Causes.{Rose, HasCause};
-ghost use Rattle.sql_document.specs.declared.document.Document.{Document};
-ghost use Rattle.sql_document.specs.Form.{document as document_of};
-ghost use Rattle.sql_tool.specs.Headline.{AnswersEach};
-ghost use Rattle.sql_tool.specs.Output.{output};
-ghost use Rattle.sql_tool.specs.Run.{is_build, IsPrefix, Answered, PartlyAnswered, Outcome, Response, may_write, status_of};
+ghost use Rattle.sql_document.specs.Documents.{Document as DocumentTree, document as document_of};
+ghost use Rattle.sql_document.specs.Trees.{document_tree};
+ghost use Rattle.sql_tool.specs.Output.{Answers, AnswersFront};
+ghost use Rattle.sql_tool.specs.Run.{is_build, Answered, PartlyAnswered, Outcome, Response, may_write, status_of};
 ghost use Rattle.sql_tool.specs.declared.run.WriteError.TheVariants.{Memory, Fault};
 
+use crate::known::RequestKey;
 use crate::line::request_line;
-use crate::shape::Shape;
 use crate::status::Status;
 use sql_document::{Document, Refusal, read_document};
 use sql_stream::{Failed, ReadError, Sink, Source, read_all, write_all};
@@ -57,14 +56,14 @@ fn write_answers<K: Sink>(
     document: &Document,
     sink: &mut K,
 ) -> Result<(), WriteError>
-    ensures all { OnOk result (Appends (K.held sink.old) (K.held sink.new) (output document.now)) }
-    ensures front { OnErr result ((written : List ℕ) × IsPrefix written (output document.now)
-        × Appends (K.held sink.old) (K.held sink.new) written) }
+    ensures all { OnOk result ((text : List ℕ) × Answers (document_tree document.now) text × Appends (K.held sink.old) (K.held sink.new) text) }
+    ensures front { OnErr result ((text : List ℕ) × AnswersFront (document_tree document.now) text
+        × Appends (K.held sink.old) (K.held sink.new) text) }
     ensures fault { IfErr result (λ e. e ≡ WriteError.Fault → Rose (K.faults sink.old) (K.faults sink.new)) }
     ensures no_fault { IfErr result (λ e. e ≡ WriteError.Memory → K.faults sink.new ≡ K.faults sink.old) }
     ensures ok { OnOk result (K.faults sink.new ≡ K.faults sink.old) }
 {
-    let mut seen: BTreeMap<Shape, u64> = BTreeMap::new(alloc);
+    let mut seen: BTreeMap<RequestKey, u64> = BTreeMap::new(alloc);
     for (before, request) in document.requests.as_slice().iter().enumerate() {
         let text = request_line(
             alloc,
@@ -128,10 +127,11 @@ pub fn run<S: Source, K: Sink>(
     source: &mut S,
     sink: &mut K,
 ) -> Status
-    // On Done the source was read to its end, its bytes were a document, what was written is its output, and that answers
-    // each request: with the first rule that its statement breaks, or with a text and values that are read as the statement.
+    // On Done the source was read to its end, its bytes were a document, and what was written answers each of its requests in
+    // order: with the first rule that its statement breaks, or with a text whose only reading is the statement's normal tree,
+    // whose k-th placeholder stands for the k-th value beside it, and whose column paths each name one source.
     ensures headline { result ≡ Status.Done → IfSome (S.left source.old) (λ input. IsAtEnd (S.left source.new)
-        × (d : Document) × (document_of input ≡ Some d) × Appends (K.held sink.old) (K.held sink.new) (output d) × AnswersEach d) }
+        × (d : DocumentTree) × (document_of input ≡ Some d) × ((text : List ℕ) × Answers d text × Appends (K.held sink.old) (K.held sink.new) text)) }
     // What each status says of the bytes that were given and written in this call.
     ensures outcome { (given written : List ℕ) × Consumes (S.left source.old) (S.left source.new) given
         × Appends (K.held sink.old) (K.held sink.new) written

@@ -1,5 +1,5 @@
 use Rattle.std.proofs.Common.{arith, option_and_then, ap, ◌∙◌}
-use Rattle.sql_document.specs.Form.{two_items}
+use Rattle.sql_document.specs.Members.{two_items}
 use Rattle.sql_document.proofs.Pairs.{not_two_items}
 use Rattle.sql_document.proofs.member.two.Goals as goal
 

@@ -1,13 +1,12 @@
-use Rattle.std.proofs.Common.{rules, ◌≡◌, IfSome, Some}
-use Rattle.std.specs.Io.KnownBytes.{Appends, IsAtEnd}
-use Rattle.sql_document.specs.Form.{document as document_of}
-use Rattle.sql_document.specs.declared.document.Document.{Document}
-use Rattle.sql_tool.proofs.Headlines.{with_answers}
-use Rattle.sql_tool.specs.Output.{output}
+use Rattle.std.specs.Io.KnownBytes.{IsAtEnd}
+use Rattle.std.proofs.Common.{map, subst}
+use Rattle.std.specs.Prelude.{string_bytes}
+use Rattle.sql_tool.proofs.Headlines.{answered-whole}
+use Rattle.sql_tool.specs.Run.{Outcome, is_build}
 use Rattle.sql_tool.proofs.run.run.Goals as goal
 
 pub returns-clause-headline : goal.returns-clause-headline
 returns-clause-headline g c = λ done.
-    let told = λ (d : Document). Appends (g.K.Sink.held c.args.sink.now) (g.K.Sink.held c.perform.new.sink) (output d) in
-    let known : IfSome (g.S.Source.left c.args.source.now) (λ input. IsAtEnd (g.S.Source.left c.perform.new.source) × (d : Document) × (document_of input ≡ Some d) × told d) = search rules in
-    with_answers (g.S.Source.left c.args.source.now) (IsAtEnd (g.S.Source.left c.perform.new.source)) told known
+    let (given, written, consumed, appended, outcome) = c.perform.ensures.outcome in
+    let (built, ended, small, answered) = subst (λ s. Outcome s (is_build (map string_bytes c.args.words.now)) given written (IsAtEnd (g.S.Source.left c.perform.new.source))) done outcome in
+    answered-whole _ _ _ _ given written consumed ended appended answered

@@ -1,0 +1,15 @@
+//! The statement that a query of a document stands for: its names looked up in a schema, and its calls made in their order.
+#![tactic(auto)]
+
+mod boxed;
+mod build;
+mod call;
+mod combination;
+mod name;
+mod operator;
+mod select;
+mod source;
+#[cfg(test)]
+mod tests;
+
+pub use build::statement;

@@ -1,0 +1,4 @@
+pub mod SamePieces
+pub mod Chosen
+pub mod Columns
+pub mod Reading

@@ -1,8 +1,0 @@
-use Rattle.std.proofs.Common.{◌≡◌}
-use Rattle.serde_json.specs.View.{items_view}
-use Rattle.sql_document.specs.Form.{each}
-use Rattle.sql_document.proofs.Each.{with_front, rest_of}
-use Rattle.sql_document.proofs.decode.decode_each.Given as goal
-
-abbrev pub invariant-loop-item : goal.invariant-loop-item
-invariant-loop-item g l = with_front l.all.items (each g.T.Decode.form (rest_of l.item-items l.item-index)) ≡ each g.T.Decode.form (items_view l.item-items)

@@ -1,0 +1,85 @@
+#![tactic(auto, using(sql_syntax::proofs::Trees::opens_order_item))]
+
+ghost use Rattle.std.specs.Prelude.{◌≡◌, map, option_map, option_and_then};
+ghost use Rattle.serde_json.specs.View.{view, items_view};
+ghost use Rattle.sql_document.specs.Members.{Gives, each, only_member};
+ghost use Rattle.sql_document.specs.Queries.{directed, item_of, place_of, expr_of};
+ghost use Rattle.sql_syntax.specs.View.{order_item_tree};
+
+use crate::each::Decode;
+use crate::expr::expr;
+use crate::member::only_member;
+use crate::names::direction;
+use crate::refusal::Refusal;
+use crate::value::place_number;
+use serde_json::Value;
+use sql_leaf::{Direction, OrderColumn, PositionalItem};
+use sql_syntax::OrderItem;
+use std::alloc::Global;
+
+/// What stands behind a name that says the direction: `{"asc":X}`.
+fn behind_direction(value: &Value) -> Option<(Direction, &Value)>
+    ensures { option_map (λ p. (p.0, view p.1.now)) result ≡ option_and_then directed (only_member (view value.now)) }
+{
+    let (name, inner) = only_member(value)?;
+    Some((direction(name)?, inner))
+}
+
+#[cycle(decode)]
+#[tactic(auto, unfolding(crate::specs::Queries::item_of), using(sql_syntax::proofs::Trees::opens_order_item))]
+fn item(alloc: Global, value: &Value, depth: u32) -> Result<OrderItem, Refusal>
+    ensures { Gives order_item_tree result (item_of (expr_of depth) (view value.now)) }
+{
+    match behind_direction(value) {
+        Some((direction, inner)) => {
+            let expr = expr(alloc, inner, depth)?;
+            Ok(OrderItem { expr, direction })
+        }
+        None => {
+            let expr = expr(alloc, value, depth)?;
+            Ok(OrderItem {
+                expr,
+                direction: Direction::None,
+            })
+        }
+    }
+}
+
+#[cycle(decode)]
+pub(crate) fn items(
+    alloc: Global,
+    items: &Vec<Value>,
+    depth: u32,
+) -> Result<Vec<OrderItem>, Refusal>
+    ensures { Gives (λ v. map order_item_tree v.items) result (each (item_of (expr_of depth)) (items_view items.now.items)) }
+{
+    let mut all = Vec::new(alloc);
+    for one in items {
+        all.push(item(alloc, one, depth)?)?;
+    }
+    Ok(all)
+}
+
+#[tactic(auto, unfolding(crate::specs::Queries::place_of))]
+fn place(value: &Value) -> Option<PositionalItem>
+    ensures { result ≡ place_of (view value.now) }
+{
+    match behind_direction(value) {
+        Some((direction, inner)) => Some(PositionalItem {
+            column: OrderColumn(place_number(inner)?),
+            direction,
+        }),
+        None => Some(PositionalItem {
+            column: OrderColumn(place_number(value)?),
+            direction: Direction::None,
+        }),
+    }
+}
+
+impl Decode for PositionalItem {
+    ghost form = { place_of };
+
+    fn decode(_alloc: Global, value: &Value) -> Result<PositionalItem, Refusal> {
+        Ok(place(value).ok_or(Refusal::NotADocument)?)
+    }
+}

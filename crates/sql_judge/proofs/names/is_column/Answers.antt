@@ -1,0 +1,10 @@
+use Rattle.std.proofs.Common.{ap, ◌∙◌}
+use Rattle.std.specs.List.{list_any}
+use Rattle.sql_judge.specs.Columns.{same_column}
+use Rattle.sql_judge.proofs.Tests.{column-any-test}
+use Rattle.sql_judge.proofs.names.is_column.Goals as goal
+
+pub returns : goal.returns
+returns c =
+    column-any-test c.is_declared.result c.args.column.now.decl c.args.column.now.table.columns
+    (c.is_declared.ensures ∙ ap (list_any (λ d. same_column d c.args.column.now.decl)) (c.columns.ensures.columns ∙ ap (λ t. t.columns) c.table.ensures))

@@ -1,0 +1,4 @@
+pub mod Expressions
+pub mod Keys
+pub mod Shape
+pub mod Tables

@@ -1,0 +1,4 @@
+pub mod Unshape
+pub mod ShapeLaws
+pub mod OneText
+pub mod TypeLaws

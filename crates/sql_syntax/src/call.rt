@@ -1,0 +1,57 @@
+use crate::{Expr, OrderItem, Query, Source};
+use sql_dialect::{Combinator, Dialect, DuplicateRule};
+use sql_leaf::{JoinKind, PositionalItem};
+use sql_schema::SqlList;
+
+/// A call without arguments.
+#[derive(Debug, Clone, Copy, PartialEq, Eq)]
+pub enum PlainCall {
+    Distinct,
+    Count,
+    Nullable,
+    ForUpdate,
+    ForNoKeyUpdate,
+    ForShare,
+    ForKeyShare,
+    SkipLocked,
+    NoWait,
+}
+
+/// A call that gives a clause its expression.
+#[derive(Debug, Clone, Copy, PartialEq, Eq)]
+pub enum ClauseCall {
+    DistinctOn,
+    GroupBy,
+    Select,
+    Filter,
+    OrFilter,
+    Having,
+}
+
+/// A call of a query.
+#[cycle(syntax)]
+#[derive(Drop)]
+pub enum Call {
+    /// `["distinct"]`
+    Plain(PlainCall),
+    /// `["filter",EXPR]`
+    Clause(ClauseCall, Expr),
+    /// `["inner_join",SOURCE]` or `["inner_join",SOURCE,EXPR]`. `left_join` is another name of `left_outer_join`.
+    Join(JoinKind, Source, Option<Expr>),
+    /// `["find",[EXPR..]]`
+    Find(SqlList<Expr>),
+    /// `["order",[ITEM..]]`. `order_by` is another name of it.
+    Order(SqlList<OrderItem>),
+    /// `["then_order_by",[ITEM..]]`
+    ThenOrderBy(SqlList<OrderItem>),
+    /// `["limit",5]`
+    Limit(i64),
+    /// `["offset",5]`
+    Offset(i64),
+    /// `["into_boxed"]`, for the dialect of the request, or `["into_boxed","Pg"]`.
+    IntoBoxed(Option<Dialect>),
+    /// `["union",QUERY]`
+    Combine(Combinator, DuplicateRule, Query),
+    /// `["positional_order_by",[PLACE..]]`
+    PositionalOrderBy(SqlList<PositionalItem>),
+}

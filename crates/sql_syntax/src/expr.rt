@@ -1,0 +1,84 @@
+use crate::{ColumnName, FieldName, Query};
+use sql_pass::Value;
+use sql_schema::{SqlList, SqlType};
+
+/// What is made of one expression.
+#[derive(Debug, Clone, Copy, PartialEq, Eq)]
+pub enum UnaryOperator {
+    /// `NOT (a)`
+    Not,
+    /// `(a IS NULL)`
+    IsNull,
+    /// `(a IS NOT NULL)`
+    IsNotNull,
+    /// The same as a nullable expression.
+    Nullable,
+    /// `COUNT(a)`
+    Count,
+}
+
+/// What is made of two expressions.
+#[derive(Debug, Clone, Copy, PartialEq, Eq)]
+pub enum BinaryOperator {
+    /// `(a = b)`
+    Eq,
+    /// `(a != b)`
+    Ne,
+    /// `(a > b)`
+    Gt,
+    /// `(a >= b)`
+    Ge,
+    /// `(a < b)`
+    Lt,
+    /// `(a <= b)`
+    Le,
+    /// `(a AND b)`
+    And,
+    /// `(a OR b)`
+    Or,
+}
+
+/// How an expression is compared with many.
+#[derive(Debug, Clone, Copy, PartialEq, Eq)]
+pub enum Quantified {
+    /// Whether it is one of them: `(a = ANY(..))`.
+    EqAny,
+    /// Whether it is none of them: `(a != ALL(..))`.
+    NeAll,
+}
+
+/// An expression.
+#[cycle(syntax)]
+#[derive(Drop)]
+pub enum Expr {
+    /// `[EXPR..]`
+    List(SqlList<Expr>),
+    /// `"count_star"`
+    CountStar,
+    /// `{"col":["users","id"]}`
+    Column(ColumnName),
+    /// `{"field":["u2","users","id"]}`
+    Field(FieldName),
+    /// `{"bind":["Integer",1]}`
+    Bind(SqlType, Value),
+    /// `{"not":EXPR}`
+    Unary(UnaryOperator, Box<Expr>),
+    /// `{"eq":[EXPR,EXPR]}`
+    Binary(BinaryOperator, Box<Expr>, Box<Expr>),
+    /// `{"exists":QUERY}`
+    Exists(Box<Query>),
+    /// `{"single_value":QUERY}`
+    SingleValue(Box<Query>),
+    /// `{"eq_any":[EXPR,MEMBERSHIP]}`
+    Quantified(Quantified, Box<Expr>, Membership),
+}
+
+/// The many that an expression is compared with.
+#[cycle(syntax)]
+#[derive(Drop)]
+pub enum Membership {
+    /// `{"list":["Integer",[1,2]]}`
+    Values(SqlType, SqlList<Value>),
+    /// A query, which gives a column.
+    Rows(Box<Query>),
+}
