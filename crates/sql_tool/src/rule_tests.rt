@@ -3,7 +3,7 @@
 use sql_build::statement;
 use sql_check::broken;
 use sql_dialect::{Dialect, Mysql, Pg, Sqlite};
-use sql_document::{Request, read_document};
+use sql_document::{Document, Request, read_document};
 use sql_schema::{Schema, SchemaBuilder};
 use std::alloc::{AllocError, Global};
 use std::test::Fail;
@@ -152,21 +152,29 @@ fn names(
     Ok(names)
 }
 
-/// The names for the request of a document that has one.
-fn names_of(alloc: Global, request: &str, over_no_table: bool) -> Result<String, Fail> {
+/// A document with one request.
+fn document_of(alloc: Global, request: &str) -> Result<Document, Fail> {
     let mut text = String::from_str(alloc, SCHEMA)?;
     text.push_str(request)?;
     text.push_str("]}")?;
-    let document = read_document(alloc, text.as_bytes())?;
-    let none = SchemaBuilder::new(alloc).build()?;
-    let schema = if over_no_table {
-        &none
-    } else {
-        &document.schema
-    };
+    Ok(read_document(alloc, text.as_bytes())?)
+}
+
+fn names_of(alloc: Global, request: &str) -> Result<String, Fail> {
+    let document = document_of(alloc, request)?;
     let mut all = String::new(alloc);
     for request in document.requests.as_slice() {
-        all = names(alloc, &document.schema, schema, request)?;
+        all = names(alloc, &document.schema, &document.schema, request)?;
+    }
+    Ok(all)
+}
+
+fn names_over_no_table(alloc: Global, request: &str) -> Result<String, Fail> {
+    let document = document_of(alloc, request)?;
+    let none = SchemaBuilder::new(alloc).build()?;
+    let mut all = String::new(alloc);
+    for request in document.requests.as_slice() {
+        all = names(alloc, &document.schema, &none, request)?;
     }
     Ok(all)
 }
@@ -175,7 +183,7 @@ fn names_of(alloc: Global, request: &str, over_no_table: bool) -> Result<String,
 fn each_rule_alone(rt: HostRuntime) -> Result<(), Fail> {
     let alloc = rt.alloc();
     for (request, want) in TABLE {
-        assert_eq!(rt; names_of(alloc, request, false)?.as_str(), want);
+        assert_eq!(rt; names_of(alloc, request)?.as_str(), want);
     }
     Ok(())
 }
@@ -184,7 +192,10 @@ fn each_rule_alone(rt: HostRuntime) -> Result<(), Fail> {
 fn a_table_that_another_schema_has(rt: HostRuntime) -> Result<(), Fail> {
     let alloc = rt.alloc();
     let request = r#"{"dialect":"Pg","query":{"from":{"table":"users"}}}"#;
-    assert_eq!(rt; names_of(alloc, request, true)?.as_str(), "UnknownName");
-    assert_eq!(rt; names_of(alloc, request, false)?.as_str(), "");
+    assert_eq!(rt;
+        names_over_no_table(alloc, request)?.as_str(),
+        "UnknownName"
+    );
+    assert_eq!(rt; names_of(alloc, request)?.as_str(), "");
     Ok(())
 }
