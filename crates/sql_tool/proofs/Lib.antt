@@ -1,4 +1,5 @@
 pub mod Headlines
 pub mod Judging
 pub mod Lines
+pub mod Once
 pub mod Places

@@ -132,6 +132,10 @@ pub fn run<S: Source, K: Sink>(
     // whose k-th placeholder stands for the k-th value beside it, and whose column paths each name one source.
     ensures headline { result ≡ Status.Done → IfSome (S.left source.old) (λ input. IsAtEnd (S.left source.new)
         × (d : DocumentTree) × (document_of input ≡ Some d) × ((text : List ℕ) × Answers d text × Appends (K.held sink.old) (K.held sink.new) text)) }
+    // What answers a document is one text, and what answers the first of its requests is a front of that.
+    ensures one_answer { (d : DocumentTree) (a b : List ℕ) → Answers d a → Answers d b → a ≡ b }
+    ensures front_of_it { (d : DocumentTree) (front whole : List ℕ) → AnswersFront d front → Answers d whole
+        → (rest : List ℕ) × (whole ≡ front ++ rest) }
     // What each status says of the bytes that were given and written in this call.
     ensures outcome { (given written : List ℕ) × Consumes (S.left source.old) (S.left source.new) given
         × Appends (K.held sink.old) (K.held sink.new) written

@@ -1,0 +1,4 @@
+pub mod Boxed
+pub mod Debug
+pub mod Raw
+pub mod Shown
