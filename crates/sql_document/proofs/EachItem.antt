@@ -24,11 +24,16 @@ rest_of xs i = items_view (drop i xs)
 here : (xs : List Value) (i : ℕ) (v : Value) → i < length xs → v ≡ get_or xs i v → drop i xs ≡ v ∷ drop (i + 1) xs
 here xs i v lt is = drop_more xs i v lt ∙ ap (λ x. x ∷ drop (i + 1) xs) (sym is)
 
+-- one item more is read, of items that are taken one by one
+pub steps_on : {A : Type 0} (f : Data → Option A) (front : List A) (xs rest : List Value) (v : Value) (y : A) (total : Option (List A)) → xs ≡ v ∷ rest → f (view v) ≡ Some y
+    → with_front front (each f (items_view xs)) ≡ total → with_front (front ++ y ∷ []) (each f (items_view rest)) ≡ total
+steps_on f front xs rest v y total is read so_far =
+    let one : with_front front (each f (items_view xs)) ≡ with_front (front ++ y ∷ []) (each f (items_view rest)) = rw (is, read) (regroup front y (each f (items_view rest))) in
+    sym one ∙ so_far
+
 pub goes_on : {A : Type 0} (f : Data → Option A) (front : List A) (xs : List Value) (i : ℕ) (v : Value) (y : A) (total : Option (List A)) → i < length xs → v ≡ get_or xs i v → f (view v) ≡ Some y
     → with_front front (each f (rest_of xs i)) ≡ total → with_front (front ++ y ∷ []) (each f (rest_of xs (i + 1))) ≡ total
-goes_on f front xs i v y total lt is read so_far =
-    let one : with_front front (each f (rest_of xs i)) ≡ with_front (front ++ y ∷ []) (each f (rest_of xs (i + 1))) = rw (here xs i v lt is, read) (regroup front y (each f (rest_of xs (i + 1)))) in
-    sym one ∙ so_far
+goes_on f front xs i v y total lt is read so_far = steps_on f front (drop i xs) (drop (i + 1) xs) v y total (here xs i v lt is) read so_far
 
 pub ends : {A : Type 0} (e : Refusal) (f : Data → Option A) (front : List A) (xs : List Value) (i : ℕ) (v : Value) (total : Option (List A)) → i < length xs → v ≡ get_or xs i v → Refuses e (f (view v))
     → with_front front (each f (rest_of xs i)) ≡ total → Refuses e total

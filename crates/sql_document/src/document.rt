@@ -1,11 +1,11 @@
-ghost use Rattle.std.specs.Prelude.{◌≡◌, map};
+ghost use Rattle.std.specs.Prelude.{◌≡◌, map, option_map};
 ghost use Rattle.serde_json.specs.View.{view, items_view};
 ghost use Rattle.sql_document.specs.Documents.{request_of, document_of, of_data, document};
-ghost use Rattle.sql_document.specs.Members.{Gives, each};
+ghost use Rattle.sql_document.specs.Members.{Gives, each, items_at};
 ghost use Rattle.sql_document.specs.Trees.{request_tree, document_tree};
 
 use crate::float::has_float;
-use crate::member::{items, text};
+use crate::member::text;
 use crate::names::dialect;
 use crate::query::whole_query;
 use crate::refusal::Refusal;
@@ -15,6 +15,7 @@ use sql_dialect::Dialect;
 use sql_schema::{Schema, SqlList};
 use sql_syntax::Query;
 use std::alloc::Global;
+use std::mem;
 
 /// A query for one dialect: `{"dialect":"Pg","query":QUERY}`.
 #[derive(Drop)]
@@ -41,23 +42,33 @@ fn one_request(alloc: Global, value: &Value) -> Result<Request, Refusal>
     Ok(Request { dialect, query })
 }
 
-fn each_request(alloc: Global, items: &Vec<Value>) -> Result<Vec<Request>, Refusal>
-    ensures { Gives (λ v. map request_tree v.items) result (each request_of (items_view items.now.items)) }
+/// Each item is given up once it is decoded, so that JSON and requests are not held together.
+fn each_request(alloc: Global, items: Vec<Value>) -> Result<Vec<Request>, Refusal>
+    ensures { Gives (λ v. map request_tree v.items) result (each request_of (items_view items.items)) }
 {
     let mut all = Vec::new(alloc);
     for item in items {
-        all.push(one_request(alloc, item)?)?;
+        all.push(one_request(alloc, &item)?)?;
     }
     Ok(all)
 }
 
+/// The items of the member, taken out of it.
+fn take_items(alloc: Global, value: Value, name: &str) -> Option<Vec<Value>>
+    ensures { option_map (λ v. items_view v.items) result ≡ items_at name.now (view value) }
+{
+    let mut value = value;
+    let items = value.get_mut(name)?.as_array_mut()?;
+    Some(mem::replace(items, Vec::new(alloc)))
+}
+
 #[tactic(auto, unfolding(crate::specs::Documents::document_of))]
-fn whole(alloc: Global, value: &Value) -> Result<Document, Refusal>
-    ensures { Gives document_tree result (document_of (view value.now)) }
+fn whole(alloc: Global, value: Value) -> Result<Document, Refusal>
+    ensures { Gives document_tree result (document_of (view value)) }
 {
     let declarations = value.get("schema").ok_or(Refusal::NotADocument)?;
     let schema = schema(alloc, declarations)?;
-    let requests = items(value, "requests").ok_or(Refusal::NotADocument)?;
+    let requests = take_items(alloc, value, "requests").ok_or(Refusal::NotADocument)?;
     let requests = each_request(alloc, requests)?;
     Ok(Document {
         schema,
@@ -66,10 +77,10 @@ fn whole(alloc: Global, value: &Value) -> Result<Document, Refusal>
 }
 
 #[tactic(auto, unfolding(crate::specs::Documents::of_data))]
-fn of_value(alloc: Global, value: &Value) -> Result<Document, Refusal>
-    ensures { Gives document_tree result (of_data (view value.now)) }
+fn of_value(alloc: Global, value: Value) -> Result<Document, Refusal>
+    ensures { Gives document_tree result (of_data (view value)) }
 {
-    if has_float(value) {
+    if has_float(&value) {
         return Err(Refusal::NotADocument);
     }
     whole(alloc, value)
@@ -81,7 +92,7 @@ pub fn read_document(alloc: Global, bytes: &[u8]) -> Result<Document, Refusal>
     ensures { Gives document_tree result (document bytes.now) }
 {
     match Value::from_slice(alloc, bytes) {
-        Ok(value) => of_value(alloc, &value),
+        Ok(value) => of_value(alloc, value),
         Err(error) if error.is_memory() => Err(Refusal::NoMemory),
         Err(_) => Err(Refusal::NotADocument),
     }
