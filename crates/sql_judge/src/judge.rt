@@ -9,29 +9,25 @@ ghost use Rattle.sql_rules.specs.Lists.{AnyOf, Selects};
 ghost use Rattle.sql_rules.specs.Rules.{AnyClause, AnyExpr, AnyTwoLeaves, Broken, CombinationBreaks, CountsAggregate, HasUnknownName, IsEmptyList, IsEmptyOrder, IsIllTypedClause, IsMisgrouped, PartBreaks, SelectBreaks, all_rules};
 ghost use Rattle.sql_rules.specs.Scope.{parts as parts_in};
 ghost use Rattle.sql_rules.specs.Types.{columns as columns_of};
-ghost use Rattle.sql_judge.specs.Lent.{combined_of, select_of};
-ghost use Rattle.sql_judge.specs.Parted.{part_of};
+ghost use Rattle.sql_places.specs.Lent.{combined_of, select_of};
+ghost use Rattle.sql_places.specs.Parted.{part_of};
 
-use crate::binds::has_too_many_binds;
 use crate::clash::{combination_unsupported, from_lacks_on, is_incompatible, select_unsupported};
-use crate::clause::clauses;
 use crate::grouping::{Counted, is_misgrouped};
 use crate::leaves::{Alike, Apart, Clash};
-use crate::lent::{Combined, Selection};
 use crate::lists::{EmptyClause, has_no_positions, is_empty_order};
 use crate::names::{OutOfScope, UnknownColumn, any_unknown};
 use crate::nullable::BarePadded;
 use crate::order::order_differs;
-use crate::part::{Part, parts};
 use crate::test::{ClauseTest, InNodes, PairTest, any_clause, any_pair};
-use crate::types::columns;
 use crate::typing::IllTyped;
-use crate::view::{own_view, widest_view};
 use sql_dialect::Backend;
 use sql_node::Statement;
+use sql_places::{Combined, Part, Selection, clauses, own_view, parts, widest_view};
 use sql_rules::{RULES, Rule};
 use sql_schema::{NoMemory, Schema};
 use sql_source::Origin;
+use sql_types::{columns, has_too_many_binds};
 use std::alloc::Global;
 
 fn any_two<T: PairTest>(

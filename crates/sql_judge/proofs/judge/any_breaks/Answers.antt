@@ -1,6 +1,6 @@
 use Rattle.std.proofs.Common.{refl}
 use Rattle.sql_rules.specs.Rules.{PartBreaks}
-use Rattle.sql_judge.specs.Parted.{part_of}
+use Rattle.sql_places.specs.Parted.{part_of}
 use Rattle.sql_judge.proofs.Loops.{here_any}
 use Rattle.sql_judge.proofs.judge.any_breaks.Goals as goal
 

@@ -1,6 +1,6 @@
 use Rattle.std.proofs.Common.{map}
 use Rattle.sql_node.specs.View.{statement_tree}
-use Rattle.sql_judge.specs.Parted.{part_of}
+use Rattle.sql_places.specs.Parted.{part_of}
 use Rattle.sql_judge.proofs.Answered.{ok-like}
 use Rattle.sql_judge.proofs.Breaking.{broken-inside}
 use Rattle.sql_judge.proofs.judge.breaks.Goals as goal

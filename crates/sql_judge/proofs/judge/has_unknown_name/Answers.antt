@@ -5,7 +5,7 @@ use Rattle.sql_source.specs.Lent.{origin_of}
 use Rattle.sql_rules.specs.Lists.{AnyOf}
 use Rattle.sql_rules.specs.Rules.{IsTable, IsUnknownColumn}
 use Rattle.sql_rules.specs.Scope.{nodes}
-use Rattle.sql_judge.specs.Claused.{clause_of}
+use Rattle.sql_places.specs.Claused.{clause_of}
 use Rattle.sql_judge.proofs.judge.has_unknown_name.Goals as goal
 use Rattle.sql_judge.proofs.judge.has_unknown_name.Goals.{then-any_unknown, else-any_unknown}
 

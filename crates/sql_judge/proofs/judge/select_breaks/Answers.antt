@@ -2,7 +2,7 @@ use Rattle.std.proofs.Common.{IfOk, map, sym, subst}
 use Rattle.std.specs.Bool.{Decides}
 use Rattle.sql_source.specs.Lent.{origin_of}
 use Rattle.sql_rules.specs.Rules.{SelectBreaks}
-use Rattle.sql_judge.specs.Lent.{select_of}
+use Rattle.sql_places.specs.Lent.{select_of}
 use Rattle.sql_judge.proofs.judge.select_breaks.Goals as goal
 
 pub returns-in-Grouping : goal.returns-in-Grouping
