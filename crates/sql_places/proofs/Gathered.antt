@@ -10,7 +10,7 @@ use Rattle.sql_places.specs.Lent.{select_record, boxed_record}
 use Rattle.sql_places.specs.Parted.{part_of}
 use Rattle.sql_places.specs.declared.part.Part.{Part}
 use Rattle.sql_places.proofs.Gathering.{gathers-more}
-use Rattle.sql_places.proofs.Parts.{parts-select, parts-boxed}
+use Rattle.sql_places.proofs.InnerParts.{parts-select, parts-boxed}
 
 module _ {E : Type 0} {h k g : List Part} {r : Result (Unit {0}) E} where
   pub gathers-select : (v : View) (s : SelectStatement) (own wide : View) (x : Part) → k ≡ h ++ x ∷ [] → part_of x ≡ a_select v (select_record s)

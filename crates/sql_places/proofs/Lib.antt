@@ -1,4 +1,4 @@
 pub mod Gathered
 pub mod Gathering
-pub mod Parts
+pub mod InnerParts
 pub mod Views
