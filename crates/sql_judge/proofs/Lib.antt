@@ -7,7 +7,7 @@ pub mod Keyed
 pub mod Loops
 pub mod Paddings
 pub mod SameTypes
-pub mod Seen
+pub mod Sides
 pub mod Selections
 pub mod Tests
 pub mod TypeLaws

@@ -3,3 +3,4 @@ pub mod Ends
 pub mod Grouped
 pub mod Keyed
 pub mod Misfits
+pub mod Seen

@@ -9,6 +9,7 @@ mod lists;
 mod names;
 mod nullable;
 mod order;
+mod seen;
 mod test;
 mod typing;
 

@@ -4,14 +4,14 @@
 ghost use Rattle.std.specs.Prelude.{◌≡◌, ◌++◌, IfOk, map, [], ◌∷◌, option_map};
 ghost use Rattle.sql_node.specs.View.{distinct_clause_tree, expr_tree, from_clause_tree, items_of, join_on_tree, maybe_of, order_item_tree, source_tree};
 ghost use Rattle.sql_source.specs.Lent.{origin_of};
-ghost use Rattle.sql_rules.specs.Scope.{clauses as clauses_in, distinct_clause, in_order_by, item_clauses, maybe_clause, ons, ons_of, order_clauses};
+ghost use Rattle.sql_rules.specs.Scope.{distinct_clause, in_order_by, item_clauses, maybe_clause, ons, ons_of, order_clauses};
 ghost use Rattle.sql_places.specs.Gathers.{Gathers};
 ghost use Rattle.sql_places.specs.Inside.{clauses_by};
 ghost use Rattle.sql_places.specs.Claused.{clause_of, place_of};
 ghost use Rattle.sql_places.specs.Lent.{order_of, select_of};
 
 use crate::lent::Selection;
-use crate::view::{origins_in_both, own_view, widest_view};
+use crate::view::origins_in_both;
 use sql_node::{DistinctClause, Expr, FromClause, JoinOn, OrderItem, Source};
 use sql_schema::NoMemory;
 use sql_source::Origin;
@@ -37,18 +37,17 @@ pub struct Clause<'s> {
     pub expr: &'s Expr,
 }
 
-/// The clauses, in the order in which they are written.
+/// The clauses, in the order in which they are written, where the statement's own leaves and what its condition sees are these.
 pub fn clauses<'s>(
     alloc: Global,
-    outer: &[Origin<'s>],
+    own: &[Origin<'s>],
+    widest: &[Origin<'s>],
     select: Selection<'s>,
 ) -> Result<Vec<Clause<'s>>, NoMemory>
-    ensures { IfOk result (λ v. map clause_of v.items ≡ clauses_in (map origin_of outer.now) (select_of select.entry)) }
+    ensures { IfOk result (λ v. map clause_of v.items ≡ clauses_by (map origin_of own.now) (map origin_of widest.now) (select_of select.entry)) }
 {
     let mut all = Vec::new(alloc);
-    let own = own_view(alloc, select.source)?;
-    let widest = widest_view(alloc, outer, select.form, select.source)?;
-    gather_clauses(alloc, own.as_slice(), widest.as_slice(), select, &mut all)?;
+    gather_clauses(alloc, own, widest, select, &mut all)?;
     Ok(all)
 }
 
