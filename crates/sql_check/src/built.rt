@@ -9,12 +9,13 @@ ghost use Rattle.sql_rules.specs.declared.rule.Rule.{Rule};
 
 use crate::error::CompileError;
 use sql_dialect::{Backend, QueryBuilder};
-use sql_judge::{broken, columns};
+use sql_judge::broken;
 use sql_key::{QueryId, QueryKey};
 use sql_law::{accepted_is_read, names_one_leaf};
 use sql_node::Statement;
 use sql_pass::{Bound, PassError, QueryFragment, debug_binds};
 use sql_schema::{NoMemory, Schema, SqlType};
+use sql_types::columns;
 use std::alloc::Global;
 
 /// What is told of a statement that breaks no rule.

@@ -11,9 +11,9 @@ use Rattle.sql_key.proofs.Expressions.{same-expression}
 use Rattle.sql_rules.specs.Lists.{Differ}
 use Rattle.sql_rules.specs.Scope.{flat}
 use Rattle.sql_judge.proofs.Differing.{differ_before, differ_seen}
-use Rattle.sql_judge.specs.Gathers.{Gathers}
+use Rattle.sql_places.specs.Gathers.{Gathers}
 use Rattle.sql_judge.specs.Keyed.{keyed}
-use Rattle.sql_judge.proofs.Gathering.{map-append, gathers-none, gathers-more}
+use Rattle.sql_places.proofs.Gathering.{map-append, gathers-none, gathers-more}
 
 under-suc : (n : ℕ) (e : Expr) → under (suc n) e ≡ under n (nullable e)
 under-suc zero e = refl

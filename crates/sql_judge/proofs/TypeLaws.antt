@@ -13,7 +13,7 @@ use Rattle.sql_rules.specs.Lists.{AnyOf}
 use Rattle.sql_rules.specs.Rules.{IsIllTyped}
 use Rattle.sql_rules.specs.Scope.{nodes, flat}
 use Rattle.sql_rules.specs.Types.{Given, one, many, given, only_type, all_nullable, as_nullable, not_type, if_typed, compared_type, joined_type, among_type, single_type, bool_type, big_type, columns, type_of, fits, all_fit}
-use Rattle.sql_judge.specs.Typed.{misfit}
+use Rattle.sql_judge.specs.Misfits.{misfit}
 use Rattle.sql_judge.proofs.Groups.{list_any-append}
 use Rattle.sql_judge.proofs.Loops.{any-decides, any_each, any_map, map_any}
 

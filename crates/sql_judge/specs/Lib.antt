@@ -1,11 +1,6 @@
-pub mod Claused
 pub mod Columns
-pub mod Counts
 pub mod Ends
-pub mod Gathers
 pub mod Grouped
-pub mod Inside
 pub mod Keyed
-pub mod Lent
-pub mod Parted
-pub mod Typed
+pub mod Misfits
+pub mod Seen

@@ -5,12 +5,12 @@ ghost use Rattle.std.specs.Prelude.{◌≡◌, IsTrue, option_map};
 ghost use Rattle.std.specs.Bool.{Decides};
 ghost use Rattle.sql_node.specs.View.{distinct_clause_tree, expr_tree, from_clause_tree, join_on_tree, maybe_of, source_tree};
 ghost use Rattle.sql_rules.specs.Rules.{FromHasMarks, FromLacksOn, HasLock, HasTableMarks, IsCombinationUnsupported, IsDistinct, IsDistinctOn, IsIncompatible, IsMysql, IsNotPg, IsOffsetAlone, IsSelectUnsupported, IsUnboxed, LacksForm, LacksLock, LacksOn, Present, misuse as misused};
-ghost use Rattle.sql_judge.specs.Lent.{combined_of, form_of, select_of};
+ghost use Rattle.sql_places.specs.Lent.{combined_of, form_of, select_of};
 
-use crate::lent::{Combined, Form, Selection};
 use sql_dialect::{Backend, Dialect};
 use sql_leaf::{LimitOffsetClause, LockMode, LockingClause, Marks};
 use sql_node::{DistinctClause, Expr, FromClause, JoinOn, Source};
+use sql_places::{Combined, Form, Selection};
 
 // ---- clauses that do not go together
 

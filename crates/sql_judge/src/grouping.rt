@@ -9,13 +9,13 @@ ghost use Rattle.sql_source.specs.Lent.{origin_of};
 ghost use Rattle.sql_rules.specs.Scope.{nodes_of};
 ghost use Rattle.sql_rules.specs.Rules.{CountsAggregate, HasAggregate, IsMisgrouped, distinct_verdict as distinct_gives, items_verdict as items_give, order_verdict as order_gives};
 ghost use Rattle.sql_rules.specs.Verdicts.{column_verdict as column_gives, fields, fields_of, holds_aggregate, holds_column, holds_key as holds_whole_key, is_aggregate, NoVerdict, mix as mixed, verdict as gives, verdict_of};
-ghost use Rattle.sql_judge.specs.Lent.{order_of, select_of};
+ghost use Rattle.sql_places.specs.Lent.{order_of, select_of};
 ghost use Rattle.sql_judge.specs.Grouped.{count_gives, verdict_tree};
 
 use crate::clash::is_unboxed;
-use crate::lent::Selection;
 use crate::test::NodeTest;
 use sql_node::{DistinctClause, Expr, OrderItem};
+use sql_places::Selection;
 use sql_schema::Column;
 use sql_source::Origin;
 

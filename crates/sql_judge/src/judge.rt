@@ -4,106 +4,77 @@
 ghost use Rattle.std.specs.Prelude.{◌≡◌, ◌≢◌, ◌⊎◌, IfOk, map, [], IsTrue};
 ghost use Rattle.std.specs.Bool.{Decides};
 ghost use Rattle.sql_node.specs.View.{statement_tree};
-ghost use Rattle.sql_source.specs.Lent.{origin_of};
-ghost use Rattle.sql_rules.specs.Lists.{AnyOf, Selects};
+ghost use Rattle.sql_rules.specs.Lists.{AnyOf, Each, Selects};
 ghost use Rattle.sql_rules.specs.Rules.{AnyClause, AnyExpr, AnyTwoLeaves, Broken, CombinationBreaks, CountsAggregate, HasUnknownName, IsEmptyList, IsEmptyOrder, IsIllTypedClause, IsMisgrouped, PartBreaks, SelectBreaks, all_rules};
 ghost use Rattle.sql_rules.specs.Scope.{parts as parts_in};
 ghost use Rattle.sql_rules.specs.Types.{columns as columns_of};
-ghost use Rattle.sql_judge.specs.Lent.{combined_of, select_of};
-ghost use Rattle.sql_judge.specs.Parted.{part_of};
+ghost use Rattle.sql_places.specs.Lent.{combined_of};
+ghost use Rattle.sql_judge.specs.Seen.{IsLook, IsWhole, look_part, seen_outer, seen_select};
 
-use crate::binds::has_too_many_binds;
 use crate::clash::{combination_unsupported, from_lacks_on, is_incompatible, select_unsupported};
-use crate::clause::clauses;
 use crate::grouping::{Counted, is_misgrouped};
 use crate::leaves::{Alike, Apart, Clash};
-use crate::lent::{Combined, Selection};
 use crate::lists::{EmptyClause, has_no_positions, is_empty_order};
 use crate::names::{OutOfScope, UnknownColumn, any_unknown};
 use crate::nullable::BarePadded;
 use crate::order::order_differs;
-use crate::part::{Part, parts};
+use crate::seen::{Look, Seen, look_at_each};
 use crate::test::{ClauseTest, InNodes, PairTest, any_clause, any_pair};
-use crate::types::columns;
 use crate::typing::IllTyped;
-use crate::view::{own_view, widest_view};
 use sql_dialect::Backend;
 use sql_node::Statement;
+use sql_places::{Combined, parts};
 use sql_rules::{RULES, Rule};
 use sql_schema::{NoMemory, Schema};
-use sql_source::Origin;
+use sql_types::{columns, has_too_many_binds};
 use std::alloc::Global;
 
-fn any_two<T: PairTest>(
-    test: &T,
-    alloc: Global,
-    outer: &[Origin<'_>],
-    select: Selection<'_>,
-) -> Result<bool, NoMemory>
-    ensures { IfOk result (λ b. Decides b (AnyTwoLeaves (T.holds test.now) (map origin_of outer.now) (select_of select.entry))) }
+fn any_two<T: PairTest>(test: &T, seen: &Seen<'_>) -> bool
+    requires { IsWhole seen.now }
+    ensures { Decides result (AnyTwoLeaves (T.holds test.now) (seen_outer seen.now) (seen_select seen.now)) }
 {
-    let view = widest_view(alloc, outer, select.form, select.source)?;
-    Ok(any_pair(test, view.as_slice()))
+    any_pair(test, seen.widest.as_slice())
 }
 
-fn has_unknown_name(
-    alloc: Global,
-    schema: &Schema,
-    outer: &[Origin<'_>],
-    select: Selection<'_>,
-) -> Result<bool, NoMemory>
-    ensures { IfOk result (λ b. Decides b (HasUnknownName schema.now (map origin_of outer.now) (select_of select.entry))) }
+fn has_unknown_name(alloc: Global, schema: &Schema, seen: &Seen<'_>) -> Result<bool, NoMemory>
+    requires { IsWhole seen.now }
+    ensures { IfOk result (λ b. Decides b (HasUnknownName schema.now (seen_outer seen.now) (seen_select seen.now))) }
 {
-    let own = own_view(alloc, select.source)?;
-    let all = clauses(alloc, outer, select)?;
-    let column = any_clause(&InNodes(UnknownColumn { schema }), alloc, all.as_slice())?;
-    Ok(any_unknown(schema, own.as_slice()) || column)
+    let column = any_in(&InNodes(UnknownColumn { schema }), alloc, seen)?;
+    let table = any_unknown(schema, seen.own.as_slice());
+    Ok(table || column)
 }
 
 /// Whether the test holds of a clause.
-fn any_in<T: ClauseTest>(
-    test: &T,
-    alloc: Global,
-    outer: &[Origin<'_>],
-    select: Selection<'_>,
-) -> Result<bool, NoMemory>
-    ensures { IfOk result (λ b. Decides b (AnyClause (T.holds test.now) (map origin_of outer.now) (select_of select.entry))) }
+fn any_in<T: ClauseTest>(test: &T, alloc: Global, seen: &Seen<'_>) -> Result<bool, NoMemory>
+    requires { IsWhole seen.now }
+    ensures { IfOk result (λ b. Decides b (AnyClause (T.holds test.now) (seen_outer seen.now) (seen_select seen.now))) }
 {
-    let all = clauses(alloc, outer, select)?;
-    any_clause(test, alloc, all.as_slice())
+    any_clause(test, alloc, seen.clauses.as_slice())
 }
 
-fn has_empty_list(
-    alloc: Global,
-    outer: &[Origin<'_>],
-    select: Selection<'_>,
-) -> Result<bool, NoMemory>
-    ensures { IfOk result (λ b. Decides b (AnyClause IsEmptyList (map origin_of outer.now) (select_of select.entry) ⊎ IsEmptyOrder (select_of select.entry).order)) }
+fn has_empty_list(alloc: Global, seen: &Seen<'_>) -> Result<bool, NoMemory>
+    requires { IsWhole seen.now }
+    ensures { IfOk result (λ b. Decides b (AnyClause IsEmptyList (seen_outer seen.now) (seen_select seen.now) ⊎ IsEmptyOrder (seen_select seen.now).order)) }
 {
-    let clause = any_in(&EmptyClause, alloc, outer, select)?;
-    Ok(clause || is_empty_order(select.order))
+    let clause = any_in(&EmptyClause, alloc, seen)?;
+    Ok(clause || is_empty_order(seen.select.order))
 }
 
-fn has_type_mismatch(
-    alloc: Global,
-    outer: &[Origin<'_>],
-    select: Selection<'_>,
-) -> Result<bool, NoMemory>
-    ensures { IfOk result (λ b. Decides b (AnyClause IsIllTypedClause (map origin_of outer.now) (select_of select.entry) ⊎ IsTrue (select_of select.entry).marks.key_count)) }
+fn has_type_mismatch(alloc: Global, seen: &Seen<'_>) -> Result<bool, NoMemory>
+    requires { IsWhole seen.now }
+    ensures { IfOk result (λ b. Decides b (AnyClause IsIllTypedClause (seen_outer seen.now) (seen_select seen.now) ⊎ IsTrue (seen_select seen.now).marks.key_count)) }
 {
-    let clause = any_in(&IllTyped, alloc, outer, select)?;
-    Ok(clause || select.marks.key_count)
+    let clause = any_in(&IllTyped, alloc, seen)?;
+    Ok(clause || seen.select.marks.key_count)
 }
 
-fn breaks_grouping(
-    alloc: Global,
-    outer: &[Origin<'_>],
-    select: Selection<'_>,
-) -> Result<bool, NoMemory>
-    ensures { IfOk result (λ b. Decides b (AnyExpr (λ v. CountsAggregate) (map origin_of outer.now) (select_of select.entry) ⊎ IsMisgrouped (select_of select.entry))) }
+fn breaks_grouping(alloc: Global, seen: &Seen<'_>) -> Result<bool, NoMemory>
+    requires { IsWhole seen.now }
+    ensures { IfOk result (λ b. Decides b (AnyExpr (λ v. CountsAggregate) (seen_outer seen.now) (seen_select seen.now) ⊎ IsMisgrouped (seen_select seen.now))) }
 {
-    let counted = any_in(&InNodes(Counted), alloc, outer, select)?;
-    Ok(counted || is_misgrouped(select))
+    let counted = any_in(&InNodes(Counted), alloc, seen)?;
+    Ok(counted || is_misgrouped(seen.select))
 }
 
 /// Whether a select statement inside the statement breaks the rule.
@@ -112,23 +83,24 @@ fn select_breaks<DB: Backend>(
     rule: Rule,
     backend: &DB,
     schema: &Schema,
-    outer: &[Origin<'_>],
-    select: Selection<'_>,
+    seen: &Seen<'_>,
 ) -> Result<bool, NoMemory>
-    ensures { IfOk result (λ b. Decides b (SelectBreaks rule schema.now DB.speaks (map origin_of outer.now) (select_of select.entry))) }
+    requires { IsWhole seen.now }
+    ensures { IfOk result (λ b. Decides b (SelectBreaks rule schema.now DB.speaks (seen_outer seen.now) (seen_select seen.now))) }
 {
+    let select = seen.select;
     match rule {
-        Rule::UnknownName => has_unknown_name(alloc, schema, outer, select),
+        Rule::UnknownName => has_unknown_name(alloc, schema, seen),
         Rule::Incompatible => Ok(is_incompatible(select)),
-        Rule::EmptyList => has_empty_list(alloc, outer, select),
+        Rule::EmptyList => has_empty_list(alloc, seen),
         Rule::NoRelation => Ok(from_lacks_on(select.source)),
-        Rule::Ambiguous => any_two(&Alike, alloc, outer, select),
-        Rule::NotTogether => any_two(&Apart { schema }, alloc, outer, select),
-        Rule::NameClash => any_two(&Clash, alloc, outer, select),
-        Rule::NotInScope => any_in(&InNodes(OutOfScope), alloc, outer, select),
-        Rule::TypeMismatch => has_type_mismatch(alloc, outer, select),
-        Rule::NeedsNullable => any_in(&BarePadded { select }, alloc, outer, select),
-        Rule::Grouping => breaks_grouping(alloc, outer, select),
+        Rule::Ambiguous => Ok(any_two(&Alike, seen)),
+        Rule::NotTogether => Ok(any_two(&Apart { schema }, seen)),
+        Rule::NameClash => Ok(any_two(&Clash, seen)),
+        Rule::NotInScope => any_in(&InNodes(OutOfScope), alloc, seen),
+        Rule::TypeMismatch => has_type_mismatch(alloc, seen),
+        Rule::NeedsNullable => any_in(&BarePadded { select }, alloc, seen),
+        Rule::Grouping => breaks_grouping(alloc, seen),
         Rule::InvalidDistinctOrder => order_differs(alloc, select),
         Rule::Unsupported => Ok(select_unsupported(backend.dialect(), select)),
         Rule::TooManyBinds => Ok(false),
@@ -165,15 +137,14 @@ fn part_breaks<DB: Backend>(
     rule: Rule,
     backend: &DB,
     schema: &Schema,
-    part: &Part<'_>,
+    part: &Look<'_>,
 ) -> Result<bool, NoMemory>
-    ensures { IfOk result (λ b. Decides b (PartBreaks rule schema.now DB.speaks (part_of part.now))) }
+    requires { IsLook part.now }
+    ensures { IfOk result (λ b. Decides b (PartBreaks rule schema.now DB.speaks (look_part part.now))) }
 {
     match part {
-        Part::Select(outer, select) => {
-            select_breaks(alloc, rule, backend, schema, outer.as_slice(), *select)
-        }
-        Part::Combination(both) => combination_breaks(alloc, rule, backend, *both),
+        Look::Select(seen) => select_breaks(alloc, rule, backend, schema, seen),
+        Look::Combination(both) => combination_breaks(alloc, rule, backend, *both),
     }
 }
 
@@ -182,9 +153,10 @@ fn any_breaks<DB: Backend>(
     rule: Rule,
     backend: &DB,
     schema: &Schema,
-    parts: &[Part<'_>],
+    parts: &[Look<'_>],
 ) -> Result<bool, NoMemory>
-    ensures { IfOk result (λ b. Decides b (AnyOf (PartBreaks rule schema.now DB.speaks) (map part_of parts.now))) }
+    requires { Each IsLook parts.now }
+    ensures { IfOk result (λ b. Decides b (AnyOf (PartBreaks rule schema.now DB.speaks) (map look_part parts.now))) }
 {
     for part in parts {
         if part_breaks(alloc, rule, backend, schema, part)? {
@@ -201,9 +173,10 @@ fn breaks<DB: Backend>(
     backend: &DB,
     schema: &Schema,
     statement: &Statement,
-    parts: &[Part<'_>],
+    parts: &[Look<'_>],
 ) -> Result<bool, NoMemory>
-    requires { map part_of parts.now ≡ parts_in [] (statement_tree statement.now) }
+    requires whole { Each IsLook parts.now }
+    requires parts { map look_part parts.now ≡ parts_in [] (statement_tree statement.now) }
     ensures { IfOk result (λ b. Decides b (Broken rule schema.now DB.speaks (statement_tree statement.now))) }
 {
     match rule {
@@ -222,7 +195,7 @@ fn broken_among<DB: Backend>(
 ) -> Result<Vec<Rule>, NoMemory>
     ensures { IfOk result (λ v. Selects (λ r. Broken r schema.now DB.speaks (statement_tree statement.now)) rules.now v.items) }
 {
-    let parts = parts(alloc, statement)?;
+    let parts = look_at_each(alloc, parts(alloc, statement)?)?;
     let mut broken = Vec::new(alloc);
     for rule in rules {
         if breaks(alloc, *rule, backend, schema, statement, parts.as_slice())? {

@@ -6,13 +6,12 @@ ghost use Rattle.std.specs.Bool.{Decides};
 ghost use Rattle.sql_node.specs.View.{expr_tree, exprs_of, items_of, order_item_tree};
 ghost use Rattle.sql_rules.specs.Rules.{IsEmptyList, IsEmptyOrder, IsListPlace};
 ghost use Rattle.sql_rules.specs.Scope.{flat, flat_items, flat_of};
-ghost use Rattle.sql_judge.specs.Claused.{clause_of, place_of};
-ghost use Rattle.sql_judge.specs.Lent.{combined_of, order_of};
+ghost use Rattle.sql_places.specs.Claused.{clause_of, place_of};
+ghost use Rattle.sql_places.specs.Lent.{combined_of, order_of};
 
-use crate::clause::{Clause, Place};
-use crate::lent::Combined;
 use crate::test::ClauseTest;
 use sql_node::{Expr, OrderItem};
+use sql_places::{Clause, Combined, Place};
 use sql_schema::NoMemory;
 use std::alloc::Global;
 

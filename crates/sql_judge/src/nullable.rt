@@ -1,5 +1,5 @@
 //! Columns whose row an outer join may lack.
-#![tactic(auto, using(sql_node::proofs::Trees::opens_expr, sql_node::proofs::Trees::opens_source, sql_node::proofs::Trees::opens_join_on, sql_node::proofs::Trees::opens_join, sql_node::proofs::Trees::opens_from_clause, crate::proofs::Gathering::gathering, crate::proofs::Views::views, crate::proofs::Tests::tests))]
+#![tactic(auto, using(sql_node::proofs::Trees::opens_expr, sql_node::proofs::Trees::opens_source, sql_node::proofs::Trees::opens_join_on, sql_node::proofs::Trees::opens_join, sql_node::proofs::Trees::opens_from_clause, sql_places::proofs::Gathering::gathering, sql_places::proofs::Views::views, crate::proofs::Tests::tests))]
 
 ghost use Rattle.std.specs.Prelude.{◌≡◌, IfOk, map, IsTrue, ◌++◌, ◌&&◌, [], ◌∷◌};
 ghost use Rattle.std.specs.Bool.{Decides};
@@ -10,16 +10,14 @@ ghost use Rattle.sql_source.specs.Origins.{same_origin};
 ghost use Rattle.sql_rules.specs.Lists.{AnyOf};
 ghost use Rattle.sql_rules.specs.Rules.{IsPadded, IsSeen, LacksNullable, bare as bare_in, bare_of};
 ghost use Rattle.sql_rules.specs.Scope.{leaves_of, origins, own as own_in};
-ghost use Rattle.sql_judge.specs.Gathers.{Gathers};
-ghost use Rattle.sql_judge.specs.Claused.{clause_of};
-ghost use Rattle.sql_judge.specs.Lent.{select_of};
+ghost use Rattle.sql_places.specs.Gathers.{Gathers};
+ghost use Rattle.sql_places.specs.Claused.{clause_of};
+ghost use Rattle.sql_places.specs.Lent.{select_of};
 
-use crate::clause::{Clause, Place};
-use crate::lent::Selection;
 use crate::test::{ClauseTest, PairTest, any_pair};
-use crate::view::own_view;
 use sql_leaf::JoinKind;
 use sql_node::{Expr, FromClause, JoinOn, Source};
+use sql_places::{Clause, Place, Selection, own_view};
 use sql_schema::NoMemory;
 use sql_source::Origin;
 use std::alloc::Global;

@@ -1,5 +1,5 @@
 //! An order that does not begin as `DISTINCT ON`.
-#![tactic(auto, using(crate::proofs::Gathering::gathering, crate::proofs::Keyed::keying, sql_node::proofs::Trees::opens_expr, sql_node::proofs::Trees::opens_distinct_clause))]
+#![tactic(auto, using(sql_places::proofs::Gathering::gathering, crate::proofs::Keyed::keying, sql_node::proofs::Trees::opens_expr, sql_node::proofs::Trees::opens_distinct_clause))]
 
 ghost use Rattle.std.specs.Prelude.{◌≡◌, ◌≢◌, [], ◌∷◌, IfOk, map};
 ghost use Rattle.std.specs.Bool.{Decides};
@@ -8,13 +8,13 @@ ghost use Rattle.sql_key.specs.Expressions.{expr_shape};
 ghost use Rattle.sql_rules.specs.Lists.{Differ};
 ghost use Rattle.sql_rules.specs.Rules.{OrderDiffers};
 ghost use Rattle.sql_rules.specs.Scope.{flat, flat_of, flat_items};
-ghost use Rattle.sql_judge.specs.Gathers.{Gathers};
+ghost use Rattle.sql_places.specs.Gathers.{Gathers};
 ghost use Rattle.sql_judge.specs.Keyed.{keyed};
-ghost use Rattle.sql_judge.specs.Lent.{select_of};
+ghost use Rattle.sql_places.specs.Lent.{select_of};
 
-use crate::lent::{Form, Selection};
 use sql_key::{QueryKey, expression_key};
 use sql_node::{DistinctClause, Expr, OrderItem};
+use sql_places::{Form, Selection};
 use sql_schema::NoMemory;
 use std::alloc::{AllocError, Global};
 

@@ -9,11 +9,10 @@ ghost use Rattle.sql_source.specs.Lent.{origin_of};
 ghost use Rattle.sql_rules.specs.Lists.{AnyOf, AnyPair};
 ghost use Rattle.sql_rules.specs.Scope as scope;
 ghost use Rattle.sql_rules.specs.Scope.{View, nodes as nodes_in};
-ghost use Rattle.sql_judge.specs.Claused.{clause_of};
+ghost use Rattle.sql_places.specs.Claused.{clause_of};
 
-use crate::clause::Clause;
-use crate::node::nodes;
 use sql_node::Expr;
+use sql_places::{Clause, nodes};
 use sql_schema::NoMemory;
 use sql_source::Origin;
 use std::alloc::Global;

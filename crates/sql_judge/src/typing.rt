@@ -9,15 +9,14 @@ ghost use Rattle.sql_rules.specs.Lists.{AnyOf};
 ghost use Rattle.sql_rules.specs.Rules.{IsBool, IsIllTyped, IsIllTypedClause};
 ghost use Rattle.sql_rules.specs.Scope.{flat, flat_of, nodes as nodes_in};
 ghost use Rattle.sql_rules.specs.Types.{type_of as type_in};
-ghost use Rattle.sql_judge.specs.Claused.{clause_of};
-ghost use Rattle.sql_judge.specs.Typed.{misfit};
+ghost use Rattle.sql_places.specs.Claused.{clause_of};
+ghost use Rattle.sql_judge.specs.Misfits.{misfit};
 
-use crate::clause::{Clause, Place};
-use crate::node::nodes;
 use crate::test::ClauseTest;
-use crate::types::{fits, type_of};
 use sql_node::Expr;
+use sql_places::{Clause, Place, nodes};
 use sql_schema::{Base, NoMemory, SqlType};
+use sql_types::{fits, type_of};
 use std::alloc::Global;
 
 /// Whether it is a value that does not fit its type.

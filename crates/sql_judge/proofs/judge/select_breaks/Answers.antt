@@ -1,10 +1,9 @@
-use Rattle.std.proofs.Common.{IfOk, map, sym, subst}
+use Rattle.std.proofs.Common.{IfOk, sym, subst}
 use Rattle.std.specs.Bool.{Decides}
-use Rattle.sql_source.specs.Lent.{origin_of}
 use Rattle.sql_rules.specs.Rules.{SelectBreaks}
-use Rattle.sql_judge.specs.Lent.{select_of}
+use Rattle.sql_judge.specs.Seen.{seen_outer, seen_select}
 use Rattle.sql_judge.proofs.judge.select_breaks.Goals as goal
 
 pub returns-in-Grouping : goal.returns-in-Grouping
 returns-in-Grouping g c =
-    subst (λ r. IfOk c.breaks_grouping.result (λ b. Decides b (SelectBreaks r c.args.schema.now g.DB.Backend.speaks (map origin_of c.args.outer.now) (select_of c.args.select)))) (sym c.in-Grouping.is) c.breaks_grouping.ensures
+    subst (λ r. IfOk c.breaks_grouping.result (λ b. Decides b (SelectBreaks r c.args.schema.now g.DB.Backend.speaks (seen_outer c.args.seen.now) (seen_select c.args.seen.now)))) (sym c.in-Grouping.is) c.breaks_grouping.ensures

@@ -2,7 +2,7 @@ use Rattle.std.proofs.Common.{map, refl, rules}
 use Rattle.sql_node.specs.View.{expr_tree, exprs_of}
 use Rattle.sql_source.specs.Lent.{origin_of}
 use Rattle.sql_rules.specs.Rules.{bare, bare_of}
-use Rattle.sql_judge.proofs.Gathering.{each-next, each-end}
+use Rattle.sql_places.proofs.Gathering.{each-next, each-end}
 use Rattle.sql_judge.proofs.nullable.+bare.Goals as goal
 
 pub gather_each-loop-expr-preserved : goal.gather_each-loop-expr-preserved

@@ -1,7 +1,7 @@
 use Rattle.std.proofs.Common.{refl}
 use Rattle.sql_source.specs.Lent.{origin_of}
 use Rattle.sql_rules.specs.Rules.{IsPadded}
-use Rattle.sql_judge.specs.Lent.{select_of}
+use Rattle.sql_places.specs.Lent.{select_of}
 use Rattle.sql_judge.proofs.Loops.{here_any}
 use Rattle.sql_judge.proofs.nullable.any_padded.Goals as goal
 

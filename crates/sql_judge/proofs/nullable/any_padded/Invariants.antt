@@ -2,7 +2,7 @@ use Rattle.std.proofs.Common.{drop, map}
 use Rattle.sql_source.specs.Lent.{origin_of}
 use Rattle.sql_rules.specs.Lists.{AnyOf}
 use Rattle.sql_rules.specs.Rules.{IsPadded}
-use Rattle.sql_judge.specs.Lent.{select_of}
+use Rattle.sql_places.specs.Lent.{select_of}
 use Rattle.sql_judge.proofs.nullable.any_padded.Given as goal
 
 abbrev pub invariant-loop-origin : goal.invariant-loop-origin

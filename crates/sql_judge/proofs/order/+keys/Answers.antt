@@ -2,7 +2,7 @@ use Rattle.std.proofs.Common.{map, refl, rules}
 use Rattle.sql_node.specs.View.{expr_tree, exprs_of}
 use Rattle.sql_rules.specs.Scope.{flat, flat_of}
 use Rattle.sql_judge.specs.Keyed.{keyed}
-use Rattle.sql_judge.proofs.Gathering.{each-next, each-end}
+use Rattle.sql_places.proofs.Gathering.{each-next, each-end}
 use Rattle.sql_judge.proofs.Keyed.{keyed-more}
 use Rattle.sql_judge.proofs.order.+keys.Goals as goal
 

@@ -3,7 +3,7 @@ use Rattle.std.proofs.lemmas.List.{map-id}
 use Rattle.sql_node.specs.View.{items_of, order_item_tree}
 use Rattle.sql_rules.specs.Scope.{flat, flat_items}
 use Rattle.sql_judge.specs.Keyed.{keyed}
-use Rattle.sql_judge.proofs.Gathering.{each-next, each-end}
+use Rattle.sql_places.proofs.Gathering.{each-next, each-end}
 use Rattle.sql_judge.proofs.Keyed.{keyed-more}
 use Rattle.sql_judge.proofs.order.order_keys.Goals as goal
 

@@ -1,6 +1,6 @@
 use Rattle.std.proofs.Common.{drop, map}
 use Rattle.sql_rules.specs.Lists.{AnyOf}
-use Rattle.sql_judge.specs.Claused.{clause_of}
+use Rattle.sql_places.specs.Claused.{clause_of}
 use Rattle.sql_judge.proofs.test.any_clause.Given as goal
 
 abbrev pub invariant-loop-clause : goal.invariant-loop-clause

@@ -1,0 +1,4 @@
+pub mod Gathered
+pub mod Gathering
+pub mod InnerParts
+pub mod Views

@@ -1,0 +1,18 @@
+-- The statements inside a statement, lent.
+use Rattle.std.specs.Prelude.{List, [], map}
+use Rattle.sql_node.specs.View.{Among, among_list, among_query}
+use Rattle.sql_source.specs.Lent.{origin_of}
+use Rattle.sql_rules.specs.Scope as scope
+use Rattle.sql_rules.specs.Scope.{View, a_select, a_combination, parts}
+use Rattle.sql_places.specs.Lent.{combined_of, select_of}
+use Rattle.sql_places.specs.declared.part.Part.{Part}
+use Rattle.sql_places.specs.declared.part.Part.TheVariants as P
+
+abbrev pub part_of : Part → scope.Part
+part_of (P.Select outer s) = a_select (map origin_of outer.items) (select_of s)
+part_of (P.Combination c) = a_combination (combined_of c)
+
+-- the statements inside what a membership looks in
+abbrev pub in_among : View → Among → List scope.Part
+in_among v (among_list t xs) = []
+in_among v (among_query q) = parts v q

@@ -1,0 +1,3 @@
+pub mod BindCounts
+pub mod Counting
+pub mod Nulled
