@@ -4,7 +4,6 @@
 
 mod maria;
 mod report;
-
 #[cfg(test)]
 mod tests;
 

@@ -84,7 +84,10 @@ fn a_part_on_two_backends(rt: HostRuntime) -> Result<(), Fail> {
     let builder = part.to_sql(Maria.query_builder(alloc), &Maria)?;
     assert_eq!(rt; builder.finish().as_str(), "UPPER(`name`)");
     let shown = debug_query(alloc, &Pg, &part)?;
-    assert_eq!(rt; format!(in alloc; "{shown}")?.as_str(), "UPPER(\"name\") -- binds: []");
+    assert_eq!(rt;
+        format!(in alloc; "{shown}")?.as_str(),
+        "UPPER(\"name\") -- binds: []"
+    );
     assert!(rt; part.is_safe_to_cache_prepared(&Maria) && !part.is_noop(&Maria));
     Ok(())
 }

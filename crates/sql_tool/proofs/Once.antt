@@ -52,9 +52,11 @@ front-of-all schema earlier (r ∷ rs) later [] all some whole = absurd some
 front-of-all schema earlier (r ∷ rs) later (j ∷ js) [] some whole = absurd whole
 front-of-all schema earlier (r ∷ rs) later (j ∷ js) (k ∷ all) some whole =
     let (rest, is) = front-of-all schema (earlier ++ key_seen r.dialect k ∷ []) rs later js all some.1 whole.1 in
-    let same = one-judgement schema r k j whole.0 some.0 in
-    (rest, ap (λ t. line earlier r.dialect k ++ t) is ∙ ap (λ i. line earlier r.dialect i ++ (lines (earlier ++ key_seen r.dialect i ∷ []) rs js ++ rest)) same
-    ∙ sym (append_assoc (line earlier r.dialect j) (lines (earlier ++ key_seen r.dialect j ∷ []) rs js) rest))
+    let same = one-judgement schema r k j whole.0 some.0 in (
+      rest,
+      ap (λ t. line earlier r.dialect k ++ t) is ∙ ap (λ i. line earlier r.dialect i ++ (lines (earlier ++ key_seen r.dialect i ∷ []) rs js ++ rest)) same
+          ∙ sym (append_assoc (line earlier r.dialect j) (lines (earlier ++ key_seen r.dialect j ∷ []) rs js) rest),
+    )
 
 judged-once : (schema : Declarations) (rs : List Request) (js ks : List Judgement) → JudgesEach schema rs js → JudgesEach schema rs ks → js ≡ ks
 judged-once schema [] [] [] first second = refl

@@ -12,10 +12,12 @@ const FOO: &str = r#"{"schema":{"tables":[{"name":"foo","columns":[{"name":"id",
     {"name":"mytype","sql_name":"type","type":"Integer"},{"name":"hey","sql_name":"bleh","type":"Integer"}]}]},
     "requests":[{"dialect":"Pg","query":{"from":{"table":"foo"},"calls":[["filter",{"eq":[{"col":["foo","mytype"]},{"bind":["Integer",1]}]}]]}}]}"#;
 
-const USERS: &str = r#"{"schema":{"tables":[{"name":"users","columns":[{"name":"id","type":"Integer"},{"name":"name","type":"Text"}]}]},
+const USERS: &str =
+    r#"{"schema":{"tables":[{"name":"users","columns":[{"name":"id","type":"Integer"},{"name":"name","type":"Text"}]}]},
     "requests":[{"dialect":"Pg","query":{"from":{"table":"users"},"calls":[["filter",{"eq":[{"col":["users","name"]},{"bind":["Text","x"]}]}]]}}]}"#;
 
-const LIST: &str = r#"{"schema":{"tables":[{"name":"users","columns":[{"name":"id","type":"Integer"}]}]},
+const LIST: &str =
+    r#"{"schema":{"tables":[{"name":"users","columns":[{"name":"id","type":"Integer"}]}]},
     "requests":[{"dialect":"Pg","query":{"from":{"table":"users"},"calls":[["filter",{"eq_any":[{"col":["users","id"]},{"list":["Integer",[1,2]]}]}],["limit",3]]}}]}"#;
 
 fn shown<DB: Backend>(
@@ -24,7 +26,9 @@ fn shown<DB: Backend>(
     schema: &Schema,
     request: &Request,
 ) -> Result<String, Fail> {
-    let statement = statement(alloc, schema, request.dialect, &request.query)?.ok_or("no statement")?;
+    let statement = statement(alloc, schema, request.dialect, &request.query)?.ok_or(
+        "no statement",
+    )?;
     let shown = debug_query(alloc, backend, &statement)?;
     Ok(format!(in alloc; "{shown}")?)
 }
