@@ -30,7 +30,7 @@ least-is-one schema d s a b first second =
     first-is-one (λ q. Broken q schema d s) f g a b r t (sym cut ∙ cut-again) none none-again first.broken second.broken
 
 module _ (schema : Declarations) (r : Request) where
-  Made : Option Statement → Rule → Type 0
+  abbrev Made : Option Statement → Rule → Type 0
   Made o rule = MatchOption o (rule ≡ UnknownName) (λ s. IsLeast rule schema r.dialect s)
 
   refused-once : (o : Option Statement) (a b : Rule) → Made o a → Made o b → a ≡ b
