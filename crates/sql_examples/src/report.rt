@@ -1,12 +1,17 @@
-ghost use Rattle.std.specs.Prelude.{IfOk, string_bytes};
-ghost use Rattle.sql_dialect.specs.declared.backend.Dialect.TheVariants.{Pg as PgDialect};
+ghost use Rattle.std.specs.Prelude.{◌≡◌, IfErr, IfOk, IsErrOf, None, Some, string_bytes};
 ghost use Rattle.sql_node.specs.Tree as tree;
-ghost use Rattle.sql_check.specs.Compiled.{IsBuilt, IsRead};
+ghost use Rattle.sql_node.specs.View.{expr_tree, statement_tree};
+ghost use Rattle.sql_dialect.specs.declared.backend.Dialect.TheVariants.{Pg as PgDialect};
+ghost use Rattle.sql_rules.specs.declared.rule.Rule.{Rule};
+ghost use Rattle.sql_check.specs.Compiled.{IsBuilt, IsLeast, IsRead};
+ghost use Rattle.sql_check.specs.declared.error.CompileError.TheVariants.{NoMemory as WantOfMemory};
+ghost use Rattle.sql_examples.specs.Report.{first_ten, is_text, refusal, report};
+ghost use Rattle.sql_examples.specs.declared.report.ReportError.TheVariants.{Refused};
 
 use sql_check::{Built, CompileError, compile};
 use sql_dialect::Pg;
 use sql_expr::{Expr, ExpressionMethods, Statement, value};
-use sql_schema::{Schema, Table};
+use sql_schema::{Column, NoMemory, Schema, Table};
 use sql_select::{AsQuery, Query, QueryDsl};
 use std::alloc::{AllocError, Global};
 use thiserror::Error;
@@ -20,13 +25,9 @@ pub enum ReportError {
     Refused(CompileError),
 }
 
-impl From<CompileError> for ReportError {
-    fn from(error: CompileError) -> ReportError {
-        ReportError::Refused(error)
-    }
-}
-
 impl From<AllocError> for ReportError {
+    ghost from_gives = { λ _ e. e ≡ Refused WantOfMemory };
+
     fn from(_: AllocError) -> ReportError {
         ReportError::Refused(CompileError::NoMemory)
     }
@@ -35,22 +36,48 @@ impl From<AllocError> for ReportError {
 /// The first ten users of a name, as PostgreSQL reads them:
 /// `SELECT "users"."id", "users"."name" FROM "users" WHERE ("users"."name" = $1) LIMIT $2`.
 pub fn users_named(alloc: Global, schema: &Schema, name: &str) -> Result<Built, ReportError>
-    // A report is told of a statement that breaks no rule, and its text is read as that and as nothing else.
-    ensures { IfOk result (λ b. (s : tree.Statement) × IsBuilt schema.now PgDialect s b × IsRead PgDialect s (string_bytes b.sql) b.binds.items) }
+    // What is told is told of the report's statement, which breaks no rule, and the text is read as that and as nothing else.
+    ensures built { IfOk result (λ b. (s : tree.Statement) × (report schema.now name.now ≡ Some s)
+        × IsBuilt schema.now PgDialect s b × IsRead PgDialect s (string_bytes b.sql) b.binds.items) }
+    ensures no_users { IsErrOf result ReportError.NoUsers → report schema.now name.now ≡ None }
+    // An error that names a rule names the first that the statement breaks. Any other is want of memory.
+    ensures refused { IfErr result (λ e. (r : Rule) → refusal e ≡ Some r → (s : tree.Statement) × (report schema.now name.now ≡ Some s)
+        × IsLeast r schema.now PgDialect s) }
 {
-    let statement = named(alloc, schema, name)?;
-    Ok(compile(alloc, &Pg, schema, &statement)?)
+    let statement = statement(alloc, schema, name)?;
+    match compile(alloc, &Pg, schema, &statement) {
+        Ok(built) => Ok(built),
+        Err(error) => Err(ReportError::Refused(error)),
+    }
 }
 
-fn named(alloc: Global, schema: &Schema, name: &str) -> Result<Statement, ReportError> {
-    let users = schema.table("users").ok_or(ReportError::NoUsers)?;
-    let condition = name_is(alloc, users, name)?;
+fn statement(alloc: Global, schema: &Schema, name: &str) -> Result<Statement, ReportError>
+    ensures statement { IfOk result (λ s. report schema.now name.now ≡ Some (statement_tree s)) }
+    ensures no_users { IsErrOf result ReportError.NoUsers → report schema.now name.now ≡ None }
+    ensures memory { IfErr result (λ e. refusal e ≡ None) }
+{
+    let Some(users) = schema.table("users") else {
+        return Err(ReportError::NoUsers);
+    };
+    let Some(column) = users.column(alloc, "name")? else {
+        return Err(ReportError::NoUsers);
+    };
+    Ok(of_name(alloc, users, column, name)?)
+}
+
+fn of_name(alloc: Global, users: &Table, column: Column, name: &str) -> Result<Statement, NoMemory>
+    ensures { IfOk result (λ s. statement_tree s ≡ first_ten users.now name.now column) }
+{
+    let condition = name_is(alloc, column, name)?;
     let query = users.try_clone(alloc)?.as_query(alloc)?;
     Ok(query.filter(alloc, condition)?.limit(10).into_statement())
 }
 
-fn name_is(alloc: Global, users: &Table, name: &str) -> Result<Expr, ReportError> {
-    let column = users.column(alloc, "name")?.ok_or(ReportError::NoUsers)?;
-    let name = value(alloc, &name)?.ok_or(ReportError::NoUsers)?;
-    Ok(Expr::Column(column).eq(alloc, name)?)
+fn name_is(alloc: Global, column: Column, name: &str) -> Result<Expr, NoMemory>
+    ensures { IfOk result (λ e. expr_tree e ≡ is_text name.now column) }
+{
+    match value(alloc, &name)? {
+        Some(name) => Expr::Column(column).eq(alloc, name),
+        None => unreachable!(),
+    }
 }
