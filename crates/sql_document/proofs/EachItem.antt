@@ -4,7 +4,8 @@ use Rattle.std.proofs.lemmas.List.{drop_more, drop_all}
 use Rattle.serde_json.specs.Data.{Data, Items}
 use Rattle.serde_json.specs.View.{view, items_view}
 use Rattle.serde_json.specs.declared.value.Value.{Value}
-use Rattle.sql_document.specs.Members.{each, Refuses}
+use Rattle.sql_document.specs.Members.{each}
+use Rattle.sql_document.specs.Giving.{Refuses}
 use Rattle.sql_document.specs.Scalar.{◌>>=◌}
 use Rattle.sql_document.specs.declared.refusal.Refusal.{Refusal}
 use Rattle.sql_document.specs.declared.refusal.Refusal.TheVariants.{NoMemory, NotADocument}

@@ -1,7 +1,10 @@
+-- Which bytes are a document, and which one they are.
 pub mod Documents
-pub mod Members
-pub mod Names
+pub mod Trees
+pub mod Schemas
 pub mod Queries
 pub mod Scalar
-pub mod Schemas
-pub mod Trees
+pub mod Names
+pub mod Members
+-- A device of proofs: how decoders answer.
+pub mod Giving

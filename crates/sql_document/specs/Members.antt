@@ -1,19 +1,8 @@
--- Members of objects and items of arrays, and how a decoder answers.
-use Rattle.std.specs.Prelude.{◌≡◌, ℕ, List, [], ◌∷◌, Bool, Result, Ok, Err, Option, Some, None, is_some, option_map, if◌then◌else◌}
+-- Members of objects and items of arrays.
+use Rattle.std.specs.Prelude.{ℕ, List, [], ◌∷◌, Bool, Option, Some, None, is_some, option_map, if◌then◌else◌}
 use Rattle.serde_json.specs.Data.{Data, Items, no_items, item, Members, no_members, member}
 use Rattle.serde_json.specs.Find.{get, at, as_str, as_array, as_object}
 use Rattle.sql_document.specs.Scalar.{◌>>=◌}
-use Rattle.sql_document.specs.declared.refusal.Refusal.{Refusal}
-use Rattle.sql_document.specs.declared.refusal.Refusal.TheVariants.{NoMemory, NotADocument}
-
--- A decoder's answer, seen by `seen`, is what the form gives, unless memory ran out.
-abbrev pub Refuses : {Y : Type 0} → Refusal → Option Y → Type 0
-Refuses NoMemory given = Unit {0}
-Refuses NotADocument given = given ≡ None
-
-abbrev pub Gives : {X Y : Type 0} → (X → Y) → Result X Refusal → Option Y → Type 0
-Gives seen (Ok x) given = given ≡ Some (seen x)
-Gives seen (Err e) given = Refuses e given
 
 -- what f gives where there is a value, else the other
 abbrev pub if_some : {A B : Type 0} → Option A → (A → Option B) → Option B → Option B

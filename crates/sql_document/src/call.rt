@@ -2,7 +2,8 @@
 
 ghost use Rattle.std.specs.Prelude.{◌≡◌, option_map, option_and_then};
 ghost use Rattle.serde_json.specs.View.{view, items_view};
-ghost use Rattle.sql_document.specs.Members.{Gives, if_any, argument_of};
+ghost use Rattle.sql_document.specs.Members.{if_any, argument_of};
+ghost use Rattle.sql_document.specs.Giving.{Gives};
 ghost use Rattle.sql_document.specs.Queries.{plain_call as plain_call_of, join_call as join_call_of, boxed_call as boxed_call_of, list_call as list_call_of, argument_call as argument_call_of, last_call as last_call_of, dialect_named, named_call as named_call_of, expr_of, source_of, query_of, call_of};
 ghost use Rattle.sql_syntax.specs.Tree as tree;
 ghost use Rattle.sql_syntax.specs.View.{call_tree};

@@ -1,7 +1,8 @@
 ghost use Rattle.std.specs.Prelude.{◌≡◌, map, option_map};
 ghost use Rattle.serde_json.specs.View.{view, items_view};
 ghost use Rattle.sql_document.specs.Documents.{request_of, document_of, of_data, document};
-ghost use Rattle.sql_document.specs.Members.{Gives, each, items_at};
+ghost use Rattle.sql_document.specs.Members.{each, items_at};
+ghost use Rattle.sql_document.specs.Giving.{Gives};
 ghost use Rattle.sql_document.specs.Trees.{request_tree, document_tree};
 
 use crate::float::has_float;

@@ -2,7 +2,8 @@ ghost use Rattle.std.specs.Prelude.{◌≡◌, Option, option_map};
 ghost use Rattle.serde_json.specs.Data.{Data};
 ghost use Rattle.serde_json.specs.Find.{as_str};
 ghost use Rattle.serde_json.specs.View.{view, items_view};
-ghost use Rattle.sql_document.specs.Members.{Gives, each, each_if_any};
+ghost use Rattle.sql_document.specs.Members.{each, each_if_any};
+ghost use Rattle.sql_document.specs.Giving.{Gives};
 
 use crate::refusal::Refusal;
 use serde_json::Value;

@@ -2,7 +2,8 @@
 
 ghost use Rattle.std.specs.Prelude.{◌≡◌, map, option_map, option_and_then};
 ghost use Rattle.serde_json.specs.View.{view, items_view, members_view};
-ghost use Rattle.sql_document.specs.Members.{Gives, if_any, each, single};
+ghost use Rattle.sql_document.specs.Members.{if_any, each, single};
+ghost use Rattle.sql_document.specs.Giving.{Gives};
 ghost use Rattle.sql_document.specs.Queries.{count_star_of, column_name_of, field_name_of, bind_of, values_of, membership_of, binary_expr, quantified_expr, operation as operation_of, member_expr, expr_of, query_of};
 ghost use Rattle.sql_syntax.specs.View.{expr_tree, membership_tree};
 

@@ -2,7 +2,8 @@
 
 ghost use Rattle.std.specs.Prelude.{◌≡◌, map, option_map, option_and_then};
 ghost use Rattle.serde_json.specs.View.{view, items_view};
-ghost use Rattle.sql_document.specs.Members.{Gives, each, only_member};
+ghost use Rattle.sql_document.specs.Members.{each, only_member};
+ghost use Rattle.sql_document.specs.Giving.{Gives};
 ghost use Rattle.sql_document.specs.Queries.{directed, item_of, place_of, expr_of};
 ghost use Rattle.sql_syntax.specs.View.{order_item_tree};
 

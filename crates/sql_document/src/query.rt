@@ -3,7 +3,8 @@
 ghost use Rattle.std.specs.Prelude.{◌≡◌, ◌<◌, ℕ, map, option_map};
 ghost use Rattle.serde_json.specs.Data.{Data, depth as nesting};
 ghost use Rattle.serde_json.specs.View.{view, items_view};
-ghost use Rattle.sql_document.specs.Members.{Gives, each, each_if_any};
+ghost use Rattle.sql_document.specs.Members.{each, each_if_any};
+ghost use Rattle.sql_document.specs.Giving.{Gives};
 ghost use Rattle.sql_document.specs.Queries.{start_of, query_from, expr_of, source_of, query_of, call_of, nesting_bound};
 ghost use Rattle.sql_syntax.specs.View.{query_tree, query_start_tree, call_tree};
 

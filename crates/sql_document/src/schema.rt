@@ -1,7 +1,8 @@
 ghost use Rattle.std.specs.Prelude.{◌≡◌, ◌++◌, OnOk, IfOk, option_map};
 ghost use Rattle.serde_json.specs.Find.{as_str};
 ghost use Rattle.serde_json.specs.View.{view};
-ghost use Rattle.sql_document.specs.Members.{Gives, if_any};
+ghost use Rattle.sql_document.specs.Members.{if_any};
+ghost use Rattle.sql_document.specs.Giving.{Gives};
 ghost use Rattle.sql_document.specs.Schemas.{key_of, column_of, table_of, joinable_of, names_of, sound, schema_of};
 
 use crate::each::{Decode, decode_each, decode_if_any};

@@ -3,7 +3,8 @@
 ghost use Rattle.std.specs.Prelude.{◌≡◌, option_map, option_and_then};
 ghost use Rattle.serde_json.specs.Find.{at};
 ghost use Rattle.serde_json.specs.View.{view};
-ghost use Rattle.sql_document.specs.Members.{Gives, if_any};
+ghost use Rattle.sql_document.specs.Members.{if_any};
+ghost use Rattle.sql_document.specs.Giving.{Gives};
 ghost use Rattle.sql_document.specs.Queries.{flag_of, sample_of, table_name_of, alias_name_of, join_source_of, source_of, expr_of};
 ghost use Rattle.sql_document.specs.Scalar.{medium_of};
 ghost use Rattle.sql_syntax.specs.View.{source_tree, join_tree};

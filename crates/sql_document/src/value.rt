@@ -1,7 +1,8 @@
 ghost use Rattle.std.specs.Prelude.{◌≡◌};
 ghost use Rattle.std.specs.List.{list_any};
 ghost use Rattle.serde_json.specs.View.{view, items_view};
-ghost use Rattle.sql_document.specs.Members.{Gives, each};
+ghost use Rattle.sql_document.specs.Members.{each};
+ghost use Rattle.sql_document.specs.Giving.{Gives};
 ghost use Rattle.sql_document.specs.Scalar.{small_of, medium_of, place_number_of, is_upper_case, bytes_of, of_base, value_of};
 
 use crate::refusal::Refusal;
