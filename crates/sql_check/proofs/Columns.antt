@@ -10,7 +10,7 @@ use Rattle.sql_rules.specs.Rules.{Accepted, PartBreaks, IsIllTyped, IsIllTypedCl
 use Rattle.sql_rules.specs.Scope.{View, Clause, parts, flat, flat_of, nodes, own, distinct_clause}
 use Rattle.sql_rules.specs.Types.{Given, one, many, given, given_each, element_types, only_type, all_nullable, as_nullable, type_of, columns, form_columns}
 use Rattle.sql_rules.specs.declared.rule.Rule.TheVariants as R
-use Rattle.sql_law.proofs.Lists.{any_left, any_right}
+use Rattle.sql_rules.proofs.Lists.{any_left, any_right}
 use Rattle.sql_check.specs.Typed.{known}
 
 -- ---- the types of a list are those of its elements

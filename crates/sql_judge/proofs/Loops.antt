@@ -6,15 +6,7 @@ use Rattle.std.proofs.lemmas.Bool.{true≢false}
 use Rattle.std.proofs.lemmas.Bool.Decides.{Decides-or}
 use Rattle.std.proofs.lemmas.List.{drop_more, drop_all, take-append-drop}
 use Rattle.sql_rules.specs.Lists.{AnyOf, AnyPair, Each}
-
-pub any_left : {X : Type 0} (P : X → Type 0) (xs ys : List X) → AnyOf P xs → AnyOf P (xs ++ ys)
-any_left P [] ys h = absurd h
-any_left P (x ∷ xs) ys (inl p) = inl p
-any_left P (x ∷ xs) ys (inr h) = inr (any_left P xs ys h)
-
-pub any_right : {X : Type 0} (P : X → Type 0) (xs ys : List X) → AnyOf P ys → AnyOf P (xs ++ ys)
-any_right P [] ys h = h
-any_right P (x ∷ xs) ys h = inr (any_right P xs ys h)
+use Rattle.sql_rules.proofs.Lists.{any_left, any_right}
 
 pub any_split : {X : Type 0} (P : X → Type 0) (xs ys : List X) → AnyOf P (xs ++ ys) → AnyOf P xs ⊎ AnyOf P ys
 any_split P [] ys h = inr h

@@ -1,3 +1,4 @@
+-- Devices of proofs alone: the rules are defined in `sql_rules` (`Rules`).
 pub mod Columns
 pub mod Ends
 pub mod Grouped

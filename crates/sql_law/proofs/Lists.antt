@@ -2,6 +2,7 @@
 use Rattle.std.proofs.Common.{◌≡◌, ℕ, zero, suc, ◌<◌, List, [], ◌∷◌, ◌++◌, map, Option, Some, None, sym, ap, arith, inl, inr, ◌⊎◌, subst}
 use Rattle.std.specs.Prelude.{slice_get}
 use Rattle.sql_rules.specs.Lists.{AnyOf, Each, AnyPair}
+use Rattle.sql_rules.proofs.Lists.{any_left}
 
 -- none holds, so each fails
 pub each_not : {X : Type 0} (P : X → Type 0) (xs : List X) → ¬ AnyOf P xs → Each (λ x. ¬ P x) xs
@@ -19,15 +20,6 @@ each_map P Q f (x ∷ xs) p = (f x p.0, each_map P Q f xs p.1)
 pub each_append : {X : Type 0} (P : X → Type 0) (xs ys : List X) → Each P xs → Each P ys → Each P (xs ++ ys)
 each_append P [] ys p q = q
 each_append P (x ∷ xs) ys p q = (p.0, each_append P xs ys p.1 q)
-
-pub any_left : {X : Type 0} (P : X → Type 0) (xs ys : List X) → AnyOf P xs → AnyOf P (xs ++ ys)
-any_left P [] ys h = absurd h
-any_left P (x ∷ xs) ys (inl p) = inl p
-any_left P (x ∷ xs) ys (inr h) = inr (any_left P xs ys h)
-
-pub any_right : {X : Type 0} (P : X → Type 0) (xs ys : List X) → AnyOf P ys → AnyOf P (xs ++ ys)
-any_right P [] ys h = h
-any_right P (x ∷ xs) ys h = inr (any_right P xs ys h)
 
 pub pair_left : {X : Type 0} (R : X → X → Type 0) (xs ys : List X) → AnyPair R xs → AnyPair R (xs ++ ys)
 pair_left R [] ys h = absurd h

@@ -42,7 +42,7 @@ one_by_one-alike d n x y h t (v ∷ vs) =
     (alike-append (alike-same (one Unsafe)) (alike-append (alike-around (codes "(") (among_sql d n) h)
     (alike-before (codes "))") (commas-alike true (map (λ v. one (Bind (OneValue t v))) (map (λ (x : Value). Null) (v ∷ vs))) (map (λ v. one (Bind (OneValue t v))) (v ∷ vs)) (values-alike t (v ∷ vs))))))
 
-among-alike : (d : Dialect) (n : Bool) (x y : List Piece) → Alike x y → (t : SqlType) (vs : List Value) → Alike (among_pieces d n x t (blank_values true vs)) (among_pieces d n y t vs)
+among-alike : (d : Dialect) (n : Bool) (x y : List Piece) → Alike x y → (t : SqlType) (vs : List Value) → Alike (among_pieces d n x t (blank_values vs)) (among_pieces d n y t vs)
 among-alike Pg n x y h t vs =
     alike-append (alike-around (codes "(") (among_sql Pg n) h) (alike-before (codes "))") (alike-bind (ManyValues t (map (λ (v : Value). Null) vs)) (ManyValues t vs) (ap (ManyValues t) (blank-twice vs))))
 among-alike Mysql n x y h t vs = one_by_one-alike Mysql n x y h t vs
@@ -75,66 +75,66 @@ end-alike d r (boxed e n) = page-alike d true r.limit_clause r.offset_clause
 
 module _ (d : Dialect) where
   mutual
-    expr-alike : (e : Expr) → AlikeWritten (expr_parts d (shape_expr true e)) (expr_parts d e)
+    expr-alike : (e : Expr) → AlikeWritten (expr_parts d (shape_expr e)) (expr_parts d e)
     expr-alike (column o c) = alike-same (leaf_pieces o c)
     expr-alike (value t v) = one-alike t v
     expr-alike (list es) = exprs-alike es
     expr-alike count_star = alike-same _
     expr-alike (nullable e) = expr-alike e
-    expr-alike (not_of e) = alike-around (codes "NOT (") (codes ")") (spread-alike (expr_parts d (shape_expr true e)) (expr_parts d e) (expr-alike e))
-    expr-alike (null_test n e) = alike-around (codes "(") (null_test_sql n) (spread-alike (expr_parts d (shape_expr true e)) (expr_parts d e) (expr-alike e))
-    expr-alike (count e) = alike-around (codes "COUNT(") (codes ")") (spread-alike (expr_parts d (shape_expr true e)) (expr_parts d e) (expr-alike e))
+    expr-alike (not_of e) = alike-around (codes "NOT (") (codes ")") (spread-alike (expr_parts d (shape_expr e)) (expr_parts d e) (expr-alike e))
+    expr-alike (null_test n e) = alike-around (codes "(") (null_test_sql n) (spread-alike (expr_parts d (shape_expr e)) (expr_parts d e) (expr-alike e))
+    expr-alike (count e) = alike-around (codes "COUNT(") (codes ")") (spread-alike (expr_parts d (shape_expr e)) (expr_parts d e) (expr-alike e))
     expr-alike (compared by a b) =
-        alike-append (alike-around (codes "(") (comparison_sql by) (spread-alike (expr_parts d (shape_expr true a)) (expr_parts d a) (expr-alike a))) (alike-before (codes ")") (spread-alike (expr_parts d (shape_expr true b)) (expr_parts d b) (expr-alike b)))
+        alike-append (alike-around (codes "(") (comparison_sql by) (spread-alike (expr_parts d (shape_expr a)) (expr_parts d a) (expr-alike a))) (alike-before (codes ")") (spread-alike (expr_parts d (shape_expr b)) (expr_parts d b) (expr-alike b)))
     expr-alike (joined by a b) =
-        alike-append (alike-around (codes "(") (logic_sql by) (spread-alike (expr_parts d (shape_expr true a)) (expr_parts d a) (expr-alike a))) (alike-before (codes ")") (spread-alike (expr_parts d (shape_expr true b)) (expr_parts d b) (expr-alike b)))
+        alike-append (alike-around (codes "(") (logic_sql by) (spread-alike (expr_parts d (shape_expr a)) (expr_parts d a) (expr-alike a))) (alike-before (codes ")") (spread-alike (expr_parts d (shape_expr b)) (expr_parts d b) (expr-alike b)))
     expr-alike (exists q) = alike-around (codes "EXISTS (") (codes ")") (pieces-alike q)
     expr-alike (single q) = alike-around (codes "(") (codes ")") (pieces-alike q)
-    expr-alike (among_values n e t xs) = among-alike d n _ _ (spread-alike (expr_parts d (shape_expr true e)) (expr_parts d e) (expr-alike e)) t xs
+    expr-alike (among_values n e t xs) = among-alike d n _ _ (spread-alike (expr_parts d (shape_expr e)) (expr_parts d e) (expr-alike e)) t xs
     expr-alike (among_rows n e q) =
-        alike-append (alike-around (codes "(") (among_sql d n) (spread-alike (expr_parts d (shape_expr true e)) (expr_parts d e) (expr-alike e))) (alike-before (codes "))") (pieces-alike q))
+        alike-append (alike-around (codes "(") (among_sql d n) (spread-alike (expr_parts d (shape_expr e)) (expr_parts d e) (expr-alike e))) (alike-before (codes "))") (pieces-alike q))
 
-    exprs-alike : (es : Exprs) → AlikeLists (exprs_parts d (shape_exprs true es)) (exprs_parts d es)
+    exprs-alike : (es : Exprs) → AlikeLists (exprs_parts d (shape_exprs es)) (exprs_parts d es)
     exprs-alike no_exprs = tt
     exprs-alike (more_exprs e es) =
-        lists-append (each (expr_parts d (shape_expr true e))) (exprs_parts d (shape_exprs true es)) (each (expr_parts d e)) (exprs_parts d es)
-        (each-alike (expr_parts d (shape_expr true e)) (expr_parts d e) (expr-alike e)) (exprs-alike es)
+        lists-append (each (expr_parts d (shape_expr e))) (exprs_parts d (shape_exprs es)) (each (expr_parts d e)) (exprs_parts d es)
+        (each-alike (expr_parts d (shape_expr e)) (expr_parts d e) (expr-alike e)) (exprs-alike es)
 
-    items-alike : (is : Items) → AlikeLists (items_pieces d (shape_items true is)) (items_pieces d is)
+    items-alike : (is : Items) → AlikeLists (items_pieces d (shape_items is)) (items_pieces d is)
     items-alike no_items = tt
-    items-alike (more_items e by is) = (alike-append (spread-alike (expr_parts d (shape_expr true e)) (expr_parts d e) (expr-alike e)) (alike-same (direction_pieces by)), items-alike is)
+    items-alike (more_items e by is) = (alike-append (spread-alike (expr_parts d (shape_expr e)) (expr_parts d e) (expr-alike e)) (alike-same (direction_pieces by)), items-alike is)
 
-    maybe-alike : (before : List ℕ) (e : MaybeExpr) → Alike (maybe_pieces d before (shape_maybe true e)) (maybe_pieces d before e)
+    maybe-alike : (before : List ℕ) (e : MaybeExpr) → Alike (maybe_pieces d before (shape_maybe e)) (maybe_pieces d before e)
     maybe-alike before no_expr = alike-same []
-    maybe-alike before (an_expr e) = alike-behind before (spread-alike (expr_parts d (shape_expr true e)) (expr_parts d e) (expr-alike e))
+    maybe-alike before (an_expr e) = alike-behind before (spread-alike (expr_parts d (shape_expr e)) (expr_parts d e) (expr-alike e))
 
-    on-alike : (e : MaybeExpr) (x y : List Piece) → Alike x y → Alike (on_pieces d x (shape_maybe true e)) (on_pieces d y e)
+    on-alike : (e : MaybeExpr) (x y : List Piece) → Alike x y → Alike (on_pieces d x (shape_maybe e)) (on_pieces d y e)
     on-alike no_expr x y h = h
-    on-alike (an_expr e) x y h = alike-behind (codes "(") (alike-append h (alike-around (codes " ON ") (codes ")") (spread-alike (expr_parts d (shape_expr true e)) (expr_parts d e) (expr-alike e))))
+    on-alike (an_expr e) x y h = alike-behind (codes "(") (alike-append h (alike-around (codes " ON ") (codes ")") (spread-alike (expr_parts d (shape_expr e)) (expr_parts d e) (expr-alike e))))
 
-    source-alike : (s : Source) → Alike (source_pieces d (shape_source true s)) (source_pieces d s)
+    source-alike : (s : Source) → Alike (source_pieces d (shape_source s)) (source_pieces d s)
     source-alike (of_table t only sample) = alike-append (alike-same (only_pieces only)) (alike-append (alike-same (table_pieces t)) (sample-alike sample))
     source-alike (of_alias a t) = alike-same (alias_pieces a t)
     source-alike (join k l r on) =
-        on-alike on (joined_by (source_pieces d (shape_source true l)) k (source_pieces d (shape_source true r))) (joined_by (source_pieces d l) k (source_pieces d r))
+        on-alike on (joined_by (source_pieces d (shape_source l)) k (source_pieces d (shape_source r))) (joined_by (source_pieces d l) k (source_pieces d r))
         (alike-append (source-alike l) (alike-behind (join_sql k) (source-alike r)))
 
-    from-alike : (f : From) → Alike (from_pieces d (shape_from true f)) (from_pieces d f)
+    from-alike : (f : From) → Alike (from_pieces d (shape_from f)) (from_pieces d f)
     from-alike no_source = alike-same []
     from-alike (from s) = alike-behind (codes " FROM ") (source-alike s)
 
-    distinct-alike : (u : Distinct) → Alike (distinct_pieces d (shape_distinct true u)) (distinct_pieces d u)
+    distinct-alike : (u : Distinct) → Alike (distinct_pieces d (shape_distinct u)) (distinct_pieces d u)
     distinct-alike every = alike-same []
     distinct-alike distinct = alike-same _
-    distinct-alike (distinct_on e) = alike-around distinct_on_open (codes ") ") (spread-alike (expr_parts d (shape_expr true e)) (expr_parts d e) (expr-alike e))
+    distinct-alike (distinct_on e) = alike-around distinct_on_open (codes ") ") (spread-alike (expr_parts d (shape_expr e)) (expr_parts d e) (expr-alike e))
 
-    order-alike : (o : Order) → Alike (order_pieces d (shape_order true o)) (order_pieces d o)
+    order-alike : (o : Order) → Alike (order_pieces d (shape_order o)) (order_pieces d o)
     order-alike no_order = alike-same []
-    order-alike (order_by is) = alike-behind order_by_sql (commas-alike true (items_pieces d (shape_items true is)) (items_pieces d is) (items-alike is))
+    order-alike (order_by is) = alike-behind order_by_sql (commas-alike true (items_pieces d (shape_items is)) (items_pieces d is) (items-alike is))
 
-    pub pieces-alike : (s : Statement) → Alike (pieces d (shape true s)) (pieces d s)
+    pub pieces-alike : (s : Statement) → Alike (pieces d (shape s)) (pieces d s)
     pieces-alike (select default e f u w o rows g h form marks) =
-        alike-behind (codes "SELECT ") (alike-append (distinct-alike u) (alike-append (spread-alike (expr_parts d (shape_expr true e)) (expr_parts d e) (expr-alike e)) (alike-append (from-alike f)
+        alike-behind (codes "SELECT ") (alike-append (distinct-alike u) (alike-append (spread-alike (expr_parts d (shape_expr e)) (expr_parts d e) (expr-alike e)) (alike-append (from-alike f)
         (alike-append (maybe-alike (codes " WHERE ") w) (alike-append (maybe-alike group_by g) (alike-append (maybe-alike (codes " HAVING ") h) (alike-append (order-alike o) (end-alike d rows form))))))))
     pieces-alike (combination by all a b o rows) =
         alike-append (alike-around (side_open d) (codes ")") (pieces-alike a)) (alike-behind (combinator_sql by) (alike-append (alike-same (all_pieces all))

@@ -69,10 +69,10 @@ pub fn a_statement_is_accepted()
 /// Statements that are one but for values, and for numbers that are bound, have one text in each dialect, are safe to
 /// prepare both or neither, and bind values of the same types in the same order, lists of the same lengths.
 pub fn values_change_no_text()
-    ensures text { (d : Dialect) (a b : Statement) → shape true a ≡ shape true b →
+    ensures text { (d : Dialect) (a b : Statement) → shape a ≡ shape b →
         text_of d 0 (pieces d a) ≡ text_of d 0 (pieces d b) }
-    ensures safe { (d : Dialect) (a b : Statement) → shape true a ≡ shape true b →
+    ensures safe { (d : Dialect) (a b : Statement) → shape a ≡ shape b →
         is_safe (pieces d a) ≡ is_safe (pieces d b) }
-    ensures values { (d : Dialect) (a b : Statement) → shape true a ≡ shape true b →
+    ensures values { (d : Dialect) (a b : Statement) → shape a ≡ shape b →
         map blank_bound (values_of (pieces d a)) ≡ map blank_bound (values_of (pieces d b)) }
 {}

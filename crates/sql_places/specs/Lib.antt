@@ -1,5 +1,7 @@
+-- What is lent, as what it is lent from. What stands where in a statement is defined in `sql_rules` (`Scope`).
+pub mod Lent
 pub mod Claused
+pub mod Parted
+-- Devices of proofs.
 pub mod Gathers
 pub mod Inside
-pub mod Lent
-pub mod Parted

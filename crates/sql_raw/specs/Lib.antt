@@ -1,4 +1,6 @@
+-- What raw queries mean, and the line that shows a part.
+pub mod Raw
 pub mod Boxed
 pub mod Debug
-pub mod Raw
+-- A device of proofs: the same line of what is held for it.
 pub mod Shown

@@ -166,12 +166,16 @@ order_clauses v (order_by is) = item_clauses v is
 abbrev pub own : Select → View
 own s = origins_of s.source
 
--- in the order in which they are written; the clause around the statement sees the outer view
+-- in the order in which they are written: WHERE sees the second view, each other clause the first
+abbrev pub clauses_by : View → View → Select → List Clause
+clauses_by v w s =
+    distinct_clause v s.distinctness ++ (record { place = in_selection; view = v; expr = s.selection } ∷ (ons_of s.source
+    ++ (maybe_clause in_where w s.where_by ++ (maybe_clause in_group_by v s.group_by
+    ++ (maybe_clause in_having v s.having_by ++ order_clauses v s.order)))))
+
+-- the clause around the statement sees the outer view
 abbrev pub clauses : View → Select → List Clause
-clauses outer s =
-    distinct_clause (own s) s.distinctness ++ (record { place = in_selection; view = own s; expr = s.selection } ∷ (ons_of s.source
-    ++ (maybe_clause in_where (widest s.form s.source outer) s.where_by ++ (maybe_clause in_group_by (own s) s.group_by
-    ++ (maybe_clause in_having (own s) s.having_by ++ order_clauses (own s) s.order)))))
+clauses outer s = clauses_by (own s) (widest s.form s.source outer) s
 
 -- ---- expressions
 

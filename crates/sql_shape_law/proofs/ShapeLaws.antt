@@ -164,7 +164,7 @@ combination-node Except all ts = refl
 -- ## Nodes
 
 mutual
-  expr-of : (e : Expr) → un_expr (blanked (expr_rose e)) ≡ shape_expr true e
+  expr-of : (e : Expr) → un_expr (blanked (expr_rose e)) ≡ shape_expr e
   expr-of (column o c) = refl
   expr-of (value t v) = refl
   expr-of (list es) = ap list (exprs-of es)
@@ -181,37 +181,37 @@ mutual
   expr-of (among_rows n e q) =
       among-node n (blanked (expr_rose e)) (blanked (rose q)) ∙ query-among n (un_expr (blanked (expr_rose e))) q (un_statement (blanked (rose q))) ∙ (λ i. among_rows n (expr-of e i) (statement-of q i))
 
-  exprs-of : (es : Exprs) → un_exprs (all_blanked (exprs_roses es)) ≡ shape_exprs true es
+  exprs-of : (es : Exprs) → un_exprs (all_blanked (exprs_roses es)) ≡ shape_exprs es
   exprs-of no_exprs = refl
   exprs-of (more_exprs e es) = λ i. more_exprs (expr-of e i) (exprs-of es i)
 
-  items-of : (is : Items) → un_items (all_blanked (items_roses is)) ≡ shape_items true is
+  items-of : (is : Items) → un_items (all_blanked (items_roses is)) ≡ shape_items is
   items-of no_items = refl
   items-of (more_items e by is) = λ i. more_items (expr-of e i) (direction-of by i) (items-of is i)
 
-  maybe-of : (e : MaybeExpr) → maybe_of (root (blanked (maybe_rose e))) (un_expr (blanked (maybe_rose e))) ≡ shape_maybe true e
+  maybe-of : (e : MaybeExpr) → maybe_of (root (blanked (maybe_rose e))) (un_expr (blanked (maybe_rose e))) ≡ shape_maybe e
   maybe-of no_expr = refl
   maybe-of (an_expr e) = present-expr e (un_expr (blanked (expr_rose e))) ∙ ap an_expr (expr-of e)
 
-  source-of : (s : Source) → un_source (blanked (source_rose s)) ≡ shape_source true s
+  source-of : (s : Source) → un_source (blanked (source_rose s)) ≡ shape_source s
   source-of (of_table t only sample) = ap (of_table t only) (sample-of sample)
   source-of (of_alias a t) = refl
   source-of (join k l r on) = join-node k (blanked (source_rose l)) (blanked (source_rose r)) (blanked (maybe_rose on)) ∙ (λ i. join k (source-of l i) (source-of r i) (maybe-of on i))
 
-  from-of : (f : From) → from_of (root (blanked (from_rose f))) (un_source (blanked (from_rose f))) ≡ shape_from true f
+  from-of : (f : From) → from_of (root (blanked (from_rose f))) (un_source (blanked (from_rose f))) ≡ shape_from f
   from-of no_source = refl
   from-of (from s) = present-source s (un_source (blanked (source_rose s))) ∙ ap from (source-of s)
 
-  distinct-of : (u : Distinct) → un_distinct (blanked (distinct_rose u)) ≡ shape_distinct true u
+  distinct-of : (u : Distinct) → un_distinct (blanked (distinct_rose u)) ≡ shape_distinct u
   distinct-of every = refl
   distinct-of distinct = refl
   distinct-of (distinct_on e) = ap distinct_on (expr-of e)
 
-  order-of : (o : Order) → un_order (blanked (order_rose o)) ≡ shape_order true o
+  order-of : (o : Order) → un_order (blanked (order_rose o)) ≡ shape_order o
   order-of no_order = refl
   order-of (order_by is) = ap order_by (items-of is)
 
-  pub statement-of : (s : Statement) → un_statement (key.shape s) ≡ shape true s
+  pub statement-of : (s : Statement) → un_statement (key.shape s) ≡ shape s
   statement-of (select default e f u w o rows g h form marks) =
       λ i. select default (expr-of e i) (from-of f i) (distinct-of u i) (maybe-of w i) (order-of o i) (rows-of rows i) (maybe-of g i) (maybe-of h i) (form-of form i) marks
   statement-of (combination by all a b o rows) =
@@ -219,5 +219,5 @@ mutual
       ∙ (λ i. combination by (all-of all i) (statement-of a i) (statement-of b i) (positions-of o i) (rows-of rows i))
 
 -- statements of one shape are one but for values
-pub one-shape : (a b : Statement) → key.shape a ≡ key.shape b → shape true a ≡ shape true b
+pub one-shape : (a b : Statement) → key.shape a ≡ key.shape b → shape a ≡ shape b
 one-shape a b h = sym (statement-of a) ∙ ap un_statement h ∙ statement-of b

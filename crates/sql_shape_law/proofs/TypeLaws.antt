@@ -23,7 +23,7 @@ second-child k t u ts h =
     (second_so (rose_all leaves_id t) (roses_all leaves_id (more u ts)) (second_so (leaves_id k) (roses_all leaves_id (more t (more u ts))) h))
 
 mutual
-  expr-types : (e : Expr) → all_leave_id (expr_rose e) ≡ true → given (shape_expr true e) ≡ given e
+  expr-types : (e : Expr) → all_leave_id (expr_rose e) ≡ true → given (shape_expr e) ≡ given e
   expr-types (column o c) h = refl
   expr-types (value t v) h = refl
   expr-types (list es) h = ap many (exprs-types es (second_so true (roses_all leaves_id (all_blanked (exprs_roses es))) h))
@@ -48,14 +48,14 @@ mutual
       let r = statement-types q (second-child (among_kind n) (blanked (expr_rose e)) (blanked (rose q)) none h) in
       λ i. one (compared_type (only_type (p i)) (single_type (r i)))
 
-  exprs-types : (es : Exprs) → roses_all leaves_id (all_blanked (exprs_roses es)) ≡ true → given_each (shape_exprs true es) ≡ given_each es
+  exprs-types : (es : Exprs) → roses_all leaves_id (all_blanked (exprs_roses es)) ≡ true → given_each (shape_exprs es) ≡ given_each es
   exprs-types no_exprs h = refl
   exprs-types (more_exprs e es) h =
       let p = expr-types e (first_so (rose_all leaves_id (blanked (expr_rose e))) (roses_all leaves_id (all_blanked (exprs_roses es))) h) in
       let q = exprs-types es (second_so (rose_all leaves_id (blanked (expr_rose e))) (roses_all leaves_id (all_blanked (exprs_roses es))) h) in
       λ i. element_types (p i) ++ q i
 
-  statement-types : (s : Statement) → has_id s ≡ true → columns (shape true s) ≡ columns s
+  statement-types : (s : Statement) → has_id s ≡ true → columns (shape s) ≡ columns s
   statement-types (select default e f u w o rows g c form marks) h =
       ap (λ t. form_columns form (element_types t)) (expr-types e (second-child (K.Select default (key_marks marks)) (blanked (form_rose form)) (blanked (expr_rose e))
       (all_blanked (more (from_rose f) (more (distinct_rose u) (more (maybe_rose w) (more (order_rose o) (more (number_rose big rows.limit_clause) (more (number_rose big rows.offset_clause) (more (maybe_rose g) (more (maybe_rose c) none))))))))) h))

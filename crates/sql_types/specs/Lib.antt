@@ -1,2 +1,3 @@
+-- Devices of proofs alone: types are defined in `sql_rules` (`Types`), placeholders in `sql_pass` (`Pieces`).
 pub mod Counts
 pub mod Typed
