@@ -24,8 +24,10 @@ impl<R: Read> CountedReader<R> {
 pub type StdSource = CountedReader<StdinLock<'static>>;
 
 impl CountedReader<StdinLock<'static>> {
-    /// Standard input, locked for as long as the value lives.
-    pub fn new(rt: &HostRuntime) -> StdSource {
+    /// Standard input, locked for as long as the value lives, with no failure counted.
+    pub fn new(rt: &HostRuntime) -> StdSource
+        ensures { ⟦<CountedReader<StdinLock<'static>> as Source>⟧.faults result ≡ 0 }
+    {
         CountedReader::over(rt.reader())
     }
 }
@@ -54,8 +56,10 @@ pub struct StdSink {
 }
 
 impl StdSink {
-    /// Standard output, locked for as long as the value lives.
-    pub fn new(rt: &HostRuntime) -> StdSink {
+    /// Standard output, locked for as long as the value lives, with no failure counted.
+    pub fn new(rt: &HostRuntime) -> StdSink
+        ensures { ⟦<StdSink as Sink>⟧.faults result ≡ 0 }
+    {
         StdSink {
             inner: rt.stdout().lock(),
             faults: 0,
