@@ -9,7 +9,5 @@ mod name;
 mod operator;
 mod select;
 mod source;
-#[cfg(test)]
-mod tests;
 
 pub use build::statement;

@@ -19,8 +19,6 @@ mod order;
 mod query;
 mod query_dsl;
 mod selection;
-#[cfg(test)]
-mod tests;
 
 pub use accessor::SelectStatementAccessor;
 pub use as_query::{AsQuery, SimpleSelect, select};
