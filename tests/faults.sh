@@ -1,24 +1,54 @@
 #!/bin/sh
-# Refuses the allocations of these numbers, one in each run of the program, with no proof, by the kit's `rt try`. A run has to end
-# with the output that it has when none is refused, or with NoMemory and a front of that. By hand: a run takes about a minute.
-#   tests/faults.sh 1 10 100
+# Refuses each allocation of a run in turn, and then each from there on. The run has to end as it does when none is refused, or with
+# NoMemory (the program: status 6) and a front of that output. By hand, with a C compiler; it takes minutes.
+#   tests/faults.sh crates/sql_tool/out/sql_tool [crates/sql_tool/out/sql_tool_tests]
+# The program answers the documents of `examples/`; of the tests, as `rt test` builds them, `every_call_once` is run.
+[ $# -ge 1 ] || { sed -n '2,5s/^# *//p' "$0"; exit 2; }
+command -v cc >/dev/null || { echo "skipped: no C compiler"; exit 0; }
 top=$(cd "$(dirname "$0")/.." && pwd) || exit 1
 work=$(mktemp -d) || exit 1
-passed=0
+trap 'rm -r "$work"' EXIT
+cc -O2 -shared -fPIC -o "$work/refuse.so" "$top/tests/refuse.c" -ldl || exit 1
 failed=0
-for document in filter exists; do
-    (cd "$top/crates/sql_tool" && rt try -- build <"$top/examples/$document.json") >"$work/whole" 2>/dev/null
-    for number in "$@"; do
-        (cd "$top/crates/sql_tool" && rt try --fail-alloc "$number" -- build <"$top/examples/$document.json") >"$work/out" 2>"$work/err"
-        size=$(wc -c <"$work/out")
-        if cmp -s "$work/whole" "$work/out" || { grep -q NoMemory "$work/err" && head -c "$size" "$work/whole" | cmp -s - "$work/out"; }; then
-            passed=$((passed + 1))
-        else
-            failed=$((failed + 1))
-            echo "FAILED $document at allocation $number"
-        fi
+
+# run INPUT WORD..: the run with this input, output to $work/out
+run() {
+    input=$1
+    shift
+    LD_PRELOAD="$work/refuse.so" "$@" <"$input" >"$work/out" 2>"$work/err"
+}
+
+# each NAME STATUS INPUT WORD..: refuses each allocation of that run, which without memory ends with this status
+each() {
+    name=$1
+    status=$2
+    shift 2
+    run "$@" || { echo "FAILED $name, where none is refused"; failed=1; return; }
+    count=$(sed -n 's/^allocations=//p' "$work/err")
+    cp "$work/out" "$work/whole"
+    whole=0
+    wanting=0
+    for all in "" 1; do
+        number=1
+        while [ "$number" -le "$count" ]; do
+            (export REFUSE="$number" ${all:+REFUSE_ALL=1} && run "$@")
+            got=$?
+            if [ "$got" = 0 ] && cmp -s "$work/whole" "$work/out"; then
+                whole=$((whole + 1))
+            elif [ "$got" = "$status" ] && grep -Eq 'NoMemory|AllocError|AllocFailed' "$work/err" && head -c "$(wc -c <"$work/out")" "$work/whole" | cmp -s - "$work/out"; then
+                wanting=$((wanting + 1))
+            else
+                echo "FAILED $name at allocation $number${all:+ and on}"
+                failed=1
+            fi
+            number=$((number + 1))
+        done
     done
+    echo "$name: $count allocations, refused alone and all from there on: $wanting runs without memory, $whole whole"
+}
+
+for document in filter exists requests; do
+    each "$document" 6 "$top/examples/$document.json" "$1" build
 done
-rm -r "$work"
-echo "$passed passed, $failed failed"
-[ "$failed" = 0 ]
+[ $# -lt 2 ] || each every_call_once 101 /dev/null "$2" every_call::every_call_once
+exit "$failed"

@@ -44,6 +44,8 @@ fn run_over_standard_streams(rt: &HostRuntime) -> Status {
 #[cfg(test)]
 mod debug_tests;
 #[cfg(test)]
+mod every_call;
+#[cfg(test)]
 mod rule_tests;
 #[cfg(test)]
 mod tests;

@@ -1,10 +1,6 @@
 use crate::run::run;
 use crate::status::Status;
-use sql_dialect::{Backend, Mysql, Pg, QueryBuilder, Sqlite};
-use sql_document::read_document;
-use sql_pass::{Bound, BoundRef, Value};
-use sql_schema::{Base, JoinableDecl, SqlBytes, SqlList, SqlText, SqlType};
-use sql_stream::{MemorySink, MemorySource, SureSink, SureSource, read_all};
+use sql_stream::{MemorySink, MemorySource, SureSink, SureSource};
 use std::alloc::{AllocError, Global};
 use std::num::NonZeroUsize;
 use std::test::Fail;
@@ -182,80 +178,5 @@ fn documents(rt: HostRuntime) -> Result<(), Fail> {
     ] {
         assert_eq!(rt; status(alloc, text)?, want, "{text}");
     }
-    Ok(())
-}
-
-/// A name, a value's place and a word, as the backend's builder writes them.
-fn built<DB: Backend>(alloc: Global, backend: DB) -> Result<String, Fail> {
-    let mut builder = backend.query_builder(alloc);
-    builder.push_sql("SELECT ")?;
-    builder.push_identifier("a")?;
-    builder.push_bind_param()?;
-    builder.push_bind_param_value_only()?;
-    builder.push_bind_param()?;
-    Ok(builder.finish())
-}
-
-#[test]
-fn every_call_once(rt: HostRuntime) -> Result<(), Fail> {
-    let alloc = rt.alloc();
-    assert_eq!(rt; built(alloc, Pg)?.as_str(), "SELECT \"a\"$1$3");
-    assert_eq!(rt; built(alloc, Mysql)?.as_str(), "SELECT `a`??");
-    assert_eq!(rt; built(alloc, Sqlite)?.as_str(), "SELECT `a`??");
-    let input = read_all(alloc, &mut source(alloc, Vec::new(alloc))?, INPUT.len())?;
-    assert_eq!(rt; input.as_slice(), INPUT.as_bytes());
-    assert_eq!(rt; read_document(alloc, &input)?.requests.as_slice().len(), 2);
-    Ok(())
-}
-
-#[test]
-fn every_copy_once(rt: HostRuntime) -> Result<(), Fail> {
-    let alloc = rt.alloc();
-    let text = SqlText::from(String::from_str(alloc, "a")?);
-    assert_eq!(rt; text.try_clone(alloc)?.into_inner().as_str(), "a");
-    let bytes = SqlBytes::from(vec![in alloc; 7u8; 2]?);
-    assert_eq!(rt;
-        bytes.try_clone(alloc)?.into_inner().as_slice(),
-        [7u8, 7].as_slice()
-    );
-    let ty = SqlType {
-        base: Base::Text,
-        nullable: false,
-    };
-    let value = Value::Text(text);
-    assert!(rt; value.try_clone(alloc)? == value);
-    assert!(rt;
-        matches!(
-            BoundRef::Value(ty, &value).to_bound(alloc)?,
-            Bound::Value(_, _)
-        )
-    );
-    let list = Bound::List(ty, SqlList::from(Vec::new(alloc)));
-    assert!(rt; matches!(list.view().to_bound(alloc)?, Bound::List(_, _)));
-    Ok(())
-}
-
-#[test]
-fn a_copy_of_a_column(rt: HostRuntime) -> Result<(), Fail> {
-    let alloc = rt.alloc();
-    let document = read_document(alloc, INPUT.as_bytes())?;
-    let table = document.schema.table("foo").ok_or("no table")?;
-    let column = table.column(alloc, "id")?.ok_or("no column")?;
-    assert_eq!(rt; column.try_clone(alloc)?.name(), "id");
-    Ok(())
-}
-
-fn text(alloc: Global, text: &str) -> Result<SqlText, Fail> {
-    Ok(SqlText::from(String::from_str(alloc, text)?))
-}
-
-#[test]
-fn a_copy_of_a_relation(rt: HostRuntime) -> Result<(), Fail> {
-    let alloc = rt.alloc();
-    let child = text(alloc, "posts")?;
-    let key = text(alloc, "user_id")?;
-    let parent = text(alloc, "users")?;
-    let relation = JoinableDecl { child, key, parent };
-    assert!(rt; relation.try_clone(alloc)? == relation);
     Ok(())
 }

@@ -1,0 +1,158 @@
+//! The calls that make statements of sources, and change them.
+
+use super::fixture::{id, one, schema, table, text, writes};
+use sql_dialect::Pg;
+use sql_expr::{Alias, ExpressionMethods, JoinKind, JoinRhs, SelectStatement, Source, TableSource};
+use sql_select::{AsQuery, QueryDsl, SimpleSelect};
+use sql_source::NewTableSource;
+use std::alloc::Global;
+use std::test::Fail;
+
+pub fn every_call(alloc: Global) -> Result<(), Fail> {
+    beginnings(alloc)?;
+    conditions(alloc)?;
+    orders(alloc)?;
+    joins(alloc)?;
+    joins_of_boxed(alloc)?;
+    selections(alloc)
+}
+
+const ALL: &str = "SELECT \"users\".\"id\", \"users\".\"name\" FROM \"users\"";
+
+fn source(alloc: Global, name: &str) -> Result<TableSource, Fail> {
+    Ok(TableSource::new(table(alloc, name)?))
+}
+
+fn all(alloc: Global) -> Result<SelectStatement, Fail> {
+    Ok(table(alloc, "users")?.as_query(alloc)?)
+}
+
+/// `SELECT "users"."id" FROM "users"`.
+pub fn ids(alloc: Global) -> Result<SelectStatement, Fail> {
+    Ok(all(alloc)?.select(id(alloc)?))
+}
+
+fn beginnings(alloc: Global) -> Result<(), Fail> {
+    writes(alloc, all(alloc)?, ALL)?;
+    writes(alloc, source(alloc, "users")?.as_query(alloc)?, ALL)?;
+    writes(
+        alloc,
+        Source::Table(source(alloc, "users")?).as_query(alloc)?,
+        ALL,
+    )?;
+    writes(
+        alloc,
+        SelectStatement::simple(alloc, Source::Table(source(alloc, "users")?))?,
+        ALL,
+    )?;
+    let alias = Alias {
+        name: text(alloc, "u")?,
+        table: table(alloc, "users")?,
+    };
+    writes(
+        alloc,
+        alias.as_query(alloc)?,
+        "SELECT \"u\".\"id\", \"u\".\"name\" FROM \"users\" AS \"u\"",
+    )
+}
+
+fn conditions(alloc: Global) -> Result<(), Fail> {
+    writes(
+        alloc,
+        ids(alloc)?
+            .filter(alloc, one(alloc)?)?
+            .or_filter(alloc, id(alloc)?)?,
+        "SELECT \"users\".\"id\" FROM \"users\" WHERE ($1 OR \"users\".\"id\")",
+    )?;
+    let boxed = ids(alloc)?.into_boxed(&Pg);
+    writes(
+        alloc,
+        boxed
+            .filter(alloc, one(alloc)?)?
+            .or_filter(alloc, id(alloc)?)?,
+        "SELECT \"users\".\"id\" FROM \"users\" WHERE ($1 OR \"users\".\"id\")",
+    )?;
+    writes(
+        alloc,
+        ids(alloc)?.find(alloc, vec![in alloc; one(alloc)?]?)?,
+        "SELECT \"users\".\"id\" FROM \"users\" WHERE (\"users\".\"id\" = $1)",
+    )
+}
+
+fn orders(alloc: Global) -> Result<(), Fail> {
+    writes(
+        alloc,
+        ids(alloc)?.then_order_by(alloc, vec![in alloc; id(alloc)?.asc()]?)?,
+        "SELECT \"users\".\"id\" FROM \"users\" ORDER BY \"users\".\"id\" ASC",
+    )?;
+    let boxed = ids(alloc)?.into_boxed(&Pg);
+    writes(
+        alloc,
+        boxed.then_order_by(alloc, vec![in alloc; id(alloc)?.desc()]?)?,
+        "SELECT \"users\".\"id\" FROM \"users\" ORDER BY \"users\".\"id\" DESC",
+    )
+}
+
+fn posts(alloc: Global) -> Result<Source, Fail> {
+    Ok(Source::Table(source(alloc, "posts")?))
+}
+
+const JOINED: &str =
+    "SELECT \"users\".\"id\" FROM (\"users\" INNER JOIN \"posts\" ON (\"posts\".\"user_id\" = \"users\".\"id\"))";
+
+fn joins(alloc: Global) -> Result<(), Fail> {
+    let schema = schema(alloc)?;
+    let rhs = JoinRhs::Source(posts(alloc)?);
+    writes(alloc, ids(alloc)?.inner_join(alloc, &schema, rhs)?, JOINED)?;
+    let rhs = JoinRhs::Source(posts(alloc)?);
+    writes(
+        alloc,
+        ids(alloc)?.join_with_implicit_on_clause(alloc, &schema, rhs, JoinKind::Inner)?,
+        JOINED,
+    )?;
+    writes(
+        alloc,
+        ids(alloc)?.join(alloc, posts(alloc)?, JoinKind::LeftOuter, Some(one(alloc)?))?,
+        "SELECT \"users\".\"id\" FROM (\"users\" LEFT OUTER JOIN \"posts\" ON $1)",
+    )
+}
+
+fn joins_of_boxed(alloc: Global) -> Result<(), Fail> {
+    let schema = schema(alloc)?;
+    let rhs = JoinRhs::Source(posts(alloc)?);
+    let boxed = ids(alloc)?.into_boxed(&Pg);
+    writes(
+        alloc,
+        boxed.join_with_implicit_on_clause(alloc, &schema, rhs, JoinKind::Inner)?,
+        JOINED,
+    )?;
+    let boxed = ids(alloc)?.into_boxed(&Pg);
+    writes(
+        alloc,
+        boxed.join(alloc, posts(alloc)?, JoinKind::LeftOuter, Some(one(alloc)?))?,
+        "SELECT \"users\".\"id\" FROM (\"users\" LEFT OUTER JOIN \"posts\" ON $1)",
+    )
+}
+
+fn selections(alloc: Global) -> Result<(), Fail> {
+    writes(
+        alloc,
+        ids(alloc)?.nullable(alloc)?,
+        "SELECT \"users\".\"id\" FROM \"users\"",
+    )?;
+    writes(
+        alloc,
+        ids(alloc)?.into_boxed(&Pg).nullable(alloc)?,
+        "SELECT \"users\".\"id\" FROM \"users\"",
+    )?;
+    writes(
+        alloc,
+        ids(alloc)?.single_value(alloc)?,
+        "(SELECT \"users\".\"id\" FROM \"users\" LIMIT $1)",
+    )?;
+    writes(
+        alloc,
+        ids(alloc)?.into_boxed(&Pg).single_value(alloc)?,
+        "(SELECT \"users\".\"id\" FROM \"users\" LIMIT $1)",
+    )
+}

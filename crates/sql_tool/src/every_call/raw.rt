@@ -1,0 +1,26 @@
+//! Raw queries and the line that shows a part.
+
+use super::fixture::{reads, writes};
+use sql_dialect::{Backend, Pg, QueryBuilder};
+use sql_pass::ToSql;
+use sql_raw::{Empty, SqlQuery, debug_query, sql_query};
+use std::alloc::{AllocError, Global};
+use std::test::Fail;
+
+pub fn every_call(alloc: Global) -> Result<(), Fail> {
+    writes(alloc, Empty, "")?;
+    writes(alloc, raw(alloc)?.sql(" + 1")?, "SELECT $1 + 1")?;
+    writes(alloc, raw(alloc)?.bind(1i32.bound(alloc)?), "SELECT $1")?;
+    let boxed = raw(alloc)?.into_boxed::<Pg>(alloc).sql(" + 1")?;
+    writes(alloc, boxed.bind(1i32.bound(alloc)?)?, "SELECT $1 + 1")?;
+    shown(alloc)
+}
+
+fn raw(alloc: Global) -> Result<SqlQuery, AllocError> {
+    Ok(sql_query(String::from_str(alloc, "SELECT $1")?))
+}
+
+fn shown(alloc: Global) -> Result<(), Fail> {
+    let line = debug_query(alloc, &Pg, &raw(alloc)?)?;
+    reads(format!(in alloc; "{line}")?, "SELECT $1 -- binds: []")
+}

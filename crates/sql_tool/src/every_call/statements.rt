@@ -1,0 +1,127 @@
+//! Combinations, statements that are written boxed, and rows that a Rust type is read from.
+
+ghost use Rattle.sql_node.specs.View.{expr_tree, select_statement_tree};
+
+use super::fixture::{one, reads, text_in, writes};
+use super::queries::ids;
+use sql_dialect::{Backend, Pg};
+use sql_expr::{Expr, SelectStatement, Statement};
+use sql_pass::AstPass;
+use sql_schema::NoMemory;
+use sql_select::{BoxedQueryHelper, CombineDsl, HasQuery, Query, QueryDsl};
+use std::alloc::Global;
+use std::test::Fail;
+
+pub fn every_call(alloc: Global) -> Result<(), Fail> {
+    unions(alloc)?;
+    intersections(alloc)?;
+    of_boxed(alloc)?;
+    of_combinations(alloc)?;
+    written(alloc)?;
+    of_one_type(alloc)
+}
+
+/// `SELECT "users"."id" FROM "users"`.
+fn all(alloc: Global) -> Result<Statement, Fail> {
+    Ok(ids(alloc)?.into_statement())
+}
+
+fn unions(alloc: Global) -> Result<(), Fail> {
+    writes(
+        alloc,
+        ids(alloc)?.union(alloc, all(alloc)?)?,
+        "(SELECT \"users\".\"id\" FROM \"users\") UNION (SELECT \"users\".\"id\" FROM \"users\")",
+    )?;
+    writes(
+        alloc,
+        ids(alloc)?.union_all(alloc, all(alloc)?)?,
+        "(SELECT \"users\".\"id\" FROM \"users\") UNION ALL (SELECT \"users\".\"id\" FROM \"users\")",
+    )?;
+    writes(
+        alloc,
+        ids(alloc)?.except(alloc, all(alloc)?)?,
+        "(SELECT \"users\".\"id\" FROM \"users\") EXCEPT (SELECT \"users\".\"id\" FROM \"users\")",
+    )
+}
+
+fn intersections(alloc: Global) -> Result<(), Fail> {
+    writes(
+        alloc,
+        ids(alloc)?.intersect(alloc, all(alloc)?)?,
+        "(SELECT \"users\".\"id\" FROM \"users\") INTERSECT (SELECT \"users\".\"id\" FROM \"users\")",
+    )?;
+    writes(
+        alloc,
+        ids(alloc)?.intersect_all(alloc, all(alloc)?)?,
+        "(SELECT \"users\".\"id\" FROM \"users\") INTERSECT ALL (SELECT \"users\".\"id\" FROM \"users\")",
+    )?;
+    writes(
+        alloc,
+        ids(alloc)?.except_all(alloc, all(alloc)?)?,
+        "(SELECT \"users\".\"id\" FROM \"users\") EXCEPT ALL (SELECT \"users\".\"id\" FROM \"users\")",
+    )
+}
+
+fn of_boxed(alloc: Global) -> Result<(), Fail> {
+    let boxed = ids(alloc)?.into_boxed(&Pg);
+    writes(
+        alloc,
+        boxed.union(alloc, all(alloc)?)?,
+        "(SELECT \"users\".\"id\" FROM \"users\") UNION (SELECT \"users\".\"id\" FROM \"users\")",
+    )
+}
+
+fn of_combinations(alloc: Global) -> Result<(), Fail> {
+    let both = ids(alloc)?.union(alloc, all(alloc)?)?;
+    writes(
+        alloc,
+        both.except(alloc, all(alloc)?)?,
+        "((SELECT \"users\".\"id\" FROM \"users\") UNION (SELECT \"users\".\"id\" FROM \"users\")) EXCEPT (SELECT \"users\".\"id\" FROM \"users\")",
+    )?;
+    let both = ids(alloc)?.union(alloc, all(alloc)?)?;
+    writes(
+        alloc,
+        both.single_value(alloc)?,
+        "((SELECT \"users\".\"id\" FROM \"users\") UNION (SELECT \"users\".\"id\" FROM \"users\") LIMIT $1)",
+    )
+}
+
+fn written(alloc: Global) -> Result<(), Fail> {
+    let mut pass = AstPass::to_sql(Pg.query_builder(alloc), Pg);
+    ids(alloc)?.into_boxed(&Pg).build_query(&mut pass)?;
+    reads(text_in(pass)?, "SELECT \"users\".\"id\" FROM \"users\"")
+}
+
+#[derive(Drop)]
+struct Kept {
+    statement: SelectStatement,
+    wanted: Expr,
+}
+
+impl HasQuery for Kept {
+    ghost base = { λ k. select_statement_tree k.statement };
+
+    ghost wanted = { λ k. expr_tree k.wanted };
+
+    fn base_query(&self, alloc: Global) -> Result<SelectStatement, NoMemory> {
+        self.statement.try_clone(alloc)
+    }
+
+    fn as_select(&self, alloc: Global) -> Result<Expr, NoMemory> {
+        self.wanted.try_clone(alloc)
+    }
+}
+
+fn of_one_type(alloc: Global) -> Result<(), Fail> {
+    let kept = Kept {
+        statement: ids(alloc)?,
+        wanted: one(alloc)?,
+    };
+    writes(
+        alloc,
+        kept.base_query(alloc)?,
+        "SELECT \"users\".\"id\" FROM \"users\"",
+    )?;
+    writes(alloc, kept.as_select(alloc)?, "$1")?;
+    writes(alloc, kept.query(alloc)?, "SELECT $1 FROM \"users\"")
+}
