@@ -7,8 +7,6 @@ mod calls;
 mod conditions;
 mod methods;
 mod on_clause;
-#[cfg(test)]
-mod tests;
 
 pub use calls::{count, count_star, exists, not, value};
 pub use conditions::{WhereAnd, WhereOr};

@@ -16,8 +16,6 @@ mod plain;
 mod source;
 mod statement;
 mod table;
-#[cfg(test)]
-mod tests;
 
 pub use column::KeyColumn;
 pub use expression::expression_key;
