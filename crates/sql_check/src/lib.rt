@@ -4,8 +4,6 @@
 mod boxing;
 mod built;
 mod error;
-#[cfg(test)]
-mod tests;
 
 pub use boxing::boxing_takes_the_id_alone;
 pub use built::{Built, compile};

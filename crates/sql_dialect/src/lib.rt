@@ -28,6 +28,3 @@ pub use syntax::{
     AliasSyntax, ArrayComparison, EmptyFromClauseSyntax, ExistsSyntax, SelectStatementSyntax,
     SqlDialect,
 };
-
-#[cfg(test)]
-mod tests;

@@ -16,8 +16,6 @@ mod query;
 mod refusal;
 mod schema;
 mod source;
-#[cfg(test)]
-mod tests;
 mod value;
 
 pub use document::{Document, Request, read_document};

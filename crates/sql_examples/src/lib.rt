@@ -4,8 +4,6 @@
 
 mod maria;
 mod report;
-#[cfg(test)]
-mod tests;
 
 pub use maria::{Maria, Upper};
 pub use report::{ReportError, users_named};

@@ -23,6 +23,3 @@ pub use pass::{AstPass, PassError};
 pub use path::push_dotted;
 pub use to_sql::ToSql;
 pub use value::{Bound, BoundRef, Value};
-
-#[cfg(test)]
-mod tests;

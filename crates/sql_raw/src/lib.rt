@@ -8,8 +8,6 @@ mod boxed;
 mod debug;
 mod raw;
 mod shown;
-#[cfg(test)]
-mod tests;
 
 pub use boxed::BoxedSqlQuery;
 pub use debug::{DebugQuery, debug_query};

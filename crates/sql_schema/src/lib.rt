@@ -10,8 +10,6 @@ mod list;
 mod refusal;
 mod schema;
 mod table;
-#[cfg(test)]
-mod tests;
 mod text;
 mod types;
 

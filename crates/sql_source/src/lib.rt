@@ -11,8 +11,6 @@ mod origin;
 mod relation;
 mod selection;
 mod table_source;
-#[cfg(test)]
-mod tests;
 
 pub use alias::{AliasFields, AliasSource, NewAlias};
 pub use appearance::AppearsInFromClause;

@@ -1,47 +1,20 @@
-use super::{
-    Base, ColumnDecl, NoMemory, Schema, SchemaBuilder, SchemaError, SqlList, SqlText, SqlType,
-    TableDecl, TableNotEqual,
-};
+use super::fixture::{column, table};
+use sql_schema::{Base, ColumnDecl, NoMemory, Schema, SchemaBuilder, SchemaError, TableNotEqual};
 use std::alloc::Global;
 use std::test::Fail;
 
-fn text(alloc: Global, text: &str) -> Result<SqlText, NoMemory> {
-    Ok(SqlText::from(String::from_str(alloc, text)?))
-}
-
-fn column(alloc: Global, name: &str) -> Result<ColumnDecl, NoMemory> {
-    Ok(ColumnDecl {
-        name: text(alloc, name)?,
-        sql_name: text(alloc, name)?,
-        ty: SqlType {
-            base: Base::Integer,
-            nullable: false,
-        },
-        max_length: None,
-    })
-}
-
-/// A table with the key `id`.
-fn table(alloc: Global, name: &str, names: &[&str]) -> Result<TableDecl, NoMemory> {
+fn columns(alloc: Global, names: &[&str]) -> Result<Vec<ColumnDecl>, NoMemory> {
     let mut columns = Vec::new(alloc);
     for name in names {
-        columns.push(column(alloc, *name)?)?;
+        columns.push(column(alloc, *name, Base::Integer)?)?;
     }
-    let mut primary_key = Vec::new(alloc);
-    primary_key.push(text(alloc, "id")?)?;
-    Ok(TableDecl {
-        name: text(alloc, name)?,
-        sql_name: text(alloc, name)?,
-        schema: None,
-        columns: SqlList::from(columns),
-        primary_key: SqlList::from(primary_key),
-    })
+    Ok(columns)
 }
 
 fn tables(alloc: Global, tables: &[(&str, &[&str])]) -> Result<SchemaBuilder, NoMemory> {
     let mut builder = SchemaBuilder::new(alloc);
-    for (name, columns) in tables {
-        builder.table(table(alloc, *name, *columns)?)?;
+    for (name, names) in tables {
+        builder.table(table(alloc, *name, columns(alloc, *names)?)?)?;
     }
     Ok(builder)
 }

@@ -1,4 +1,4 @@
-use crate::{CompileError, RULES};
+use sql_check::{CompileError, RULES};
 use std::test::Fail;
 
 #[test]

@@ -1,6 +1,6 @@
-use super::*;
 use sql_dialect::{Backend, Mysql, Pg, QueryBuilder, Sqlite};
 use sql_pass::{Bound, PassError, QueryFragment, ToSql, Value};
+use sql_raw::*;
 use sql_schema::{Base, SqlBytes, SqlList, SqlText, SqlType};
 use std::alloc::{AllocError, Global};
 use std::test::Fail;

@@ -1,4 +1,4 @@
-use super::*;
+use sql_dialect::*;
 use std::alloc::Global;
 use std::test::Fail;
 

@@ -1,52 +1,20 @@
-use super::*;
+use super::fixture::{column, table};
 use sql_dialect::{Backend, Pg, QueryBuilder};
+use sql_examples::{Maria, ReportError, Upper, users_named};
 use sql_pass::{Identifier, QueryFragment};
 use sql_raw::debug_query;
-use sql_schema::{
-    Base, ColumnDecl, NoMemory, Schema, SchemaBuilder, SqlList, SqlText, SqlType, TableDecl,
-};
+use sql_schema::{Base, Schema, SchemaBuilder};
 use std::alloc::Global;
 use std::test::Fail;
 
-fn text(alloc: Global, text: &str) -> Result<SqlText, NoMemory> {
-    Ok(SqlText::from(String::from_str(alloc, text)?))
-}
-
-fn column(alloc: Global, name: &str, base: Base) -> Result<ColumnDecl, NoMemory> {
-    Ok(ColumnDecl {
-        name: text(alloc, name)?,
-        sql_name: text(alloc, name)?,
-        ty: SqlType {
-            base,
-            nullable: false,
-        },
-        max_length: None,
-    })
-}
-
-fn columns(alloc: Global, base: Base) -> Result<SqlList<ColumnDecl>, NoMemory> {
-    let mut all = Vec::new(alloc);
-    all.push(column(alloc, "id", Base::Integer)?)?;
-    all.push(column(alloc, "name", base)?)?;
-    Ok(SqlList::from(all))
-}
-
-fn key(alloc: Global) -> Result<SqlList<SqlText>, NoMemory> {
-    let mut key = Vec::new(alloc);
-    key.push(text(alloc, "id")?)?;
-    Ok(SqlList::from(key))
-}
-
 /// Users, whose name is of this type.
 fn users(alloc: Global, base: Base) -> Result<Schema, Fail> {
+    let columns = vec![in alloc;
+        column(alloc, "id", Base::Integer)?,
+        column(alloc, "name", base)?,
+    ]?;
     let mut builder = SchemaBuilder::new(alloc);
-    builder.table(TableDecl {
-        name: text(alloc, "users")?,
-        sql_name: text(alloc, "users")?,
-        schema: None,
-        columns: columns(alloc, base)?,
-        primary_key: key(alloc)?,
-    })?;
+    builder.table(table(alloc, "users", columns)?)?;
     Ok(builder.build()?)
 }
 

@@ -1,4 +1,4 @@
-use super::*;
+use sql_source::{Count, Plus, Side, pick};
 use std::test::Fail;
 
 #[test]

@@ -1,5 +1,5 @@
-use crate::{Document, Refusal, dialect_name, read_document, type_name};
 use sql_dialect::{Combinator, Dialect, DuplicateRule};
+use sql_document::{Document, Refusal, dialect_name, read_document, type_name};
 use sql_leaf::JoinKind;
 use sql_schema::{Base, SqlType};
 use sql_syntax::{Call, ClauseCall, Expr, PlainCall, Source};

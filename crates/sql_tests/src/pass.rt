@@ -1,101 +1,15 @@
-#![tactic(auto, using(crate::proofs::Walking::walking))]
+#![tactic(auto, using(sql_pass::proofs::Walking::walking))]
 
-ghost use Rattle.std.specs.Prelude.{◌++◌, [], refl};
-ghost use Rattle.sql_dialect.specs.declared.backend.Dialect.TheVariants as D;
+ghost use Rattle.std.specs.Prelude.{◌++◌, []};
 ghost use Rattle.sql_pass.specs.Bounds.{bound_of};
 ghost use Rattle.sql_pass.specs.Pieces.{one, Text, Bind, ValueOnly, Unsafe};
 
-use super::*;
 use sql_dialect::*;
+use sql_examples::Maria;
+use sql_pass::*;
 use sql_schema::{Base, SqlList, SqlText, SqlType};
 use std::alloc::Global;
 use std::test::Fail;
-
-/// A backend of a user's own, which writes as MySQL does.
-#[derive(Debug, Clone, Copy)]
-struct Maria;
-
-impl SqlDialect for Maria {
-    ghost answers_as = { D.Mysql };
-
-    fn supports(&self, combinator: Combinator, rule: DuplicateRule) -> bool {
-        Mysql.supports(combinator, rule)
-    }
-
-    fn empty_from_clause_syntax(&self) -> EmptyFromClauseSyntax {
-        Mysql.empty_from_clause_syntax()
-    }
-
-    fn exists_syntax(&self) -> ExistsSyntax {
-        Mysql.exists_syntax()
-    }
-
-    fn array_comparison(&self) -> ArrayComparison {
-        Mysql.array_comparison()
-    }
-
-    fn select_statement_syntax(&self) -> SelectStatementSyntax {
-        Mysql.select_statement_syntax()
-    }
-
-    fn alias_syntax(&self) -> AliasSyntax {
-        Mysql.alias_syntax()
-    }
-}
-
-impl Backend for Maria {
-    type QueryBuilder = MariaQueryBuilder;
-
-    ghost speaks = { D.Mysql };
-
-    fn dialect(&self) -> Dialect {
-        Dialect::Mysql
-    }
-
-    fn query_builder(&self, alloc: Global) -> MariaQueryBuilder {
-        MariaQueryBuilder {
-            inner: MysqlQueryBuilder::new(alloc),
-        }
-    }
-
-    ghost builds = { refl };
-
-    ghost answers = { refl };
-}
-
-#[derive(Drop)]
-struct MariaQueryBuilder {
-    inner: MysqlQueryBuilder,
-}
-
-impl QueryBuilder for MariaQueryBuilder {
-    ghost dialect = { D.Mysql };
-
-    ghost text = { λ b. b.inner };
-
-    ghost count = { λ _. 0 };
-
-    fn push_sql(&mut self, sql: &str) -> Result<(), NoMemory> {
-        self.inner.push_sql(sql)
-    }
-
-    fn push_identifier(&mut self, name: &str) -> Result<(), NoMemory> {
-        self.inner.push_identifier(name)
-    }
-
-    fn push_bind_param(&mut self) -> Result<(), BindError> {
-        self.inner.push_bind_param()
-    }
-
-    fn push_bind_param_value_only(&mut self) -> Result<(), BindError> {
-        self.inner.push_bind_param_value_only()
-    }
-
-    fn finish(self) -> String {
-        let MariaQueryBuilder { inner } = self;
-        inner.finish()
-    }
-}
 
 /// A fragment of a user's own, of all five pieces but a name.
 #[derive(Clone, Copy)]

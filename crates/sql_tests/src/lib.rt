@@ -1,0 +1,23 @@
+//! Tests of what the crates give to others, a module for each crate: worked texts, bytes, refusals, messages.
+//!
+//! A crate with tests of its own is proved twice, once with them; so they stand here. Those of the program stand in `sql_tool`.
+#![tactic(auto)]
+
+#[cfg(test)]
+mod check;
+#[cfg(test)]
+mod dialect;
+#[cfg(test)]
+mod document;
+#[cfg(test)]
+mod examples;
+#[cfg(test)]
+mod fixture;
+#[cfg(test)]
+mod pass;
+#[cfg(test)]
+mod raw;
+#[cfg(test)]
+mod schema;
+#[cfg(test)]
+mod source;
