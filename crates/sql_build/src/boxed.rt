@@ -1,4 +1,4 @@
-//! Calls on a boxed select statement. None where it lacks the call.
+//! Calls on a boxed select statement. None where it lacks the call; it is let go as in `call`.
 
 ghost use Rattle.std.specs.Prelude.{◌≡◌, IfOk, Some, option_map};
 ghost use Rattle.sql_node.specs.View.{boxed_select_statement_tree, expr_tree};
@@ -29,7 +29,10 @@ pub(crate) fn plain(
         | PlainCall::ForShare
         | PlainCall::ForKeyShare
         | PlainCall::SkipLocked
-        | PlainCall::NoWait => Ok(None),
+        | PlainCall::NoWait => {
+            drop(select);
+            Ok(None)
+        }
     }
 }
 
@@ -42,7 +45,10 @@ pub(crate) fn clause(
     ensures { IfOk result (λ o. option_map boxed_select_statement_tree o ≡ only_where (Some (clause_made call (expr_tree expr) (boxed_select_statement_tree select))) (clause_stands form.Boxed call)) }
 {
     match call {
-        ClauseCall::DistinctOn | ClauseCall::GroupBy => Ok(None),
+        ClauseCall::DistinctOn | ClauseCall::GroupBy => {
+            drop(select);
+            Ok(None)
+        }
         ClauseCall::Select => Ok(Some(select.select(expr))),
         ClauseCall::Filter => Ok(Some(select.filter(alloc, expr)?)),
         ClauseCall::OrFilter => Ok(Some(select.or_filter(alloc, expr)?)),

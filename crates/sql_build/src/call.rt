@@ -1,4 +1,7 @@
 //! Calls on a statement of any form. None where the statement's form lacks the call.
+//!
+//! A statement is let go by a call of `drop`: where it goes out of sight in place, what can be in each of its clauses is proved
+//! with what can be in all others, for minutes.
 #![tactic(auto, using(crate::proofs::Standing::standing))]
 
 ghost use Rattle.std.specs.Prelude.{◌≡◌, IfOk, Some, map, option_map};
@@ -124,7 +127,10 @@ fn find_with(
             let it = it.find(alloc, key)?;
             Ok(Some(it.into_statement()))
         }
-        Statement::Boxed(_) => Ok(None),
+        Statement::Boxed(it) => {
+            drop(it);
+            Ok(None)
+        }
         Statement::Combination(_) => Ok(None),
     }
 }
@@ -219,7 +225,10 @@ pub(crate) fn into_boxed(dialect: Dialect, statement: Statement) -> Option<State
 {
     match statement {
         Statement::Select(it) => Some(select::boxed(dialect, it).into_statement()),
-        Statement::Boxed(_) => None,
+        Statement::Boxed(it) => {
+            drop(it);
+            None
+        }
         Statement::Combination(_) => None,
     }
 }
@@ -270,7 +279,13 @@ pub(crate) fn positional_order_by(
             let places = Vec::from_slice(alloc, places)?;
             Ok(Some(it.positional_order_by(places).into_statement()))
         }
-        Statement::Select(_) => Ok(None),
-        Statement::Boxed(_) => Ok(None),
+        Statement::Select(it) => {
+            drop(it);
+            Ok(None)
+        }
+        Statement::Boxed(it) => {
+            drop(it);
+            Ok(None)
+        }
     }
 }

@@ -5,12 +5,15 @@ ghost use Rattle.sql_node.specs.View.{expr_tree};
 ghost use Rattle.sql_node.specs.Words as by;
 ghost use Rattle.sql_select.specs.Changes.{filtered, grouped, with_having};
 
+use crate::beside::beside;
 use crate::query::Query;
 use sql_expr::{
-    BoxedSelectStatement, Expr, GroupByClause, HavingClause, SelectStatement, WhereAnd, WhereOr,
+    BoxedSelectStatement, Expr, GroupByClause, HavingClause, SelectStatement, WhereAnd,
+    WhereClause, WhereOr,
 };
 use sql_schema::NoMemory;
 use std::alloc::Global;
+use std::mem;
 
 /// Conditions that all have to hold.
 pub trait FilterDsl: Query {
@@ -41,22 +44,20 @@ pub trait HavingDsl: Query {
 }
 
 impl FilterDsl for SelectStatement {
-    fn filter(self, alloc: Global, predicate: Expr) -> Result<SelectStatement, NoMemory> {
-        let where_clause = WhereAnd::and(self.where_clause, alloc, predicate)?;
-        Ok(SelectStatement {
-            where_clause,
-            ..self
-        })
+    fn filter(mut self, alloc: Global, predicate: Expr) -> Result<SelectStatement, NoMemory> {
+        let old = mem::replace(&mut self.where_clause, WhereClause::NoWhereClause);
+        let (mut statement, both) = beside(self, WhereAnd::and(old, alloc, predicate))?;
+        statement.where_clause = both;
+        Ok(statement)
     }
 }
 
 impl OrFilterDsl for SelectStatement {
-    fn or_filter(self, alloc: Global, predicate: Expr) -> Result<SelectStatement, NoMemory> {
-        let where_clause = WhereOr::or(self.where_clause, alloc, predicate)?;
-        Ok(SelectStatement {
-            where_clause,
-            ..self
-        })
+    fn or_filter(mut self, alloc: Global, predicate: Expr) -> Result<SelectStatement, NoMemory> {
+        let old = mem::replace(&mut self.where_clause, WhereClause::NoWhereClause);
+        let (mut statement, either) = beside(self, WhereOr::or(old, alloc, predicate))?;
+        statement.where_clause = either;
+        Ok(statement)
     }
 }
 
@@ -68,22 +69,24 @@ impl HavingDsl for SelectStatement {
 }
 
 impl FilterDsl for BoxedSelectStatement {
-    fn filter(self, alloc: Global, predicate: Expr) -> Result<BoxedSelectStatement, NoMemory> {
-        let where_clause = WhereAnd::and(self.where_clause, alloc, predicate)?;
-        Ok(BoxedSelectStatement {
-            where_clause,
-            ..self
-        })
+    fn filter(mut self, alloc: Global, predicate: Expr) -> Result<BoxedSelectStatement, NoMemory> {
+        let old = mem::replace(&mut self.where_clause, WhereClause::NoWhereClause);
+        let (mut statement, both) = beside(self, WhereAnd::and(old, alloc, predicate))?;
+        statement.where_clause = both;
+        Ok(statement)
     }
 }
 
 impl OrFilterDsl for BoxedSelectStatement {
-    fn or_filter(self, alloc: Global, predicate: Expr) -> Result<BoxedSelectStatement, NoMemory> {
-        let where_clause = WhereOr::or(self.where_clause, alloc, predicate)?;
-        Ok(BoxedSelectStatement {
-            where_clause,
-            ..self
-        })
+    fn or_filter(
+        mut self,
+        alloc: Global,
+        predicate: Expr,
+    ) -> Result<BoxedSelectStatement, NoMemory> {
+        let old = mem::replace(&mut self.where_clause, WhereClause::NoWhereClause);
+        let (mut statement, either) = beside(self, WhereOr::or(old, alloc, predicate))?;
+        statement.where_clause = either;
+        Ok(statement)
     }
 }
 

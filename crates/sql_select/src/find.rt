@@ -7,6 +7,7 @@ ghost use Rattle.sql_node.specs.View.{expr_tree, from_clause_tree, maybe_of};
 ghost use Rattle.sql_source.specs.Lent.{origin_of};
 ghost use Rattle.sql_select.specs.Finding.{all_before, and_then, equal_each, found, key_columns as columns_of_key, only_leaf};
 
+use crate::beside::beside;
 use crate::condition::FilterDsl;
 use crate::query::Query;
 use sql_expr::{Expr, ExpressionMethods, FromClause, SelectStatement, Source};
@@ -93,14 +94,15 @@ impl FindDsl for SelectStatement {
             self.marks.find_source = true;
             return Ok(self);
         };
-        let columns = key_columns(alloc, leaf)?;
+        let columns = key_columns(alloc, leaf);
+        let (mut statement, columns) = beside(self, columns)?;
         if columns.len() != key.len() {
-            self.marks.key_count = true;
-            return Ok(self);
+            statement.marks.key_count = true;
+            return Ok(statement);
         }
-        match equal_to(alloc, columns, key)? {
-            None => Ok(self),
-            Some(condition) => self.filter(alloc, condition),
+        match beside(statement, equal_to(alloc, columns, key))? {
+            (statement, None) => Ok(statement),
+            (statement, Some(condition)) => statement.filter(alloc, condition),
         }
     }
 }

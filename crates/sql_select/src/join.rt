@@ -1,11 +1,12 @@
 #![tactic(auto, using(sql_node::proofs::Trees::opens_from_clause, sql_node::proofs::Trees::opens_select_clause, sql_node::proofs::Trees::opens_select_statement, sql_node::proofs::Trees::opens_boxed_select_statement))]
 
-ghost use Rattle.std.specs.Prelude.{◌≡◌, IfOk, option_map};
+ghost use Rattle.std.specs.Prelude.{◌≡◌, IfOk, OnOk, option_map};
 ghost use Rattle.sql_expr.specs.Joining.{side_tree};
 ghost use Rattle.sql_node.specs.View.{expr_tree, from_clause_tree, select_clause_tree, source_tree};
 ghost use Rattle.sql_source.specs.Joins.{alone, joined_by, joined_with};
 ghost use Rattle.sql_select.specs.Joins.{default_over, from_map, joined, joined_on, mark_over};
 
+use crate::beside::beside;
 use crate::query::Query;
 use sql_expr::{
     BoxedSelectStatement, Expr, FromClause, JoinKind, JoinRhs, Marks, SelectClause,
@@ -14,6 +15,7 @@ use sql_expr::{
 use sql_schema::{NoMemory, Schema};
 use sql_source::{InternalJoinDsl as _, JoinTo, QuerySource};
 use std::alloc::Global;
+use std::mem;
 
 /// Joins on the condition that their right side has, or on that of a relation of the schema.
 pub trait JoinWithImplicitOnClause: Query {
@@ -80,20 +82,16 @@ fn join_from_implicitly(
     }
 }
 
-/// A default selection as that of the source; one that was given stays.
-fn default_anew(
-    alloc: Global,
-    select: SelectClause,
-    from: &FromClause,
-) -> Result<SelectClause, NoMemory>
-    ensures { IfOk result (λ c. select_clause_tree c ≡ default_over (from_clause_tree from.now) (select_clause_tree select)) }
+/// A default selection becomes that of the source; one that was given stays.
+fn select_anew(alloc: Global, select: &mut SelectClause, from: &FromClause) -> Result<(), NoMemory>
+    ensures { OnOk result (select_clause_tree select.new ≡ default_over (from_clause_tree from.now) (select_clause_tree select.old)) }
 {
     match (from, select) {
-        (FromClause::FromClause(source), SelectClause::DefaultSelectClause(_)) => {
-            let selection = source.default_selection(alloc)?;
-            Ok(SelectClause::DefaultSelectClause(selection))
+        (FromClause::FromClause(source), SelectClause::DefaultSelectClause(selection)) => {
+            *selection = source.default_selection(alloc)?;
+            Ok(())
         }
-        (_, select) => Ok(select),
+        _ => Ok(()),
     }
 }
 
@@ -109,21 +107,21 @@ fn marks_over(marks: Marks, from: &FromClause) -> Marks
     }
 }
 
-/// The joined source, and the selection over it.
+/// The joined source. A default selection becomes that of it.
 fn join_and_select(
     alloc: Global,
     from: FromClause,
-    select: SelectClause,
+    select: &mut SelectClause,
     rhs: Source,
     kind: JoinKind,
     on: Option<Expr>,
-) -> Result<(FromClause, SelectClause), NoMemory>
-    ensures from { IfOk result (λ p. from_clause_tree p.0 ≡ from_map (λ left. joined_with kind left (record { source = source_tree rhs; on = option_map expr_tree on })) (from_clause_tree from)) }
-    ensures select { IfOk result (λ p. select_clause_tree p.1 ≡ default_over (from_clause_tree p.0) (select_clause_tree select)) }
+) -> Result<FromClause, NoMemory>
+    ensures from { IfOk result (λ f. from_clause_tree f ≡ from_map (λ left. joined_with kind left (record { source = source_tree rhs; on = option_map expr_tree on })) (from_clause_tree from)) }
+    ensures select { IfOk result (λ f. select_clause_tree select.new ≡ default_over (from_clause_tree f) (select_clause_tree select.old)) }
 {
     let from = join_from(alloc, from, rhs, kind, on)?;
-    let select = default_anew(alloc, select, &from)?;
-    Ok((from, select))
+    select_anew(alloc, select, &from)?;
+    Ok(from)
 }
 
 /// The same on the condition of a relation.
@@ -131,95 +129,82 @@ fn join_and_select_implicitly(
     alloc: Global,
     schema: &Schema,
     from: FromClause,
-    select: SelectClause,
+    select: &mut SelectClause,
     rhs: JoinRhs,
     kind: JoinKind,
-) -> Result<(FromClause, SelectClause), NoMemory>
-    ensures from { IfOk result (λ p. from_clause_tree p.0 ≡ from_map (λ left. (joined_by schema.now kind (alone left) (side_tree rhs)).source) (from_clause_tree from)) }
-    ensures select { IfOk result (λ p. select_clause_tree p.1 ≡ default_over (from_clause_tree p.0) (select_clause_tree select)) }
+) -> Result<FromClause, NoMemory>
+    ensures from { IfOk result (λ f. from_clause_tree f ≡ from_map (λ left. (joined_by schema.now kind (alone left) (side_tree rhs)).source) (from_clause_tree from)) }
+    ensures select { IfOk result (λ f. select_clause_tree select.new ≡ default_over (from_clause_tree f) (select_clause_tree select.old)) }
 {
     let from = join_from_implicitly(alloc, schema, from, rhs, kind)?;
-    let select = default_anew(alloc, select, &from)?;
-    Ok((from, select))
+    select_anew(alloc, select, &from)?;
+    Ok(from)
 }
 
 impl InternalJoinDsl for SelectStatement {
     fn join(
-        self,
+        mut self,
         alloc: Global,
         rhs: Source,
         kind: JoinKind,
         on: Option<Expr>,
     ) -> Result<SelectStatement, NoMemory> {
-        let (from, select) = join_and_select(alloc, self.from, self.select, rhs, kind, on)?;
-        let marks = marks_over(self.marks, &from);
-        Ok(SelectStatement {
-            select,
-            from,
-            marks,
-            ..self
-        })
+        let left = mem::replace(&mut self.from, FromClause::NoFromClause);
+        let joined = join_and_select(alloc, left, &mut self.select, rhs, kind, on);
+        let (mut statement, from) = beside(self, joined)?;
+        statement.marks = marks_over(statement.marks, &from);
+        statement.from = from;
+        Ok(statement)
     }
 }
 
 impl InternalJoinDsl for BoxedSelectStatement {
     fn join(
-        self,
+        mut self,
         alloc: Global,
         rhs: Source,
         kind: JoinKind,
         on: Option<Expr>,
     ) -> Result<BoxedSelectStatement, NoMemory> {
-        let from = join_from(alloc, self.from, rhs, kind, on)?;
-        let marks = marks_over(self.marks, &from);
-        Ok(BoxedSelectStatement {
-            from,
-            marks,
-            ..self
-        })
+        let left = mem::replace(&mut self.from, FromClause::NoFromClause);
+        let (mut statement, from) = beside(self, join_from(alloc, left, rhs, kind, on))?;
+        statement.marks = marks_over(statement.marks, &from);
+        statement.from = from;
+        Ok(statement)
     }
 }
 
 impl JoinWithImplicitOnClause for SelectStatement {
     fn join_with_implicit_on_clause(
-        self,
+        mut self,
         alloc: Global,
         schema: &Schema,
         rhs: JoinRhs,
         kind: JoinKind,
     ) -> Result<SelectStatement, NoMemory> {
-        let (from, select) = join_and_select_implicitly(
-            alloc,
-            schema,
-            self.from,
-            self.select,
-            rhs,
-            kind,
-        )?;
-        let marks = marks_over(self.marks, &from);
-        Ok(SelectStatement {
-            select,
-            from,
-            marks,
-            ..self
-        })
+        let left = mem::replace(&mut self.from, FromClause::NoFromClause);
+        let select = &mut self.select;
+        let joined = join_and_select_implicitly(alloc, schema, left, select, rhs, kind);
+        let (mut statement, from) = beside(self, joined)?;
+        statement.marks = marks_over(statement.marks, &from);
+        statement.from = from;
+        Ok(statement)
     }
 }
 
 impl JoinWithImplicitOnClause for BoxedSelectStatement {
     fn join_with_implicit_on_clause(
-        self,
+        mut self,
         alloc: Global,
         schema: &Schema,
         rhs: JoinRhs,
         kind: JoinKind,
     ) -> Result<BoxedSelectStatement, NoMemory> {
-        let from = join_from_implicitly(alloc, schema, self.from, rhs, kind)?;
-        let marks = marks_over(self.marks, &from);
-        Ok(BoxedSelectStatement {
-            from,
-            marks,
-            ..self
-        })
+        let left = mem::replace(&mut self.from, FromClause::NoFromClause);
+        let joined = join_from_implicitly(alloc, schema, left, rhs, kind);
+        let (mut statement, from) = beside(self, joined)?;
+        statement.marks = marks_over(statement.marks, &from);
+        statement.from = from;
+        Ok(statement)
     }
 }

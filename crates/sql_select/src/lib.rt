@@ -5,6 +5,7 @@
 
 mod accessor;
 mod as_query;
+mod beside;
 mod boxing;
 mod combine;
 mod condition;

@@ -5,10 +5,12 @@ ghost use Rattle.sql_node.specs.Tree as tree;
 ghost use Rattle.sql_node.specs.View.{items_of, order_clause_tree, order_item_tree};
 ghost use Rattle.sql_select.specs.Changes.{items_in, items_then, ordered, ordered_then};
 
+use crate::beside::beside;
 use crate::query::Query;
 use sql_expr::{BoxedSelectStatement, OrderClause, OrderItem, SelectStatement};
 use sql_schema::{NoMemory, SqlList};
 use std::alloc::Global;
+use std::mem;
 
 /// The order of rows.
 pub trait OrderDsl: Query {
@@ -47,12 +49,14 @@ impl OrderDsl for SelectStatement {
 
 impl ThenOrderDsl for SelectStatement {
     fn then_order_by(
-        self,
+        mut self,
         _alloc: Global,
         items: Vec<OrderItem>,
     ) -> Result<SelectStatement, NoMemory> {
-        let order = order_then(self.order, items)?;
-        Ok(SelectStatement { order, ..self })
+        let old = mem::replace(&mut self.order, OrderClause::NoOrderClause);
+        let (mut statement, order) = beside(self, order_then(old, items))?;
+        statement.order = order;
+        Ok(statement)
     }
 }
 
@@ -65,11 +69,13 @@ impl OrderDsl for BoxedSelectStatement {
 
 impl ThenOrderDsl for BoxedSelectStatement {
     fn then_order_by(
-        self,
+        mut self,
         _alloc: Global,
         items: Vec<OrderItem>,
     ) -> Result<BoxedSelectStatement, NoMemory> {
-        let order = order_then(self.order, items)?;
-        Ok(BoxedSelectStatement { order, ..self })
+        let old = mem::replace(&mut self.order, OrderClause::NoOrderClause);
+        let (mut statement, order) = beside(self, order_then(old, items))?;
+        statement.order = order;
+        Ok(statement)
     }
 }

@@ -4,6 +4,7 @@ ghost use Rattle.std.specs.Prelude.{◌≡◌, IfOk};
 ghost use Rattle.sql_node.specs.View.{expr_tree, select_clause_tree};
 ghost use Rattle.sql_select.specs.Changes.{nulled, selected, single_value_of};
 
+use crate::beside::beside;
 use crate::limit::LimitDsl;
 use crate::query::Query;
 use sql_expr::{
@@ -11,6 +12,7 @@ use sql_expr::{
 };
 use sql_schema::NoMemory;
 use std::alloc::Global;
+use std::mem;
 
 /// What is selected.
 pub trait SelectDsl: Query {
@@ -58,10 +60,12 @@ fn selection_in(clause: SelectClause) -> Expr
 }
 
 impl SelectNullableDsl for SelectStatement {
-    fn nullable(self, alloc: Global) -> Result<SelectStatement, NoMemory> {
-        let selection = selection_in(self.select).nullable(alloc)?;
-        let select = SelectClause::SelectClause(selection);
-        Ok(SelectStatement { select, ..self })
+    fn nullable(mut self, alloc: Global) -> Result<SelectStatement, NoMemory> {
+        let meanwhile = SelectClause::SelectClause(Expr::CountStar);
+        let selection = selection_in(mem::replace(&mut self.select, meanwhile));
+        let (mut statement, selection) = beside(self, selection.nullable(alloc))?;
+        statement.select = SelectClause::SelectClause(selection);
+        Ok(statement)
     }
 }
 

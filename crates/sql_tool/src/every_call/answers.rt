@@ -38,14 +38,19 @@ fn keys(alloc: Global) -> Result<(), Fail> {
     )
 }
 
-fn views(alloc: Global) -> Result<(), Fail> {
-    let users: SelectStatement = ids(alloc)?;
-    let from: &FromClause = &users.from;
+fn views_of(alloc: Global, from: &FromClause) -> Result<(), Fail> {
     is(own_view(alloc, from)?.len() == 1, "a view")?;
     let outer = own_view(alloc, from)?;
     let form = Form::Unboxed(LockingClause::NoLockingClause);
     let widest = widest_view(alloc, outer.as_slice(), form, from)?;
     is(widest.len() == 2, "a widest view")
+}
+
+fn views(alloc: Global) -> Result<(), Fail> {
+    let users: SelectStatement = ids(alloc)?;
+    let seen = views_of(alloc, &users.from);
+    drop(users);
+    seen
 }
 
 fn places(alloc: Global) -> Result<(), Fail> {

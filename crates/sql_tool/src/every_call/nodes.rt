@@ -1,15 +1,16 @@
 //! The nodes that hold expressions: each is copied, and its copy written.
 
 use super::fixture::{INTEGER, id, one, table, writes};
+use super::queries::ids;
 use sql_dialect::Pg;
 use sql_expr::{
-    DistinctClause, Expr, ExpressionMethods, FromClause, GroupByClause, HavingClause, InValues,
-    Join, JoinKind, JoinOn, JoinRhs, OnClauseWrapper, OrderClause, SelectClause, SelectStatement,
-    Source, TableSource, WhereClause,
+    BoxedSelectStatement, DistinctClause, Expr, ExpressionMethods, FromClause, GroupByClause,
+    HavingClause, InValues, Join, JoinKind, JoinOn, JoinRhs, OnClauseWrapper, OrderClause,
+    SelectClause, SelectStatement, Source, TableSource, WhereClause,
 };
 use sql_pass::Value;
-use sql_schema::SqlList;
-use sql_select::{AsQuery, CombineDsl, Query, QueryDsl};
+use sql_schema::{NoMemory, SqlList};
+use sql_select::{CombineDsl, Query, QueryDsl};
 use sql_source::NewTableSource;
 use std::alloc::Global;
 use std::test::Fail;
@@ -21,7 +22,8 @@ pub fn every_call(alloc: Global) -> Result<(), Fail> {
     clauses(alloc)?;
     conditions(alloc)?;
     orders(alloc)?;
-    statements(alloc)
+    statements(alloc)?;
+    combinations(alloc)
 }
 
 fn expressions(alloc: Global) -> Result<(), Fail> {
@@ -127,28 +129,44 @@ fn orders(alloc: Global) -> Result<(), Fail> {
     )
 }
 
-/// `SELECT "users"."id" FROM "users"`.
-fn ids(alloc: Global) -> Result<SelectStatement, Fail> {
-    Ok(table(alloc, "users")?.as_query(alloc)?.select(id(alloc)?))
+/// A copy of the statement, which is let go.
+fn copied(alloc: Global, statement: SelectStatement) -> Result<SelectStatement, NoMemory> {
+    let copy = statement.try_clone(alloc);
+    drop(statement);
+    copy
+}
+
+/// A copy of the boxed statement, which is let go.
+fn boxed_copied(
+    alloc: Global,
+    boxed: BoxedSelectStatement,
+) -> Result<BoxedSelectStatement, NoMemory> {
+    let copy = boxed.try_clone(alloc);
+    drop(boxed);
+    copy
 }
 
 fn statements(alloc: Global) -> Result<(), Fail> {
     writes(
         alloc,
-        ids(alloc)?.try_clone(alloc)?,
+        copied(alloc, ids(alloc)?)?,
         "SELECT \"users\".\"id\" FROM \"users\"",
     )?;
     writes(
         alloc,
-        ids(alloc)?.into_boxed(&Pg).try_clone(alloc)?,
+        boxed_copied(alloc, ids(alloc)?.into_boxed(&Pg))?,
         "SELECT \"users\".\"id\" FROM \"users\"",
     )?;
     writes(
         alloc,
         ids(alloc)?.into_statement().try_clone(alloc)?,
         "SELECT \"users\".\"id\" FROM \"users\"",
-    )?;
-    let both = ids(alloc)?.union(alloc, ids(alloc)?.into_statement())?;
+    )
+}
+
+fn combinations(alloc: Global) -> Result<(), Fail> {
+    let rhs = ids(alloc)?.into_statement();
+    let both = ids(alloc)?.union(alloc, rhs)?;
     writes(
         alloc,
         both.try_clone(alloc)?,

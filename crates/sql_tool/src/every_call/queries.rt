@@ -1,4 +1,4 @@
-//! The calls that make statements of sources, and change them.
+//! The calls that make statements of sources, and change them. Arguments come first, so that no statement stands under their `?`.
 
 use super::fixture::{id, one, schema, table, text, writes};
 use sql_dialect::Pg;
@@ -11,8 +11,11 @@ use std::test::Fail;
 pub fn every_call(alloc: Global) -> Result<(), Fail> {
     beginnings(alloc)?;
     conditions(alloc)?;
+    conditions_of_boxed(alloc)?;
+    keys(alloc)?;
     orders(alloc)?;
     joins(alloc)?;
+    joins_on_a_condition(alloc)?;
     joins_of_boxed(alloc)?;
     selections(alloc)
 }
@@ -57,38 +60,45 @@ fn beginnings(alloc: Global) -> Result<(), Fail> {
 }
 
 fn conditions(alloc: Global) -> Result<(), Fail> {
+    let (one, other) = (one(alloc)?, id(alloc)?);
     writes(
         alloc,
-        ids(alloc)?
-            .filter(alloc, one(alloc)?)?
-            .or_filter(alloc, id(alloc)?)?,
+        ids(alloc)?.filter(alloc, one)?.or_filter(alloc, other)?,
         "SELECT \"users\".\"id\" FROM \"users\" WHERE ($1 OR \"users\".\"id\")",
-    )?;
+    )
+}
+
+fn conditions_of_boxed(alloc: Global) -> Result<(), Fail> {
+    let (one, other) = (one(alloc)?, id(alloc)?);
     let boxed = ids(alloc)?.into_boxed(&Pg);
     writes(
         alloc,
-        boxed
-            .filter(alloc, one(alloc)?)?
-            .or_filter(alloc, id(alloc)?)?,
+        boxed.filter(alloc, one)?.or_filter(alloc, other)?,
         "SELECT \"users\".\"id\" FROM \"users\" WHERE ($1 OR \"users\".\"id\")",
-    )?;
+    )
+}
+
+fn keys(alloc: Global) -> Result<(), Fail> {
+    let key = vec![in alloc; one(alloc)?]?;
     writes(
         alloc,
-        ids(alloc)?.find(alloc, vec![in alloc; one(alloc)?]?)?,
+        ids(alloc)?.find(alloc, key)?,
         "SELECT \"users\".\"id\" FROM \"users\" WHERE (\"users\".\"id\" = $1)",
     )
 }
 
 fn orders(alloc: Global) -> Result<(), Fail> {
+    let items = vec![in alloc; id(alloc)?.asc()]?;
     writes(
         alloc,
-        ids(alloc)?.then_order_by(alloc, vec![in alloc; id(alloc)?.asc()]?)?,
+        ids(alloc)?.then_order_by(alloc, items)?,
         "SELECT \"users\".\"id\" FROM \"users\" ORDER BY \"users\".\"id\" ASC",
     )?;
+    let items = vec![in alloc; id(alloc)?.desc()]?;
     let boxed = ids(alloc)?.into_boxed(&Pg);
     writes(
         alloc,
-        boxed.then_order_by(alloc, vec![in alloc; id(alloc)?.desc()]?)?,
+        boxed.then_order_by(alloc, items)?,
         "SELECT \"users\".\"id\" FROM \"users\" ORDER BY \"users\".\"id\" DESC",
     )
 }
@@ -109,10 +119,14 @@ fn joins(alloc: Global) -> Result<(), Fail> {
         alloc,
         ids(alloc)?.join_with_implicit_on_clause(alloc, &schema, rhs, JoinKind::Inner)?,
         JOINED,
-    )?;
+    )
+}
+
+fn joins_on_a_condition(alloc: Global) -> Result<(), Fail> {
+    let (posts, on) = (posts(alloc)?, Some(one(alloc)?));
     writes(
         alloc,
-        ids(alloc)?.join(alloc, posts(alloc)?, JoinKind::LeftOuter, Some(one(alloc)?))?,
+        ids(alloc)?.join(alloc, posts, JoinKind::LeftOuter, on)?,
         "SELECT \"users\".\"id\" FROM (\"users\" LEFT OUTER JOIN \"posts\" ON $1)",
     )
 }
@@ -126,10 +140,11 @@ fn joins_of_boxed(alloc: Global) -> Result<(), Fail> {
         boxed.join_with_implicit_on_clause(alloc, &schema, rhs, JoinKind::Inner)?,
         JOINED,
     )?;
+    let (posts, on) = (posts(alloc)?, Some(one(alloc)?));
     let boxed = ids(alloc)?.into_boxed(&Pg);
     writes(
         alloc,
-        boxed.join(alloc, posts(alloc)?, JoinKind::LeftOuter, Some(one(alloc)?))?,
+        boxed.join(alloc, posts, JoinKind::LeftOuter, on)?,
         "SELECT \"users\".\"id\" FROM (\"users\" LEFT OUTER JOIN \"posts\" ON $1)",
     )
 }

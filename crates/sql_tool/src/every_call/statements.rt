@@ -1,11 +1,13 @@
 //! Combinations, statements that are written boxed, and rows that a Rust type is read from.
+//!
+//! No statement stands under a `?`, and each is let go by a call: what can be in each of its clauses would be proved together.
 
 ghost use Rattle.sql_node.specs.View.{expr_tree, select_statement_tree};
 
 use super::fixture::{one, reads, text_in, writes};
 use super::queries::ids;
 use sql_dialect::{Backend, Pg};
-use sql_expr::{Expr, SelectStatement, Statement};
+use sql_expr::{CombinationClause, Expr, SelectStatement, Statement};
 use sql_pass::AstPass;
 use sql_schema::NoMemory;
 use sql_select::{BoxedQueryHelper, CombineDsl, HasQuery, Query, QueryDsl};
@@ -27,68 +29,83 @@ fn all(alloc: Global) -> Result<Statement, Fail> {
 }
 
 fn unions(alloc: Global) -> Result<(), Fail> {
+    let rhs = all(alloc)?;
     writes(
         alloc,
-        ids(alloc)?.union(alloc, all(alloc)?)?,
+        ids(alloc)?.union(alloc, rhs)?,
         "(SELECT \"users\".\"id\" FROM \"users\") UNION (SELECT \"users\".\"id\" FROM \"users\")",
     )?;
+    let rhs = all(alloc)?;
     writes(
         alloc,
-        ids(alloc)?.union_all(alloc, all(alloc)?)?,
+        ids(alloc)?.union_all(alloc, rhs)?,
         "(SELECT \"users\".\"id\" FROM \"users\") UNION ALL (SELECT \"users\".\"id\" FROM \"users\")",
     )?;
+    let rhs = all(alloc)?;
     writes(
         alloc,
-        ids(alloc)?.except(alloc, all(alloc)?)?,
+        ids(alloc)?.except(alloc, rhs)?,
         "(SELECT \"users\".\"id\" FROM \"users\") EXCEPT (SELECT \"users\".\"id\" FROM \"users\")",
     )
 }
 
 fn intersections(alloc: Global) -> Result<(), Fail> {
+    let rhs = all(alloc)?;
     writes(
         alloc,
-        ids(alloc)?.intersect(alloc, all(alloc)?)?,
+        ids(alloc)?.intersect(alloc, rhs)?,
         "(SELECT \"users\".\"id\" FROM \"users\") INTERSECT (SELECT \"users\".\"id\" FROM \"users\")",
     )?;
+    let rhs = all(alloc)?;
     writes(
         alloc,
-        ids(alloc)?.intersect_all(alloc, all(alloc)?)?,
+        ids(alloc)?.intersect_all(alloc, rhs)?,
         "(SELECT \"users\".\"id\" FROM \"users\") INTERSECT ALL (SELECT \"users\".\"id\" FROM \"users\")",
     )?;
+    let rhs = all(alloc)?;
     writes(
         alloc,
-        ids(alloc)?.except_all(alloc, all(alloc)?)?,
+        ids(alloc)?.except_all(alloc, rhs)?,
         "(SELECT \"users\".\"id\" FROM \"users\") EXCEPT ALL (SELECT \"users\".\"id\" FROM \"users\")",
     )
 }
 
 fn of_boxed(alloc: Global) -> Result<(), Fail> {
+    let rhs = all(alloc)?;
     let boxed = ids(alloc)?.into_boxed(&Pg);
     writes(
         alloc,
-        boxed.union(alloc, all(alloc)?)?,
+        boxed.union(alloc, rhs)?,
         "(SELECT \"users\".\"id\" FROM \"users\") UNION (SELECT \"users\".\"id\" FROM \"users\")",
     )
 }
 
+/// `(SELECT "users"."id" FROM "users") UNION (SELECT "users"."id" FROM "users")`.
+fn both(alloc: Global) -> Result<CombinationClause, Fail> {
+    let rhs = all(alloc)?;
+    Ok(ids(alloc)?.union(alloc, rhs)?)
+}
+
 fn of_combinations(alloc: Global) -> Result<(), Fail> {
-    let both = ids(alloc)?.union(alloc, all(alloc)?)?;
+    let rhs = all(alloc)?;
     writes(
         alloc,
-        both.except(alloc, all(alloc)?)?,
+        both(alloc)?.except(alloc, rhs)?,
         "((SELECT \"users\".\"id\" FROM \"users\") UNION (SELECT \"users\".\"id\" FROM \"users\")) EXCEPT (SELECT \"users\".\"id\" FROM \"users\")",
     )?;
-    let both = ids(alloc)?.union(alloc, all(alloc)?)?;
     writes(
         alloc,
-        both.single_value(alloc)?,
+        both(alloc)?.single_value(alloc)?,
         "((SELECT \"users\".\"id\" FROM \"users\") UNION (SELECT \"users\".\"id\" FROM \"users\") LIMIT $1)",
     )
 }
 
 fn written(alloc: Global) -> Result<(), Fail> {
     let mut pass = AstPass::to_sql(Pg.query_builder(alloc), Pg);
-    ids(alloc)?.into_boxed(&Pg).build_query(&mut pass)?;
+    let boxed = ids(alloc)?.into_boxed(&Pg);
+    let walked = boxed.build_query(&mut pass);
+    drop(boxed);
+    walked?;
     reads(text_in(pass)?, "SELECT \"users\".\"id\" FROM \"users\"")
 }
 
@@ -112,11 +129,7 @@ impl HasQuery for Kept {
     }
 }
 
-fn of_one_type(alloc: Global) -> Result<(), Fail> {
-    let kept = Kept {
-        statement: ids(alloc)?,
-        wanted: one(alloc)?,
-    };
+fn read_from(alloc: Global, kept: &Kept) -> Result<(), Fail> {
     writes(
         alloc,
         kept.base_query(alloc)?,
@@ -124,4 +137,15 @@ fn of_one_type(alloc: Global) -> Result<(), Fail> {
     )?;
     writes(alloc, kept.as_select(alloc)?, "$1")?;
     writes(alloc, kept.query(alloc)?, "SELECT $1 FROM \"users\"")
+}
+
+fn of_one_type(alloc: Global) -> Result<(), Fail> {
+    let wanted = one(alloc)?;
+    let kept = Kept {
+        statement: ids(alloc)?,
+        wanted,
+    };
+    let read = read_from(alloc, &kept);
+    drop(kept);
+    read
 }
