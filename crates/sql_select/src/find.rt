@@ -100,9 +100,10 @@ impl FindDsl for SelectStatement {
             statement.marks.key_count = true;
             return Ok(statement);
         }
-        match beside(statement, equal_to(alloc, columns, key))? {
-            (statement, None) => Ok(statement),
-            (statement, Some(condition)) => statement.filter(alloc, condition),
+        let (statement, condition) = beside(statement, equal_to(alloc, columns, key))?;
+        match condition {
+            None => Ok(statement),
+            Some(condition) => statement.filter(alloc, condition),
         }
     }
 }
