@@ -166,7 +166,7 @@ order_clauses v (order_by is) = item_clauses v is
 abbrev pub own : Select → View
 own s = origins_of s.source
 
--- in the order in which they are written: WHERE sees the second view, each other clause the first
+-- in the order in which they are written: WHERE sees the second view, ON the leaves of its two sides, each other clause the first
 abbrev pub clauses_by : View → View → Select → List Clause
 clauses_by v w s =
     distinct_clause v s.distinctness ++ (record { place = in_selection; view = v; expr = s.selection } ∷ (ons_of s.source
