@@ -29,7 +29,9 @@ fn shown<DB: Backend>(
     let statement = statement(alloc, schema, request.dialect, &request.query)?.ok_or(
         "no statement",
     )?;
-    let shown = debug_query(alloc, backend, &statement)?;
+    let shown = debug_query(alloc, backend, &statement);
+    drop(statement);
+    let shown = shown?;
     Ok(format!(in alloc; "{shown}")?)
 }
 

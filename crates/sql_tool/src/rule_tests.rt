@@ -4,6 +4,8 @@ use sql_build::statement;
 use sql_check::broken;
 use sql_dialect::{Dialect, Mysql, Pg, Sqlite};
 use sql_document::{Document, Request, read_document};
+use sql_expr::Statement;
+use sql_rules::Rule;
 use sql_schema::{Schema, SchemaBuilder};
 use std::alloc::{AllocError, Global};
 use std::test::Fail;
@@ -126,6 +128,19 @@ const TABLE: [(&str, &str); 27] = [
     ),
 ];
 
+fn rules_of(
+    alloc: Global,
+    dialect: Dialect,
+    schema: &Schema,
+    statement: &Statement,
+) -> Result<Vec<Rule>, AllocError> {
+    match dialect {
+        Dialect::Pg => broken(alloc, &Pg, schema, statement),
+        Dialect::Mysql => broken(alloc, &Mysql, schema, statement),
+        Dialect::Sqlite => broken(alloc, &Sqlite, schema, statement),
+    }
+}
+
 /// The rules that the request's statement over its schema breaks over another.
 fn names(
     alloc: Global,
@@ -138,11 +153,9 @@ fn names(
         names.push_str("no statement")?;
         return Ok(names);
     };
-    let rules = match request.dialect {
-        Dialect::Pg => broken(alloc, &Pg, schema, &statement)?,
-        Dialect::Mysql => broken(alloc, &Mysql, schema, &statement)?,
-        Dialect::Sqlite => broken(alloc, &Sqlite, schema, &statement)?,
-    };
+    let rules = rules_of(alloc, request.dialect, schema, &statement);
+    drop(statement);
+    let rules = rules?;
     for rule in rules.as_slice() {
         if !names.is_empty() {
             names.push_str(" ")?;

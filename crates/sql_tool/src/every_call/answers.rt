@@ -1,6 +1,6 @@
 //! What is told of statements, the program's parts, and the program itself.
 
-use super::fixture::{INTEGER, id, is, one, schema};
+use super::fixture::{INTEGER, beside, id, is, one, schema};
 use super::queries::ids;
 use crate::run::run;
 use crate::status::Status;
@@ -8,9 +8,10 @@ use sql_build::statement;
 use sql_check::{broken, compile};
 use sql_dialect::Pg;
 use sql_document::{Document, read_document};
-use sql_expr::{Expr, ExpressionMethods, FromClause, LockingClause, SelectStatement};
-use sql_key::{QueryId, expression_key};
+use sql_expr::{Expr, ExpressionMethods, FromClause, LockingClause, SelectStatement, Statement};
+use sql_key::{QueryId, QueryKey, expression_key};
 use sql_places::{Form, Part, clauses, nodes, own_view, parts, widest_view};
+use sql_schema::Schema;
 use sql_select::{Query, QueryDsl};
 use sql_stream::{MemorySink, SureSource, read_all};
 use sql_types::{columns, type_of};
@@ -28,10 +29,16 @@ pub fn every_call(alloc: Global) -> Result<(), Fail> {
     the_program(alloc)
 }
 
+fn key(alloc: Global) -> Result<Option<QueryKey>, Fail> {
+    let ids = ids(alloc)?.into_statement();
+    let key = ids.query_id(alloc);
+    drop(ids);
+    Ok(key?)
+}
+
 fn keys(alloc: Global) -> Result<(), Fail> {
-    let first = ids(alloc)?.into_statement().query_id(alloc)?;
-    let second = ids(alloc)?.into_statement().query_id(alloc)?;
-    is(first.is_some() && first == second, "one key")?;
+    let first = key(alloc)?;
+    is(first.is_some() && first == key(alloc)?, "one key")?;
     is(
         expression_key(alloc, 0, &one(alloc)?)? == expression_key(alloc, 0, &one(alloc)?)?,
         "one key of an expression",
@@ -53,11 +60,8 @@ fn views(alloc: Global) -> Result<(), Fail> {
     seen
 }
 
-fn places(alloc: Global) -> Result<(), Fail> {
-    let equal: Expr = id(alloc)?.eq(alloc, one(alloc)?)?;
-    is(nodes(alloc, &equal)?.len() == 3, "three expressions")?;
-    let users = ids(alloc)?.filter(alloc, equal)?.into_statement();
-    let all = parts(alloc, &users)?;
+fn places_in(alloc: Global, statement: &Statement) -> Result<(), Fail> {
+    let all = parts(alloc, statement)?;
     is(all.len() == 1, "one statement")?;
     match all.first() {
         Some(Part::Select(_, select)) => is(
@@ -68,28 +72,52 @@ fn places(alloc: Global) -> Result<(), Fail> {
     }
 }
 
+fn equal(alloc: Global) -> Result<Expr, Fail> {
+    let (id, one) = beside(id(alloc)?, one(alloc))?;
+    Ok(id.eq(alloc, one)?)
+}
+
+fn places(alloc: Global) -> Result<(), Fail> {
+    is(
+        nodes(alloc, &equal(alloc)?)?.len() == 3,
+        "three expressions",
+    )?;
+    let (ids, equal) = beside(ids(alloc)?, equal(alloc))?;
+    let statement = ids.filter(alloc, equal)?.into_statement();
+    let found = places_in(alloc, &statement);
+    drop(statement);
+    found
+}
+
 fn types(alloc: Global) -> Result<(), Fail> {
     is(type_of(alloc, &id(alloc)?)? == Some(INTEGER), "a type")?;
-    let users = ids(alloc)?.into_statement();
-    let types = columns(alloc, &users)?;
+    let ids = ids(alloc)?.into_statement();
+    let types = columns(alloc, &ids);
+    drop(ids);
     is(
-        types.as_slice() == [Some(INTEGER)].as_slice(),
+        types?.as_slice() == [Some(INTEGER)].as_slice(),
         "a column's type",
+    )
+}
+
+fn verdicts_of(alloc: Global, schema: &Schema, statement: &Statement) -> Result<(), Fail> {
+    is(
+        broken(alloc, &Pg, schema, statement)?.is_empty(),
+        "no rule broken",
+    )?;
+    let built = compile(alloc, &Pg, schema, statement)?;
+    is(
+        built.sql.as_str() == "SELECT \"users\".\"id\" FROM \"users\"",
+        "a compiled statement",
     )
 }
 
 fn verdicts(alloc: Global) -> Result<(), Fail> {
     let schema = schema(alloc)?;
-    let users = ids(alloc)?.into_statement();
-    is(
-        broken(alloc, &Pg, &schema, &users)?.is_empty(),
-        "no rule broken",
-    )?;
-    let built = compile(alloc, &Pg, &schema, &users)?;
-    is(
-        built.sql.as_str() == "SELECT \"users\".\"id\" FROM \"users\"",
-        "a compiled statement",
-    )
+    let ids = ids(alloc)?.into_statement();
+    let found = verdicts_of(alloc, &schema, &ids);
+    drop(ids);
+    found
 }
 
 const DOCUMENT: &str =
@@ -108,7 +136,9 @@ fn documents(alloc: Global) -> Result<(), Fail> {
     let document: Document = read_document(alloc, bytes.as_slice())?;
     let request = document.requests.as_slice().first().ok_or("no request")?;
     let made = statement(alloc, &document.schema, request.dialect, &request.query)?;
-    is(made.is_some(), "a statement")
+    let is_made = made.is_some();
+    drop(made);
+    is(is_made, "a statement")
 }
 
 fn the_program(alloc: Global) -> Result<(), Fail> {

@@ -1,12 +1,13 @@
 //! The calls that make expressions.
 
-use super::fixture::{INTEGER, id, one, table, writes};
+use super::fixture::{INTEGER, beside, id, one, writes};
+use super::queries::ids;
 use sql_expr::{
     Expr, ExpressionMethods, InValues, WhereAnd, WhereClause, WhereOr, count, exists, not, value,
 };
 use sql_pass::Value;
 use sql_schema::SqlList;
-use sql_select::{AsQuery, Query, QueryDsl};
+use sql_select::Query;
 use std::alloc::Global;
 use std::test::Fail;
 
@@ -18,50 +19,30 @@ pub fn every_call(alloc: Global) -> Result<(), Fail> {
     conditions(alloc)
 }
 
+fn operands(alloc: Global) -> Result<(Expr, Expr), Fail> {
+    beside(id(alloc)?, one(alloc))
+}
+
 fn comparisons(alloc: Global) -> Result<(), Fail> {
-    writes(
-        alloc,
-        id(alloc)?.eq(alloc, one(alloc)?)?,
-        "(\"users\".\"id\" = $1)",
-    )?;
-    writes(
-        alloc,
-        id(alloc)?.ne(alloc, one(alloc)?)?,
-        "(\"users\".\"id\" != $1)",
-    )?;
-    writes(
-        alloc,
-        id(alloc)?.gt(alloc, one(alloc)?)?,
-        "(\"users\".\"id\" > $1)",
-    )?;
-    writes(
-        alloc,
-        id(alloc)?.ge(alloc, one(alloc)?)?,
-        "(\"users\".\"id\" >= $1)",
-    )?;
-    writes(
-        alloc,
-        id(alloc)?.lt(alloc, one(alloc)?)?,
-        "(\"users\".\"id\" < $1)",
-    )?;
-    writes(
-        alloc,
-        id(alloc)?.le(alloc, one(alloc)?)?,
-        "(\"users\".\"id\" <= $1)",
-    )
+    let (left, right) = operands(alloc)?;
+    writes(alloc, left.eq(alloc, right)?, "(\"users\".\"id\" = $1)")?;
+    let (left, right) = operands(alloc)?;
+    writes(alloc, left.ne(alloc, right)?, "(\"users\".\"id\" != $1)")?;
+    let (left, right) = operands(alloc)?;
+    writes(alloc, left.gt(alloc, right)?, "(\"users\".\"id\" > $1)")?;
+    let (left, right) = operands(alloc)?;
+    writes(alloc, left.ge(alloc, right)?, "(\"users\".\"id\" >= $1)")?;
+    let (left, right) = operands(alloc)?;
+    writes(alloc, left.lt(alloc, right)?, "(\"users\".\"id\" < $1)")?;
+    let (left, right) = operands(alloc)?;
+    writes(alloc, left.le(alloc, right)?, "(\"users\".\"id\" <= $1)")
 }
 
 fn tests(alloc: Global) -> Result<(), Fail> {
-    writes(
-        alloc,
-        id(alloc)?.and(alloc, one(alloc)?)?,
-        "(\"users\".\"id\" AND $1)",
-    )?;
-    writes(
-        alloc,
-        id(alloc)?.or(alloc, one(alloc)?)?,
-        "(\"users\".\"id\" OR $1)",
-    )?;
+    let (left, right) = operands(alloc)?;
+    writes(alloc, left.and(alloc, right)?, "(\"users\".\"id\" AND $1)")?;
+    let (left, right) = operands(alloc)?;
+    writes(alloc, left.or(alloc, right)?, "(\"users\".\"id\" OR $1)")?;
     writes(
         alloc,
         id(alloc)?.is_null(alloc)?,
@@ -82,14 +63,16 @@ fn among(alloc: Global) -> Result<InValues, Fail> {
 }
 
 fn memberships(alloc: Global) -> Result<(), Fail> {
+    let (sought, values) = beside(id(alloc)?, among(alloc))?;
     writes(
         alloc,
-        id(alloc)?.eq_any(alloc, among(alloc)?)?,
+        sought.eq_any(alloc, values)?,
         "(\"users\".\"id\" = ANY($1))",
     )?;
+    let (sought, values) = beside(id(alloc)?, among(alloc))?;
     writes(
         alloc,
-        id(alloc)?.ne_all(alloc, among(alloc)?)?,
+        sought.ne_all(alloc, values)?,
         "(\"users\".\"id\" != ALL($1))",
     )
 }
@@ -99,17 +82,18 @@ fn calls(alloc: Global) -> Result<(), Fail> {
     writes(alloc, count(alloc, id(alloc)?)?, "COUNT(\"users\".\"id\")")?;
     let of_value: Option<Expr> = value(alloc, &"a")?;
     writes(alloc, of_value, "$1")?;
-    let ids = table(alloc, "users")?.as_query(alloc)?.select(id(alloc)?);
     writes(
         alloc,
-        exists(alloc, ids.into_statement())?,
+        exists(alloc, ids(alloc)?.into_statement())?,
         "EXISTS (SELECT \"users\".\"id\" FROM \"users\")",
     )
 }
 
 fn conditions(alloc: Global) -> Result<(), Fail> {
-    let both = WhereClause::WhereClause(id(alloc)?).and(alloc, one(alloc)?)?;
+    let (left, right) = operands(alloc)?;
+    let both = WhereClause::WhereClause(left).and(alloc, right)?;
     writes(alloc, both, " WHERE (\"users\".\"id\" AND $1)")?;
-    let either = WhereClause::WhereClause(id(alloc)?).or(alloc, one(alloc)?)?;
+    let (left, right) = operands(alloc)?;
+    let either = WhereClause::WhereClause(left).or(alloc, right)?;
     writes(alloc, either, " WHERE (\"users\".\"id\" OR $1)")
 }

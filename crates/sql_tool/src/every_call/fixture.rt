@@ -34,6 +34,20 @@ pub fn writes<T: QueryFragment<Pg> + Drop>(
     reads(builder.finish(), wanted)
 }
 
+/// A part and what is made beside it, which may be refused.
+///
+/// Where a `?` stands over a part, each enum in it is taken apart there, and with each other part that stands. A generic one is let
+/// go by one call.
+pub fn beside<P: Drop, M, E>(part: P, made: Result<M, E>) -> Result<(P, M), Fail>
+where
+    Fail: From<E>,
+{
+    match made {
+        Ok(made) => Ok((part, made)),
+        Err(error) => Err(error)?,
+    }
+}
+
 /// The text that a pass holds.
 pub fn text_in(pass: AstPass<Pg>) -> Result<String, Fail> {
     match pass {

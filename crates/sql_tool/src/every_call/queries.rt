@@ -1,6 +1,6 @@
-//! The calls that make statements of sources, and change them. Arguments come first, so that no statement stands under their `?`.
+//! The calls that make statements of sources, and change them.
 
-use super::fixture::{id, one, schema, table, text, writes};
+use super::fixture::{beside, id, one, schema, table, text, writes};
 use sql_dialect::Pg;
 use sql_expr::{Alias, ExpressionMethods, JoinKind, JoinRhs, SelectStatement, Source, TableSource};
 use sql_select::{AsQuery, QueryDsl, SimpleSelect};
@@ -32,7 +32,8 @@ fn all(alloc: Global) -> Result<SelectStatement, Fail> {
 
 /// `SELECT "users"."id" FROM "users"`.
 pub fn ids(alloc: Global) -> Result<SelectStatement, Fail> {
-    Ok(all(alloc)?.select(id(alloc)?))
+    let (all, id) = beside(all(alloc)?, id(alloc))?;
+    Ok(all.select(id))
 }
 
 fn beginnings(alloc: Global) -> Result<(), Fail> {
@@ -60,20 +61,22 @@ fn beginnings(alloc: Global) -> Result<(), Fail> {
 }
 
 fn conditions(alloc: Global) -> Result<(), Fail> {
-    let (one, other) = (one(alloc)?, id(alloc)?);
+    let (users, one) = beside(ids(alloc)?, one(alloc))?;
+    let (users, id) = beside(users.filter(alloc, one)?, id(alloc))?;
     writes(
         alloc,
-        ids(alloc)?.filter(alloc, one)?.or_filter(alloc, other)?,
+        users.or_filter(alloc, id)?,
         "SELECT \"users\".\"id\" FROM \"users\" WHERE ($1 OR \"users\".\"id\")",
     )
 }
 
 fn conditions_of_boxed(alloc: Global) -> Result<(), Fail> {
-    let (one, other) = (one(alloc)?, id(alloc)?);
-    let boxed = ids(alloc)?.into_boxed(&Pg);
+    let (users, one) = beside(ids(alloc)?, one(alloc))?;
+    let boxed = users.into_boxed(&Pg);
+    let (boxed, id) = beside(boxed.filter(alloc, one)?, id(alloc))?;
     writes(
         alloc,
-        boxed.filter(alloc, one)?.or_filter(alloc, other)?,
+        boxed.or_filter(alloc, id)?,
         "SELECT \"users\".\"id\" FROM \"users\" WHERE ($1 OR \"users\".\"id\")",
     )
 }
@@ -107,44 +110,49 @@ fn posts(alloc: Global) -> Result<Source, Fail> {
     Ok(Source::Table(source(alloc, "posts")?))
 }
 
+fn sides(alloc: Global) -> Result<(SelectStatement, JoinRhs), Fail> {
+    let (ids, posts) = beside(ids(alloc)?, posts(alloc))?;
+    Ok((ids, JoinRhs::Source(posts)))
+}
+
 const JOINED: &str =
     "SELECT \"users\".\"id\" FROM (\"users\" INNER JOIN \"posts\" ON (\"posts\".\"user_id\" = \"users\".\"id\"))";
 
 fn joins(alloc: Global) -> Result<(), Fail> {
     let schema = schema(alloc)?;
-    let rhs = JoinRhs::Source(posts(alloc)?);
-    writes(alloc, ids(alloc)?.inner_join(alloc, &schema, rhs)?, JOINED)?;
-    let rhs = JoinRhs::Source(posts(alloc)?);
+    let (users, rhs) = sides(alloc)?;
+    writes(alloc, users.inner_join(alloc, &schema, rhs)?, JOINED)?;
+    let (users, rhs) = sides(alloc)?;
     writes(
         alloc,
-        ids(alloc)?.join_with_implicit_on_clause(alloc, &schema, rhs, JoinKind::Inner)?,
+        users.join_with_implicit_on_clause(alloc, &schema, rhs, JoinKind::Inner)?,
         JOINED,
     )
 }
 
 fn joins_on_a_condition(alloc: Global) -> Result<(), Fail> {
-    let (posts, on) = (posts(alloc)?, Some(one(alloc)?));
+    let ((users, posts), on) = beside(beside(ids(alloc)?, posts(alloc))?, one(alloc))?;
     writes(
         alloc,
-        ids(alloc)?.join(alloc, posts, JoinKind::LeftOuter, on)?,
+        users.join(alloc, posts, JoinKind::LeftOuter, Some(on))?,
         "SELECT \"users\".\"id\" FROM (\"users\" LEFT OUTER JOIN \"posts\" ON $1)",
     )
 }
 
 fn joins_of_boxed(alloc: Global) -> Result<(), Fail> {
     let schema = schema(alloc)?;
-    let rhs = JoinRhs::Source(posts(alloc)?);
-    let boxed = ids(alloc)?.into_boxed(&Pg);
+    let (users, rhs) = sides(alloc)?;
+    let boxed = users.into_boxed(&Pg);
     writes(
         alloc,
         boxed.join_with_implicit_on_clause(alloc, &schema, rhs, JoinKind::Inner)?,
         JOINED,
     )?;
-    let (posts, on) = (posts(alloc)?, Some(one(alloc)?));
-    let boxed = ids(alloc)?.into_boxed(&Pg);
+    let ((users, posts), on) = beside(beside(ids(alloc)?, posts(alloc))?, one(alloc))?;
+    let boxed = users.into_boxed(&Pg);
     writes(
         alloc,
-        boxed.join(alloc, posts, JoinKind::LeftOuter, on)?,
+        boxed.join(alloc, posts, JoinKind::LeftOuter, Some(on))?,
         "SELECT \"users\".\"id\" FROM (\"users\" LEFT OUTER JOIN \"posts\" ON $1)",
     )
 }

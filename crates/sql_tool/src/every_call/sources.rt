@@ -1,6 +1,6 @@
 //! Aliases' fields, joins, default selections.
 
-use super::fixture::{column, id, is, schema, table, writes};
+use super::fixture::{beside, column, id, is, schema, table, writes};
 use sql_expr::{Alias, Expr, JoinKind, JoinRhs, OnClauseWrapper, Source, TableSource};
 use sql_source::{
     AliasFields, AppendSelection, InternalJoinDsl, JoinDsl, JoinOnDsl, JoinTo, NewAlias,
@@ -40,59 +40,73 @@ fn posts(alloc: Global) -> Result<JoinRhs, Fail> {
     Ok(JoinRhs::Source(plain(alloc, "posts")?))
 }
 
+fn sides(alloc: Global) -> Result<(Source, JoinRhs), Fail> {
+    beside(plain(alloc, "users")?, posts(alloc))
+}
+
 fn joins(alloc: Global) -> Result<(), Fail> {
     let schema = schema(alloc)?;
+    let (users, rhs) = sides(alloc)?;
     writes(
         alloc,
-        plain(alloc, "users")?.inner_join(alloc, &schema, posts(alloc)?)?,
+        users.inner_join(alloc, &schema, rhs)?,
         "(\"users\" INNER JOIN \"posts\" ON (\"posts\".\"user_id\" = \"users\".\"id\"))",
     )?;
+    let (users, rhs) = sides(alloc)?;
     writes(
         alloc,
-        plain(alloc, "users")?.left_outer_join(alloc, &schema, posts(alloc)?)?,
+        users.left_outer_join(alloc, &schema, rhs)?,
         "(\"users\" LEFT OUTER JOIN \"posts\" ON (\"posts\".\"user_id\" = \"users\".\"id\"))",
     )?;
+    let (users, rhs) = sides(alloc)?;
     writes(
         alloc,
-        plain(alloc, "users")?.left_join(alloc, &schema, posts(alloc)?)?,
+        users.left_join(alloc, &schema, rhs)?,
         "(\"users\" LEFT OUTER JOIN \"posts\" ON (\"posts\".\"user_id\" = \"users\".\"id\"))",
     )?;
-    let rhs = plain(alloc, "posts")?;
+    let (users, rhs) = beside(plain(alloc, "users")?, plain(alloc, "posts"))?;
     writes(
         alloc,
-        plain(alloc, "users")?.join(alloc, rhs, JoinKind::Inner, None)?,
+        users.join(alloc, rhs, JoinKind::Inner, None)?,
         "\"users\" INNER JOIN \"posts\"",
     )
 }
 
 /// `"users" ON "users"."id"`.
 fn users_on(alloc: Global) -> Result<OnClauseWrapper, Fail> {
-    Ok(plain(alloc, "users")?.on(id(alloc)?))
+    let (users, id) = beside(plain(alloc, "users")?, id(alloc))?;
+    Ok(users.on(id))
 }
 
 fn conditions(alloc: Global) -> Result<(), Fail> {
     let schema = schema(alloc)?;
+    let (users, rhs) = beside(users_on(alloc)?, posts(alloc))?;
     writes(
         alloc,
-        users_on(alloc)?.inner_join(alloc, &schema, posts(alloc)?)?,
+        users.inner_join(alloc, &schema, rhs)?,
         "(\"users\" INNER JOIN \"posts\" ON (\"posts\".\"user_id\" = \"users\".\"id\")) ON \"users\".\"id\"",
     )?;
+    let (users, rhs) = beside(users_on(alloc)?, posts(alloc))?;
     writes(
         alloc,
-        users_on(alloc)?.left_outer_join(alloc, &schema, posts(alloc)?)?,
+        users.left_outer_join(alloc, &schema, rhs)?,
         "(\"users\" LEFT OUTER JOIN \"posts\" ON (\"posts\".\"user_id\" = \"users\".\"id\")) ON \"users\".\"id\"",
     )?;
-    let rhs = plain(alloc, "posts")?;
+    let (users, rhs) = beside(users_on(alloc)?, plain(alloc, "posts"))?;
     writes(
         alloc,
-        users_on(alloc)?.join(alloc, rhs, JoinKind::Inner, None)?,
+        users.join(alloc, rhs, JoinKind::Inner, None)?,
         "\"users\" INNER JOIN \"posts\" ON \"users\".\"id\"",
     )
 }
 
 fn targets(alloc: Global) -> Result<(), Fail> {
-    let users = plain(alloc, "users")?;
-    let (_, on) = Source::join_target(alloc, &schema(alloc)?, &users, posts(alloc)?)?;
+    let schema = schema(alloc)?;
+    let (users, rhs) = sides(alloc)?;
+    let target = Source::join_target(alloc, &schema, &users, rhs);
+    drop(users);
+    let (posts, on) = target?;
+    drop(posts);
     let on: Expr = on.ok_or("no condition")?;
     writes(alloc, on, "(\"posts\".\"user_id\" = \"users\".\"id\")")
 }
