@@ -6,6 +6,7 @@ ghost use Rattle.sql_check.specs.Errors.{rule_of};
 ghost use Rattle.sql_check.specs.Typed.{known};
 ghost use Rattle.sql_rules.specs.Rules.{Accepted, HasTooManyBinds};
 ghost use Rattle.sql_rules.specs.declared.rule.Rule.{Rule};
+ghost use Rattle.sql_rules.specs.declared.rule.Rule.TheVariants as rule;
 
 use crate::error::CompileError;
 use sql_dialect::{Backend, QueryBuilder};
@@ -40,7 +41,7 @@ fn text<DB: Backend>(
     statement: &Statement,
 ) -> Result<String, CompileError>
     ensures text { IfOk result (λ t. string_bytes t ≡ sql_of DB.speaks (statement_tree statement.now)) }
-    ensures refused { IfErr result (λ e. (r : Rule) → rule_of e ≡ Some r → HasTooManyBinds DB.speaks (statement_tree statement.now)) }
+    ensures refused { IfErr result (λ e. (r : Rule) → rule_of e ≡ Some r → (r ≡ rule.TooManyBinds) × HasTooManyBinds DB.speaks (statement_tree statement.now)) }
 {
     match statement.to_sql(backend.query_builder(alloc), backend) {
         Ok(builder) => Ok(builder.finish()),
@@ -71,7 +72,7 @@ fn build<DB: Backend>(
 ) -> Result<Built, CompileError>
     ensures built { IfOk result (λ b. (schema : Declarations) → Accepted schema DB.speaks (statement_tree statement.now) → IsBuilt schema DB.speaks (statement_tree statement.now) b) }
     ensures read { IfOk result (λ b. (schema : Declarations) → Accepted schema DB.speaks (statement_tree statement.now) → IsRead DB.speaks (statement_tree statement.now) (string_bytes b.sql) b.binds.items) }
-    ensures refused { IfErr result (λ e. (r : Rule) → rule_of e ≡ Some r → HasTooManyBinds DB.speaks (statement_tree statement.now)) }
+    ensures refused { IfErr result (λ e. (r : Rule) → rule_of e ≡ Some r → (r ≡ rule.TooManyBinds) × HasTooManyBinds DB.speaks (statement_tree statement.now)) }
 {
     let sql = text(alloc, backend, statement)?;
     let binds = debug_binds(alloc, backend, statement)?;

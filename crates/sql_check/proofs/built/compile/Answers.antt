@@ -23,7 +23,7 @@ returns-clause-refused g c =
     let s = statement_tree c.args.statement.now in
     let none : slice_get c.in_ok-broken.broken.items 0 ≡ None = search rules in
     let accepted = none_accepted c.args.schema.now g.DB.Backend.speaks s c.in_ok-broken.broken.items c.in_ok-broken.ensures none in
-    IfErr-weaker c.build.result _ _ (λ e told r is. absurd (accepted TooManyBinds (told r is))) c.build.ensures.refused
+    IfErr-weaker c.build.result _ _ (λ e told r is. absurd (accepted TooManyBinds (told r is).1)) c.build.ensures.refused
 
 pub returns-in-Some-clause-refused : goal.returns-in-Some-clause-refused
 returns-in-Some-clause-refused g c = λ r is.
