@@ -2,7 +2,7 @@
 # Refuses each allocation of a run in turn, and then each from there on. The run has to end as it does when none is refused, or with
 # NoMemory (the program: status 6) and a front of that output. By hand, with a C compiler; it takes minutes.
 #   tests/faults.sh crates/sql_tool/out/sql_tool [crates/sql_tool/out/sql_tool_tests]
-# The program answers the documents of `examples/`; of the tests, as `rt test` builds them, `every_call_once` is run.
+# The program answers three documents of `examples/`; of the tests, as `rt test` builds them, `every_call_once` is run.
 [ $# -ge 1 ] || { sed -n '2,5s/^# *//p' "$0"; exit 2; }
 command -v cc >/dev/null || { echo "skipped: no C compiler"; exit 0; }
 top=$(cd "$(dirname "$0")/.." && pwd) || exit 1
