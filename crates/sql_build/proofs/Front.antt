@@ -14,15 +14,18 @@ front_starts (Some xs) = refl
 pub front_ends : {A : Type 0} (front : List A) → with_front front (Some []) ≡ Some front
 front_ends front = ap Some (append-nil front)
 
-pub front_grows : {A : Type 0} (front : List A) (x : A) (rest : Option (List A)) → with_front front (both (λ first others. first ∷ others) (Some x) rest) ≡ with_front (front ++ x ∷ []) rest
+pub front_grows : {A : Type 0} (front : List A) (x : A) (rest : Option (List A))
+    → with_front front (both (λ first others. first ∷ others) (Some x) rest) ≡ with_front (front ++ x ∷ []) rest
 front_grows front x None = refl
 front_grows front x (Some xs) = ap Some (sym (append_assoc front (x ∷ []) xs))
 
 pub ruleset fronts = (front_starts, front_ends, front_grows)
 
 -- `one` looks up a thing, and `all` those of a list: where the i-th is found, those before it and it are the next front
-pub goes_on : {X A : Type 0} (one : X → Option A) (all : List X → Option (List A)) → ((x : X) (xs : List X) → all (x ∷ xs) ≡ both (λ first others. first ∷ others) (one x) (all xs))
-    → (front : List A) (xs : List X) (i : ℕ) (x : X) (y : A) (total : Option (List A)) → i < length xs → x ≡ get_or xs i x → Some y ≡ one x → with_front front (all (drop i xs)) ≡ total
+pub goes_on : {X A : Type 0} (one : X → Option A) (all : List X → Option (List A))
+    → ((x : X) (xs : List X) → all (x ∷ xs) ≡ both (λ first others. first ∷ others) (one x) (all xs))
+    → (front : List A) (xs : List X) (i : ℕ) (x : X) (y : A) (total : Option (List A)) → i < length xs
+    → x ≡ get_or xs i x → Some y ≡ one x → with_front front (all (drop i xs)) ≡ total
     → with_front (front ++ y ∷ []) (all (drop (i + 1) xs)) ≡ total
 goes_on one all more front xs i x y total below is found so_far =
     let rest = drop (i + 1) xs in

@@ -61,7 +61,8 @@ abbrev mutual
   source_in s d (of_table n) = named_table s.tables n
   source_in s d (of_alias n) = named_alias s.tables n
   source_in s d (join kind l r on) =
-      both (λ left right. (joined_by s kind (alone left) right).source) (source_in s d l) (both side_of (source_in s d r) (maybe_in s d on))
+      both (λ left right. (joined_by s kind (alone left) right).source) (source_in s d l)
+      (both side_of (source_in s d r) (maybe_in s d on))
 
   pub start_in : Declarations → Dialect → Start → Option t.Statement
   start_in s d (from r) = option_map simple (source_in s d r)
@@ -73,7 +74,8 @@ abbrev mutual
   -- what the calls make of a statement, one after the other
   pub calls_in : Declarations → Dialect → Calls → t.Statement → Option t.Statement
   calls_in s d no_calls made = Some made
-  calls_in s d (more_calls c cs) made = only_where (call_in s d c made) (stands (form_of made) c) >>= λ next. calls_in s d cs next
+  calls_in s d (more_calls c cs) made =
+      only_where (call_in s d c made) (stands (form_of made) c) >>= λ next. calls_in s d cs next
 
   -- what a call makes of a statement
   pub call_in : Declarations → Dialect → Call → t.Statement → Option t.Statement

@@ -18,7 +18,9 @@ pub(crate) fn plain(
     call: PlainCall,
     select: BoxedSelectStatement,
 ) -> Result<Option<BoxedSelectStatement>, NoMemory>
-    ensures { IfOk result (λ o. option_map boxed_select_statement_tree o ≡ only_where (Some (plain_made call (boxed_select_statement_tree select))) (plain_stands form.Boxed call)) }
+    ensures { IfOk result (λ o. option_map boxed_select_statement_tree o
+        ≡ only_where (Some (plain_made call (boxed_select_statement_tree select)))
+        (plain_stands form.Boxed call)) }
 {
     match call {
         PlainCall::Distinct => Ok(Some(select.distinct())),
@@ -42,7 +44,9 @@ pub(crate) fn clause(
     expr: Expr,
     select: BoxedSelectStatement,
 ) -> Result<Option<BoxedSelectStatement>, NoMemory>
-    ensures { IfOk result (λ o. option_map boxed_select_statement_tree o ≡ only_where (Some (clause_made call (expr_tree expr) (boxed_select_statement_tree select))) (clause_stands form.Boxed call)) }
+    ensures { IfOk result (λ o. option_map boxed_select_statement_tree o
+        ≡ only_where (Some (clause_made call (expr_tree expr) (boxed_select_statement_tree select)))
+        (clause_stands form.Boxed call)) }
 {
     match call {
         ClauseCall::DistinctOn | ClauseCall::GroupBy => {

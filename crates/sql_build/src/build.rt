@@ -23,7 +23,8 @@ pub fn statement(
     dialect: Dialect,
     query: &Query,
 ) -> Result<Option<Statement>, NoMemory>
-    ensures { IfOk result (λ o. option_map statement_tree o ≡ statement_in schema.now dialect (written.query_tree query.now)) }
+    ensures { IfOk result (λ o. option_map statement_tree o
+        ≡ statement_in schema.now dialect (written.query_tree query.now)) }
 {
     let builder = Builder {
         alloc,
@@ -45,7 +46,8 @@ impl Builder<'_> {
     #[cycle(build)]
     #[tactic(auto, using(sql_syntax::proofs::Trees::opens_expr))]
     fn expr(self, expr: &sql_syntax::Expr) -> Result<Option<Expr>, NoMemory>
-        ensures { IfOk result (λ o. option_map expr_tree o ≡ expr_in self.entry.schema.now self.entry.dialect (written.expr_tree expr.now)) }
+        ensures { IfOk result (λ o. option_map expr_tree o
+            ≡ expr_in self.entry.schema.now self.entry.dialect (written.expr_tree expr.now)) }
     {
         match expr {
             sql_syntax::Expr::List(exprs) => {
@@ -86,7 +88,9 @@ impl Builder<'_> {
     #[cycle(build)]
     #[tactic(auto, using(crate::proofs::Front::fronts))]
     fn exprs(self, exprs: &[sql_syntax::Expr]) -> Result<Option<Vec<Expr>>, NoMemory>
-        ensures { IfOk result (λ o. option_map (λ v. map expr_tree v.items) o ≡ exprs_in self.entry.schema.now self.entry.dialect (written.exprs_of (map written.expr_tree exprs.now))) }
+        ensures { IfOk result (λ o. option_map (λ v. map expr_tree v.items) o
+            ≡ exprs_in self.entry.schema.now self.entry.dialect
+            (written.exprs_of (map written.expr_tree exprs.now))) }
     {
         let mut all = Vec::new(self.alloc);
         for expr in exprs {
@@ -101,7 +105,9 @@ impl Builder<'_> {
     #[cycle(build)]
     #[tactic(auto, using(sql_syntax::proofs::Trees::opens_membership))]
     fn membership(self, membership: &Membership) -> Result<Option<InValues>, NoMemory>
-        ensures { IfOk result (λ o. option_map in_values_tree o ≡ membership_in self.entry.schema.now self.entry.dialect (written.membership_tree membership.now)) }
+        ensures { IfOk result (λ o. option_map in_values_tree o
+            ≡ membership_in self.entry.schema.now self.entry.dialect
+            (written.membership_tree membership.now)) }
     {
         match membership {
             Membership::Values(ty, values) => {
@@ -118,7 +124,10 @@ impl Builder<'_> {
     #[cycle(build)]
     #[tactic(auto, using(sql_syntax::proofs::Trees::opens_order_item, sql_node::proofs::Trees::opens_order_item))]
     fn item(self, item: &sql_syntax::OrderItem) -> Result<Option<OrderItem>, NoMemory>
-        ensures { IfOk result (λ o. option_map order_item_tree o ≡ option_map (directed (written.order_item_tree item.now).1) (expr_in self.entry.schema.now self.entry.dialect (written.order_item_tree item.now).0)) }
+        ensures { IfOk result (λ o. option_map order_item_tree o
+            ≡ option_map (directed (written.order_item_tree item.now).1)
+            (expr_in self.entry.schema.now self.entry.dialect
+            (written.order_item_tree item.now).0)) }
     {
         match self.expr(&item.expr)? {
             None => Ok(None),
@@ -132,7 +141,9 @@ impl Builder<'_> {
     #[cycle(build)]
     #[tactic(auto, using(crate::proofs::Front::fronts))]
     fn items(self, items: &[sql_syntax::OrderItem]) -> Result<Option<Vec<OrderItem>>, NoMemory>
-        ensures { IfOk result (λ o. option_map (λ v. map order_item_tree v.items) o ≡ items_in self.entry.schema.now self.entry.dialect (written.items_of (map written.order_item_tree items.now))) }
+        ensures { IfOk result (λ o. option_map (λ v. map order_item_tree v.items) o
+            ≡ items_in self.entry.schema.now self.entry.dialect
+            (written.items_of (map written.order_item_tree items.now))) }
     {
         let mut all = Vec::new(self.alloc);
         for item in items {
@@ -147,7 +158,8 @@ impl Builder<'_> {
     #[cycle(build)]
     #[tactic(auto, using(sql_syntax::proofs::Trees::opens_source))]
     fn source(self, source: &sql_syntax::Source) -> Result<Option<Source>, NoMemory>
-        ensures { IfOk result (λ o. option_map source_tree o ≡ source_in self.entry.schema.now self.entry.dialect (written.source_tree source.now)) }
+        ensures { IfOk result (λ o. option_map source_tree o
+            ≡ source_in self.entry.schema.now self.entry.dialect (written.source_tree source.now)) }
     {
         match source {
             sql_syntax::Source::Table(name) => name::table(self.alloc, self.schema, name),
@@ -159,7 +171,8 @@ impl Builder<'_> {
     #[cycle(build)]
     #[tactic(auto, using(sql_syntax::proofs::Trees::opens_join))]
     fn join(self, join: &sql_syntax::Join) -> Result<Option<Source>, NoMemory>
-        ensures { IfOk result (λ o. option_map source_tree o ≡ source_in self.entry.schema.now self.entry.dialect (written.join_tree join.now)) }
+        ensures { IfOk result (λ o. option_map source_tree o
+            ≡ source_in self.entry.schema.now self.entry.dialect (written.join_tree join.now)) }
     {
         let left = self.source(&join.left)?;
         let right = self.source(&join.right)?;
@@ -174,7 +187,10 @@ impl Builder<'_> {
         on: &Option<sql_syntax::Expr>,
         source: Option<Source>,
     ) -> Result<Option<JoinRhs>, NoMemory>
-        ensures { IfOk result (λ o. option_map side_tree o ≡ both side_of (option_map source_tree source) (maybe_in self.entry.schema.now self.entry.dialect (written.maybe_of (option_map written.expr_tree on.now)))) }
+        ensures { IfOk result (λ o. option_map side_tree o
+            ≡ both side_of (option_map source_tree source)
+            (maybe_in self.entry.schema.now self.entry.dialect
+            (written.maybe_of (option_map written.expr_tree on.now)))) }
     {
         match on {
             None => Ok(source::related(source)),
@@ -188,7 +204,9 @@ impl Builder<'_> {
     #[cycle(build)]
     #[tactic(auto, using(sql_syntax::proofs::Trees::opens_query_start))]
     fn start(self, start: &QueryStart) -> Result<Option<Statement>, NoMemory>
-        ensures { IfOk result (λ o. option_map statement_tree o ≡ start_in self.entry.schema.now self.entry.dialect (written.query_start_tree start.now)) }
+        ensures { IfOk result (λ o. option_map statement_tree o
+            ≡ start_in self.entry.schema.now self.entry.dialect
+            (written.query_start_tree start.now)) }
     {
         match start {
             QueryStart::From(source) => {
@@ -205,7 +223,9 @@ impl Builder<'_> {
     #[cycle(build)]
     #[tactic(auto, using(sql_syntax::proofs::Trees::opens_query))]
     fn query(self, query: &Query) -> Result<Option<Statement>, NoMemory>
-        ensures { IfOk result (λ o. option_map statement_tree o ≡ statement_in self.entry.schema.now self.entry.dialect (written.query_tree query.now)) }
+        ensures { IfOk result (λ o. option_map statement_tree o
+            ≡ statement_in self.entry.schema.now self.entry.dialect
+            (written.query_tree query.now)) }
     {
         match self.start(&query.start)? {
             None => Ok(None),
@@ -215,7 +235,9 @@ impl Builder<'_> {
 
     #[cycle(build)]
     fn calls(self, calls: &[Call], start: Statement) -> Result<Option<Statement>, NoMemory>
-        ensures { IfOk result (λ o. option_map statement_tree o ≡ calls_in self.entry.schema.now self.entry.dialect (written.calls_of (map written.call_tree calls.now)) (statement_tree start)) }
+        ensures { IfOk result (λ o. option_map statement_tree o
+            ≡ calls_in self.entry.schema.now self.entry.dialect
+            (written.calls_of (map written.call_tree calls.now)) (statement_tree start)) }
     {
         let mut statement = start;
         for call in calls {
@@ -230,7 +252,11 @@ impl Builder<'_> {
     #[cycle(build)]
     #[tactic(auto, using(sql_syntax::proofs::Trees::opens_call, crate::proofs::Standing::always))]
     fn call(self, call: &Call, statement: Statement) -> Result<Option<Statement>, NoMemory>
-        ensures { IfOk result (λ o. option_map statement_tree o ≡ only_where (call_in self.entry.schema.now self.entry.dialect (written.call_tree call.now) (statement_tree statement)) (stands (form_of (statement_tree statement)) (written.call_tree call.now))) }
+        ensures { IfOk result (λ o. option_map statement_tree o
+            ≡ only_where
+            (call_in self.entry.schema.now self.entry.dialect (written.call_tree call.now)
+            (statement_tree statement))
+            (stands (form_of (statement_tree statement)) (written.call_tree call.now))) }
     {
         match call {
             Call::Plain(by) => call::plain(self.alloc, *by, statement),

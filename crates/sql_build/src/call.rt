@@ -28,7 +28,9 @@ pub(crate) fn plain(
     call: PlainCall,
     statement: Statement,
 ) -> Result<Option<Statement>, NoMemory>
-    ensures { IfOk result (λ o. option_map statement_tree o ≡ only_where (Some (plain_made call (statement_tree statement))) (plain_stands (form_of (statement_tree statement)) call)) }
+    ensures { IfOk result (λ o. option_map statement_tree o
+        ≡ only_where (Some (plain_made call (statement_tree statement)))
+        (plain_stands (form_of (statement_tree statement)) call)) }
 {
     match statement {
         Statement::Select(it) => {
@@ -49,7 +51,9 @@ fn clause_with(
     expr: Expr,
     statement: Statement,
 ) -> Result<Option<Statement>, NoMemory>
-    ensures { IfOk result (λ o. option_map statement_tree o ≡ only_where (Some (clause_made call (expr_tree expr) (statement_tree statement))) (clause_stands (form_of (statement_tree statement)) call)) }
+    ensures { IfOk result (λ o. option_map statement_tree o
+        ≡ only_where (Some (clause_made call (expr_tree expr) (statement_tree statement)))
+        (clause_stands (form_of (statement_tree statement)) call)) }
 {
     match statement {
         Statement::Select(it) => {
@@ -70,7 +74,11 @@ pub(crate) fn clause(
     expr: Option<Expr>,
     statement: Statement,
 ) -> Result<Option<Statement>, NoMemory>
-    ensures { IfOk result (λ o. option_map statement_tree o ≡ only_where (option_map (λ e. clause_made call e (statement_tree statement)) (option_map expr_tree expr)) (clause_stands (form_of (statement_tree statement)) call)) }
+    ensures { IfOk result (λ o. option_map statement_tree o
+        ≡ only_where
+        (option_map (λ e. clause_made call e (statement_tree statement))
+        (option_map expr_tree expr))
+        (clause_stands (form_of (statement_tree statement)) call)) }
 {
     match expr {
         None => Ok(None),
@@ -85,7 +93,9 @@ fn join_with(
     right: JoinRhs,
     statement: Statement,
 ) -> Result<Option<Statement>, NoMemory>
-    ensures { IfOk result (λ o. option_map statement_tree o ≡ only_where (Some (joined schema.now kind (side_tree right) (statement_tree statement))) (selects (form_of (statement_tree statement)))) }
+    ensures { IfOk result (λ o. option_map statement_tree o
+        ≡ only_where (Some (joined schema.now kind (side_tree right) (statement_tree statement)))
+        (selects (form_of (statement_tree statement)))) }
 {
     match statement {
         Statement::Select(it) => {
@@ -107,7 +117,11 @@ pub(crate) fn join(
     right: Option<JoinRhs>,
     statement: Statement,
 ) -> Result<Option<Statement>, NoMemory>
-    ensures { IfOk result (λ o. option_map statement_tree o ≡ only_where (option_map (λ side. joined schema.now kind side (statement_tree statement)) (option_map side_tree right)) (selects (form_of (statement_tree statement)))) }
+    ensures { IfOk result (λ o. option_map statement_tree o
+        ≡ only_where
+        (option_map (λ side. joined schema.now kind side (statement_tree statement))
+        (option_map side_tree right))
+        (selects (form_of (statement_tree statement)))) }
 {
     match right {
         None => Ok(None),
@@ -120,7 +134,9 @@ fn find_with(
     key: Vec<Expr>,
     statement: Statement,
 ) -> Result<Option<Statement>, NoMemory>
-    ensures { IfOk result (λ o. option_map statement_tree o ≡ only_where (Some (found (map expr_tree key.items) (statement_tree statement))) (is_unboxed (form_of (statement_tree statement)))) }
+    ensures { IfOk result (λ o. option_map statement_tree o
+        ≡ only_where (Some (found (map expr_tree key.items) (statement_tree statement)))
+        (is_unboxed (form_of (statement_tree statement)))) }
 {
     match statement {
         Statement::Select(it) => {
@@ -140,7 +156,11 @@ pub(crate) fn find(
     key: Option<Vec<Expr>>,
     statement: Statement,
 ) -> Result<Option<Statement>, NoMemory>
-    ensures { IfOk result (λ o. option_map statement_tree o ≡ only_where (option_map (λ all. found all (statement_tree statement)) (option_map (λ v. map expr_tree v.items) key)) (is_unboxed (form_of (statement_tree statement)))) }
+    ensures { IfOk result (λ o. option_map statement_tree o
+        ≡ only_where
+        (option_map (λ all. found all (statement_tree statement))
+        (option_map (λ v. map expr_tree v.items) key))
+        (is_unboxed (form_of (statement_tree statement)))) }
 {
     match key {
         None => Ok(None),
@@ -149,7 +169,10 @@ pub(crate) fn find(
 }
 
 fn order_with(items: Vec<OrderItem>, statement: Statement) -> Option<Statement>
-    ensures { option_map statement_tree result ≡ only_where (Some (ordered (items_of (map order_item_tree items.items)) (statement_tree statement))) (selects (form_of (statement_tree statement))) }
+    ensures { option_map statement_tree result
+        ≡ only_where
+        (Some (ordered (items_of (map order_item_tree items.items)) (statement_tree statement)))
+        (selects (form_of (statement_tree statement))) }
 {
     match statement {
         Statement::Select(it) => Some(it.order(items).into_statement()),
@@ -159,7 +182,11 @@ fn order_with(items: Vec<OrderItem>, statement: Statement) -> Option<Statement>
 }
 
 pub(crate) fn order(items: Option<Vec<OrderItem>>, statement: Statement) -> Option<Statement>
-    ensures { option_map statement_tree result ≡ only_where (option_map (λ all. ordered (items_of all) (statement_tree statement)) (option_map (λ v. map order_item_tree v.items) items)) (selects (form_of (statement_tree statement))) }
+    ensures { option_map statement_tree result
+        ≡ only_where
+        (option_map (λ all. ordered (items_of all) (statement_tree statement))
+        (option_map (λ v. map order_item_tree v.items) items))
+        (selects (form_of (statement_tree statement))) }
 {
     match items {
         None => None,
@@ -172,7 +199,11 @@ fn then_order_by_with(
     items: Vec<OrderItem>,
     statement: Statement,
 ) -> Result<Option<Statement>, NoMemory>
-    ensures { IfOk result (λ o. option_map statement_tree o ≡ only_where (Some (ordered_then (items_of (map order_item_tree items.items)) (statement_tree statement))) (selects (form_of (statement_tree statement)))) }
+    ensures { IfOk result (λ o. option_map statement_tree o
+        ≡ only_where
+        (Some (ordered_then (items_of (map order_item_tree items.items))
+        (statement_tree statement)))
+        (selects (form_of (statement_tree statement)))) }
 {
     match statement {
         Statement::Select(it) => {
@@ -192,7 +223,11 @@ pub(crate) fn then_order_by(
     items: Option<Vec<OrderItem>>,
     statement: Statement,
 ) -> Result<Option<Statement>, NoMemory>
-    ensures { IfOk result (λ o. option_map statement_tree o ≡ only_where (option_map (λ all. ordered_then (items_of all) (statement_tree statement)) (option_map (λ v. map order_item_tree v.items) items)) (selects (form_of (statement_tree statement)))) }
+    ensures { IfOk result (λ o. option_map statement_tree o
+        ≡ only_where
+        (option_map (λ all. ordered_then (items_of all) (statement_tree statement))
+        (option_map (λ v. map order_item_tree v.items) items))
+        (selects (form_of (statement_tree statement)))) }
 {
     match items {
         None => Ok(None),
@@ -221,7 +256,9 @@ pub(crate) fn offset(offset: i64, statement: Statement) -> Statement
 }
 
 pub(crate) fn into_boxed(dialect: Dialect, statement: Statement) -> Option<Statement>
-    ensures { option_map statement_tree result ≡ only_where (Some (boxed_for dialect (statement_tree statement))) (is_unboxed (form_of (statement_tree statement))) }
+    ensures { option_map statement_tree result
+        ≡ only_where (Some (boxed_for dialect (statement_tree statement)))
+        (is_unboxed (form_of (statement_tree statement))) }
 {
     match statement {
         Statement::Select(it) => Some(select::boxed(dialect, it).into_statement()),
@@ -240,7 +277,8 @@ fn combine_with(
     right: Statement,
     statement: Statement,
 ) -> Result<Statement, NoMemory>
-    ensures { IfOk result (λ s. statement_tree s ≡ combined combinator rule (statement_tree statement) (statement_tree right)) }
+    ensures { IfOk result (λ s. statement_tree s
+        ≡ combined combinator rule (statement_tree statement) (statement_tree right)) }
 {
     match statement {
         Statement::Select(it) => combined_with(alloc, combinator, rule, it, right),
@@ -256,7 +294,9 @@ pub(crate) fn combine(
     right: Option<Statement>,
     statement: Statement,
 ) -> Result<Option<Statement>, NoMemory>
-    ensures { IfOk result (λ o. option_map statement_tree o ≡ option_map (λ other. combined combinator rule (statement_tree statement) other) (option_map statement_tree right)) }
+    ensures { IfOk result (λ o. option_map statement_tree o
+        ≡ option_map (λ other. combined combinator rule (statement_tree statement) other)
+        (option_map statement_tree right)) }
 {
     match right {
         None => Ok(None),
@@ -272,7 +312,9 @@ pub(crate) fn positional_order_by(
     places: &[PositionalItem],
     statement: Statement,
 ) -> Result<Option<Statement>, NoMemory>
-    ensures { IfOk result (λ o. option_map statement_tree o ≡ only_where (Some (ordered_by_places places.now (statement_tree statement))) (combines (form_of (statement_tree statement)))) }
+    ensures { IfOk result (λ o. option_map statement_tree o
+        ≡ only_where (Some (ordered_by_places places.now (statement_tree statement)))
+        (combines (form_of (statement_tree statement)))) }
 {
     match statement {
         Statement::Combination(it) => {

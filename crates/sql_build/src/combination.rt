@@ -17,7 +17,8 @@ fn combine<Q: CombineDsl>(
     left: Q,
     right: Statement,
 ) -> Result<CombinationClause, NoMemory>
-    ensures { IfOk result (λ c. combination_clause_tree c ≡ combined combinator rule (Q.statement left) (statement_tree right)) }
+    ensures { IfOk result (λ c. combination_clause_tree c
+        ≡ combined combinator rule (Q.statement left) (statement_tree right)) }
 {
     match (combinator, rule) {
         (Combinator::Union, DuplicateRule::Distinct) => left.union(alloc, right),
@@ -37,7 +38,8 @@ pub(crate) fn combined_with<Q: CombineDsl>(
     left: Q,
     right: Statement,
 ) -> Result<Statement, NoMemory>
-    ensures { IfOk result (λ s. statement_tree s ≡ combined combinator rule (Q.statement left) (statement_tree right)) }
+    ensures { IfOk result (λ s. statement_tree s
+        ≡ combined combinator rule (Q.statement left) (statement_tree right)) }
 {
     let combination = combine(alloc, combinator, rule, left, right)?;
     Ok(combination.into_statement())

@@ -16,7 +16,9 @@ use std::alloc::Global;
 
 /// `"users"."id", $1`.
 pub(crate) fn list(exprs: Option<Vec<Expr>>) -> Option<Expr>
-    ensures { option_map expr_tree result ≡ option_map (λ all. tree.list (exprs_of all)) (option_map (λ v. map expr_tree v.items) exprs) }
+    ensures { option_map expr_tree result
+        ≡ option_map (λ all. tree.list (exprs_of all))
+        (option_map (λ v. map expr_tree v.items) exprs) }
 {
     match exprs {
         None => None,
@@ -49,7 +51,8 @@ pub(crate) fn unary(
     operator: UnaryOperator,
     operand: Option<Expr>,
 ) -> Result<Option<Expr>, NoMemory>
-    ensures { IfOk result (λ o. option_map expr_tree o ≡ option_map (made_of_one operator) (option_map expr_tree operand)) }
+    ensures { IfOk result (λ o. option_map expr_tree o
+        ≡ option_map (made_of_one operator) (option_map expr_tree operand)) }
 {
     match operand {
         None => Ok(None),
@@ -63,7 +66,8 @@ fn binary_expr(
     left: Expr,
     right: Expr,
 ) -> Result<Expr, NoMemory>
-    ensures { IfOk result (λ e. expr_tree e ≡ made_of_two operator (expr_tree left) (expr_tree right)) }
+    ensures { IfOk result (λ e. expr_tree e
+        ≡ made_of_two operator (expr_tree left) (expr_tree right)) }
 {
     match operator {
         BinaryOperator::Eq => left.eq(alloc, right),
@@ -84,7 +88,8 @@ pub(crate) fn binary(
     left: Option<Expr>,
     right: Option<Expr>,
 ) -> Result<Option<Expr>, NoMemory>
-    ensures { IfOk result (λ o. option_map expr_tree o ≡ both (made_of_two operator) (option_map expr_tree left) (option_map expr_tree right)) }
+    ensures { IfOk result (λ o. option_map expr_tree o
+        ≡ both (made_of_two operator) (option_map expr_tree left) (option_map expr_tree right)) }
 {
     let Some(left) = left else {
         return Ok(None);
@@ -100,7 +105,8 @@ pub(crate) fn existence(
     alloc: Global,
     statement: Option<Statement>,
 ) -> Result<Option<Expr>, NoMemory>
-    ensures { IfOk result (λ o. option_map expr_tree o ≡ option_map tree.exists (option_map statement_tree statement)) }
+    ensures { IfOk result (λ o. option_map expr_tree o
+        ≡ option_map tree.exists (option_map statement_tree statement)) }
 {
     match statement {
         None => Ok(None),
@@ -123,7 +129,8 @@ pub(crate) fn single_value(
     alloc: Global,
     statement: Option<Statement>,
 ) -> Result<Option<Expr>, NoMemory>
-    ensures { IfOk result (λ o. option_map expr_tree o ≡ option_map single_value_of (option_map statement_tree statement)) }
+    ensures { IfOk result (λ o. option_map expr_tree o
+        ≡ option_map single_value_of (option_map statement_tree statement)) }
 {
     match statement {
         None => Ok(None),
@@ -158,7 +165,8 @@ pub(crate) fn among_rows(
     alloc: Global,
     statement: Option<Statement>,
 ) -> Result<Option<InValues>, NoMemory>
-    ensures { IfOk result (λ o. option_map in_values_tree o ≡ option_map among_query (option_map statement_tree statement)) }
+    ensures { IfOk result (λ o. option_map in_values_tree o
+        ≡ option_map among_query (option_map statement_tree statement)) }
 {
     match statement {
         None => Ok(None),
@@ -172,7 +180,8 @@ fn quantified_expr(
     sought: Expr,
     among: InValues,
 ) -> Result<Expr, NoMemory>
-    ensures { IfOk result (λ e. expr_tree e ≡ among_of (is_negated quantified) (expr_tree sought) (in_values_tree among)) }
+    ensures { IfOk result (λ e. expr_tree e
+        ≡ among_of (is_negated quantified) (expr_tree sought) (in_values_tree among)) }
 {
     match quantified {
         Quantified::EqAny => sought.eq_any(alloc, among),
@@ -187,7 +196,9 @@ pub(crate) fn quantified(
     sought: Option<Expr>,
     among: Option<InValues>,
 ) -> Result<Option<Expr>, NoMemory>
-    ensures { IfOk result (λ o. option_map expr_tree o ≡ both (among_of (is_negated quantified)) (option_map expr_tree sought) (option_map in_values_tree among)) }
+    ensures { IfOk result (λ o. option_map expr_tree o
+        ≡ both (among_of (is_negated quantified)) (option_map expr_tree sought)
+        (option_map in_values_tree among)) }
 {
     let Some(sought) = sought else {
         return Ok(None);

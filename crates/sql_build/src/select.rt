@@ -17,7 +17,8 @@ pub(crate) fn plain(
     call: PlainCall,
     select: SelectStatement,
 ) -> Result<SelectStatement, NoMemory>
-    ensures { IfOk result (λ s. select_statement_tree s ≡ plain_made call (select_statement_tree select)) }
+    ensures { IfOk result (λ s. select_statement_tree s
+        ≡ plain_made call (select_statement_tree select)) }
 {
     match call {
         PlainCall::Distinct => Ok(select.distinct()),
@@ -38,7 +39,8 @@ pub(crate) fn clause(
     expr: Expr,
     select: SelectStatement,
 ) -> Result<SelectStatement, NoMemory>
-    ensures { IfOk result (λ s. select_statement_tree s ≡ clause_made call (expr_tree expr) (select_statement_tree select)) }
+    ensures { IfOk result (λ s. select_statement_tree s
+        ≡ clause_made call (expr_tree expr) (select_statement_tree select)) }
 {
     match call {
         ClauseCall::DistinctOn => Ok(select.distinct_on(expr)),
@@ -51,7 +53,8 @@ pub(crate) fn clause(
 }
 
 pub(crate) fn boxed(dialect: Dialect, select: SelectStatement) -> BoxedSelectStatement
-    ensures { boxed_select_statement_tree result ≡ boxed_for dialect (select_statement_tree select) }
+    ensures { boxed_select_statement_tree result
+        ≡ boxed_for dialect (select_statement_tree select) }
 {
     match dialect {
         Dialect::Pg => select.into_boxed(&Pg),

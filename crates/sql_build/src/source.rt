@@ -15,7 +15,8 @@ use std::alloc::Global;
 
 /// The right side of a join on the condition that a relation gives.
 pub(crate) fn related(source: Option<Source>) -> Option<JoinRhs>
-    ensures { option_map side_tree result ≡ both side_of (option_map source_tree source) (Some None) }
+    ensures { option_map side_tree result
+        ≡ both side_of (option_map source_tree source) (Some None) }
 {
     match source {
         None => None,
@@ -25,7 +26,8 @@ pub(crate) fn related(source: Option<Source>) -> Option<JoinRhs>
 
 /// The right side of a join with its condition.
 pub(crate) fn conditioned(source: Option<Source>, on: Option<Expr>) -> Option<JoinRhs>
-    ensures { option_map side_tree result ≡ both side_of (option_map source_tree source) (option_map Some (option_map expr_tree on)) }
+    ensures { option_map side_tree result
+        ≡ both side_of (option_map source_tree source) (option_map Some (option_map expr_tree on)) }
 {
     let source = source?;
     let on = on?;
@@ -39,7 +41,8 @@ fn joined_source(
     left: Source,
     right: JoinRhs,
 ) -> Result<Source, NoMemory>
-    ensures { IfOk result (λ s. source_tree s ≡ (joined_by schema.now kind (alone (source_tree left)) (side_tree right)).source) }
+    ensures { IfOk result (λ s. source_tree s
+        ≡ (joined_by schema.now kind (alone (source_tree left)) (side_tree right)).source) }
 {
     match kind {
         JoinKind::Inner => left.inner_join(alloc, schema, right),
@@ -55,7 +58,9 @@ pub(crate) fn joined(
     left: Option<Source>,
     right: Option<JoinRhs>,
 ) -> Result<Option<Source>, NoMemory>
-    ensures { IfOk result (λ o. option_map source_tree o ≡ both (λ left right. (joined_by schema.now kind (alone left) right).source) (option_map source_tree left) (option_map side_tree right)) }
+    ensures { IfOk result (λ o. option_map source_tree o
+        ≡ both (λ left right. (joined_by schema.now kind (alone left) right).source)
+        (option_map source_tree left) (option_map side_tree right)) }
 {
     let Some(left) = left else {
         return Ok(None);
@@ -69,7 +74,8 @@ pub(crate) fn joined(
 /// `SELECT .. FROM "users"`.
 #[tactic(auto, using(sql_node::proofs::Trees::opens_statement))]
 pub(crate) fn from(alloc: Global, source: Option<Source>) -> Result<Option<Statement>, NoMemory>
-    ensures { IfOk result (λ o. option_map statement_tree o ≡ option_map simple (option_map source_tree source)) }
+    ensures { IfOk result (λ o. option_map statement_tree o
+        ≡ option_map simple (option_map source_tree source)) }
 {
     match source {
         None => Ok(None),

@@ -21,7 +21,8 @@ head_or r (x ∷ xs) = x
 nil-cons : (x : Rule) (xs : List Rule) → Path (List Rule) [] (x ∷ xs) → ⊥
 nil-cons x xs h = cc
 
-first : (P : Rule → Type 0) (rules out : List Rule) (r : Rule) (more : List Rule) → out ≡ r ∷ more → Selects P rules out → P r × Front P rules r
+first : (P : Rule → Type 0) (rules out : List Rule) (r : Rule) (more : List Rule) → out ≡ r ∷ more → Selects P rules out
+    → P r × Front P rules r
 unfolding head_or
 first P [] out r more e s = absurd (nil-cons r more (sym s ∙ e))
 first P (x ∷ xs) out r more e (inl (p, (others, o, s))) =
@@ -31,7 +32,8 @@ first P (x ∷ xs) out r more e (inr (p, s)) =
     let (broken, (front, rest, is, before)) = first P xs out r more e s in
     (broken, (x ∷ front, rest, ap (λ ys. x ∷ ys) is, (p, before)))
 
-pub is_least : (schema : Declarations) (d : Dialect) (s : Statement) (r : Rule) (more : List Rule) → Selects (λ q. Broken q schema d s) all_rules (r ∷ more) → IsLeast r schema d s
+pub is_least : (schema : Declarations) (d : Dialect) (s : Statement) (r : Rule) (more : List Rule)
+    → Selects (λ q. Broken q schema d s) all_rules (r ∷ more) → IsLeast r schema d s
 is_least schema d s r more h =
     let f = first (λ q. Broken q schema d s) all_rules (r ∷ more) r more refl h in
     record { broken = f.0; before = f.1 }
@@ -57,7 +59,8 @@ each_rule P h R.InvalidDistinctOrder = h.1.1.1.1.1.1.1.1.1.1.1.0
 each_rule P h R.Unsupported = h.1.1.1.1.1.1.1.1.1.1.1.1.0
 each_rule P h R.TooManyBinds = h.1.1.1.1.1.1.1.1.1.1.1.1.1.0
 
-pub is_accepted : (schema : Declarations) (d : Dialect) (s : Statement) → Selects (λ q. Broken q schema d s) all_rules [] → Accepted schema d s
+pub is_accepted : (schema : Declarations) (d : Dialect) (s : Statement)
+    → Selects (λ q. Broken q schema d s) all_rules [] → Accepted schema d s
 is_accepted schema d s h = each_rule (λ q. ¬ Broken q schema d s) (none (λ q. Broken q schema d s) all_rules [] refl h)
 
 -- ---- the list of broken rules by its first element

@@ -25,7 +25,9 @@ nulled_elements (many ts) = refl
 
 nulled_each : (es : List Expr) → map as_nullable (map type_of es) ≡ map type_of (map nullable es)
 nulled_each [] = refl
-nulled_each (e ∷ es) = ap (λ t. t ∷ map as_nullable (map type_of es)) (nulled_one (given e)) ∙ ap (λ ts. type_of (nullable e) ∷ ts) (nulled_each es)
+nulled_each (e ∷ es) =
+    ap (λ t. t ∷ map as_nullable (map type_of es)) (nulled_one (given e))
+    ∙ ap (λ ts. type_of (nullable e) ∷ ts) (nulled_each es)
 
 mutual
   elements : (e : Expr) → element_types (given e) ≡ map type_of (flat e)
@@ -47,7 +49,8 @@ mutual
   elements_of : (es : Exprs) → given_each es ≡ map type_of (flat_of es)
   elements_of no_exprs = refl
   elements_of (more_exprs e es) =
-      ap (λ ts. ts ++ given_each es) (elements e) ∙ (ap (λ ts. map type_of (flat e) ++ ts) (elements_of es) ∙ sym (map-append type_of (flat e) (flat_of es)))
+      ap (λ ts. ts ++ given_each es) (elements e)
+      ∙ (ap (λ ts. map type_of (flat e) ++ ts) (elements_of es) ∙ sym (map-append type_of (flat e) (flat_of es)))
 
 -- ---- types that are there
 
@@ -109,9 +112,11 @@ in_form (unboxed l) ts h = h
 in_form (boxed d false) ts h = h
 in_form (boxed d true) ts h = all_nulled_there ts h
 
-are_there : (schema : Declarations) (d : Dialect) (outer : View) (s : Statement) → ¬ AnyOf (PartBreaks R.TypeMismatch schema d) (parts outer s) → Each IsThere (columns s)
+are_there : (schema : Declarations) (d : Dialect) (outer : View) (s : Statement)
+    → ¬ AnyOf (PartBreaks R.TypeMismatch schema d) (parts outer s) → Each IsThere (columns s)
 are_there schema d outer (combination by all a b o rows) h =
-    are_there schema d outer a (λ i. h (inr (any_left (PartBreaks R.TypeMismatch schema d) (parts outer a) (parts outer b) i)))
+    are_there schema d outer a (λ i. h (inr (any_left (PartBreaks R.TypeMismatch schema d) (parts outer a)
+    (parts outer b) i)))
 are_there schema d outer (select default e f u w o rows g x form marks) h =
     let selection : ¬ AnyOf (λ y. AnyOf IsIllTyped (nodes y)) (flat e) =
     λ i. h (inl (inl (any_right IsIllTypedClause (distinct_clause _ u) _ (inl (inl i))))) in
@@ -122,5 +127,6 @@ known_all [] h = refl
 known_all (None ∷ ts) h = absurd h.0
 known_all (Some t ∷ ts) h = ap (λ us. Some t ∷ us) (known_all ts h.1)
 
-pub known_columns : (schema : Declarations) (d : Dialect) (s : Statement) → Accepted schema d s → map Some (known (columns s)) ≡ columns s
+pub known_columns : (schema : Declarations) (d : Dialect) (s : Statement) → Accepted schema d s
+    → map Some (known (columns s)) ≡ columns s
 known_columns schema d s h = known_all (columns s) (are_there schema d [] s (h R.TypeMismatch))

@@ -13,8 +13,10 @@ use Rattle.sql_rules.specs.Names.{EachExpr, IsNamed}
 use Rattle.sql_check.specs.Compiled.{IsRead, binds_of, sql_of}
 
 -- text and values by what they are equal to
-pub is_read : (d : Dialect) (s : Statement) (sql : List ℕ) (binds : List Bound) → sql ≡ sql_of d s → binds ≡ binds_of d s
-    → OnlyReading d (sql_of d s) (normal d s) → length (values_query (normal d s)) ≡ length (binds_of d s) → Fills (normal d s) (binds_of d s) (filled d s) → EachExpr IsNamed s
+pub is_read : (d : Dialect) (s : Statement) (sql : List ℕ) (binds : List Bound) → sql ≡ sql_of d s
+    → binds ≡ binds_of d s
+    → OnlyReading d (sql_of d s) (normal d s) → length (values_query (normal d s)) ≡ length (binds_of d s)
+    → Fills (normal d s) (binds_of d s) (filled d s) → EachExpr IsNamed s
     → IsRead d s sql binds
 is_read d s sql binds t b reading as_many fills named = record {
   reading = subst (λ x. OnlyReading d x (normal d s)) (sym t) reading;

@@ -1,5 +1,4 @@
--- What is told of a statement.
+-- What is told of a statement, and the types of its columns.
 pub mod Compiled
 pub mod Errors
--- A device of proofs.
 pub mod Typed

@@ -40,8 +40,10 @@ fn text<DB: Backend>(
     backend: &DB,
     statement: &Statement,
 ) -> Result<String, CompileError>
-    ensures text { IfOk result (λ t. string_bytes t ≡ sql_of DB.speaks (statement_tree statement.now)) }
-    ensures refused { IfErr result (λ e. (r : Rule) → rule_of e ≡ Some r → (r ≡ rule.TooManyBinds) × HasTooManyBinds DB.speaks (statement_tree statement.now)) }
+    ensures text { IfOk result (λ t. string_bytes t
+        ≡ sql_of DB.speaks (statement_tree statement.now)) }
+    ensures refused { IfErr result (λ e. (r : Rule) → rule_of e ≡ Some r
+        → (r ≡ rule.TooManyBinds) × HasTooManyBinds DB.speaks (statement_tree statement.now)) }
 {
     match statement.to_sql(backend.query_builder(alloc), backend) {
         Ok(builder) => Ok(builder.finish()),
@@ -70,9 +72,14 @@ fn build<DB: Backend>(
     backend: &DB,
     statement: &Statement,
 ) -> Result<Built, CompileError>
-    ensures built { IfOk result (λ b. (schema : Declarations) → Accepted schema DB.speaks (statement_tree statement.now) → IsBuilt schema DB.speaks (statement_tree statement.now) b) }
-    ensures read { IfOk result (λ b. (schema : Declarations) → Accepted schema DB.speaks (statement_tree statement.now) → IsRead DB.speaks (statement_tree statement.now) (string_bytes b.sql) b.binds.items) }
-    ensures refused { IfErr result (λ e. (r : Rule) → rule_of e ≡ Some r → (r ≡ rule.TooManyBinds) × HasTooManyBinds DB.speaks (statement_tree statement.now)) }
+    ensures built { IfOk result (λ b. (schema : Declarations)
+        → Accepted schema DB.speaks (statement_tree statement.now)
+        → IsBuilt schema DB.speaks (statement_tree statement.now) b) }
+    ensures read { IfOk result (λ b. (schema : Declarations)
+        → Accepted schema DB.speaks (statement_tree statement.now)
+        → IsRead DB.speaks (statement_tree statement.now) (string_bytes b.sql) b.binds.items) }
+    ensures refused { IfErr result (λ e. (r : Rule) → rule_of e ≡ Some r
+        → (r ≡ rule.TooManyBinds) × HasTooManyBinds DB.speaks (statement_tree statement.now)) }
 {
     let sql = text(alloc, backend, statement)?;
     let binds = debug_binds(alloc, backend, statement)?;
@@ -99,9 +106,12 @@ pub fn compile<DB: Backend>(
     schema: &Schema,
     statement: &Statement,
 ) -> Result<Built, CompileError>
-    ensures built { IfOk result (λ b. IsBuilt schema.now DB.speaks (statement_tree statement.now) b) }
-    ensures read { IfOk result (λ b. IsRead DB.speaks (statement_tree statement.now) (string_bytes b.sql) b.binds.items) }
-    ensures refused { IfErr result (λ e. (r : Rule) → rule_of e ≡ Some r → IsLeast r schema.now DB.speaks (statement_tree statement.now)) }
+    ensures built { IfOk result (λ b. IsBuilt schema.now DB.speaks (statement_tree statement.now)
+        b) }
+    ensures read { IfOk result (λ b. IsRead DB.speaks (statement_tree statement.now)
+        (string_bytes b.sql) b.binds.items) }
+    ensures refused { IfErr result (λ e. (r : Rule) → rule_of e ≡ Some r
+        → IsLeast r schema.now DB.speaks (statement_tree statement.now)) }
 {
     let broken = broken(alloc, backend, schema, statement)?;
     match broken.first() {

@@ -6,7 +6,8 @@ use sql_rules::Rule;
 use std::alloc::AllocError;
 use thiserror::Error;
 
-/// Why a statement is not compiled: the first rule that it breaks, or want of memory. A message is the rule's name.
+/// Why a statement is not compiled: the first rule that it breaks, which is the `Rule` of the variant's name, or want of memory.
+/// A message is the rule's name.
 #[derive(Debug, Error, Clone, Copy, PartialEq, Eq)]
 pub enum CompileError {
     #[error("UnknownName")]

@@ -18,9 +18,13 @@ tail mark x xs h i below = h (suc i) (omega arith)
 pub doubled_lacks : (mark : ℕ) (xs : List ℕ) → Lacks mark xs → doubled mark xs ≡ xs
 doubled_lacks mark [] h = refl
 doubled_lacks mark (x ∷ xs) h =
-    other mark x (h 0 (omega arith)) (mark ∷ (mark ∷ doubled mark xs)) (x ∷ doubled mark xs) ∙ ap (λ l. x ∷ l) (doubled_lacks mark xs (tail mark x xs h))
+    other mark x (h 0 (omega arith)) (mark ∷ (mark ∷ doubled mark xs)) (x ∷ doubled mark xs)
+    ∙ ap (λ l. x ∷ l) (doubled_lacks mark xs (tail mark x xs h))
 
-pub doubled_at : (mark : ℕ) (xs ys : List ℕ) → Lacks mark xs → doubled mark (xs ++ (mark ∷ ys)) ≡ xs ++ (mark ∷ (mark ∷ doubled mark ys))
+pub doubled_at : (mark : ℕ) (xs ys : List ℕ) → Lacks mark xs
+    → doubled mark (xs ++ (mark ∷ ys)) ≡ xs ++ (mark ∷ (mark ∷ doubled mark ys))
 doubled_at mark [] ys h = same mark (mark ∷ (mark ∷ doubled mark ys)) (mark ∷ doubled mark ys)
 doubled_at mark (x ∷ xs) ys h =
-    other mark x (h 0 (omega arith)) (mark ∷ (mark ∷ doubled mark (xs ++ (mark ∷ ys)))) (x ∷ doubled mark (xs ++ (mark ∷ ys))) ∙ ap (λ l. x ∷ l) (doubled_at mark xs ys (tail mark x xs h))
+    other mark x (h 0 (omega arith)) (mark ∷ (mark ∷ doubled mark (xs ++ (mark ∷ ys))))
+    (x ∷ doubled mark (xs ++ (mark ∷ ys)))
+    ∙ ap (λ l. x ∷ l) (doubled_at mark xs ys (tail mark x xs h))

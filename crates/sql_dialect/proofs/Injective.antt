@@ -11,7 +11,8 @@ use Rattle.sql_dialect.specs.declared.backend.Dialect.TheVariants.{Pg, Mysql, Sq
 abbrev put : ℕ → Bool → ℕ → List ℕ → List ℕ
 put mark is a rest = cond is (mark ∷ (mark ∷ rest)) (a ∷ rest)
 
-first : (mark a b : ℕ) (s t : Bool) → eqb a mark ≡ s → eqb b mark ≡ t → (xs ys : List ℕ) → put mark s a xs ≡ put mark t b ys → (a ≡ b) × (xs ≡ ys)
+first : (mark a b : ℕ) (s t : Bool) → eqb a mark ≡ s → eqb b mark ≡ t → (xs ys : List ℕ)
+    → put mark s a xs ≡ put mark t b ys → (a ≡ b) × (xs ≡ ys)
 first mark a b true true is it xs ys h = (eqb-true a mark is ∙ sym (eqb-true b mark it), cc)
 first mark a b true false is it xs ys h = let same : b ≡ mark = cc in absurd (eqb-false b mark it same)
 first mark a b false true is it xs ys h = let same : a ≡ mark = cc in absurd (eqb-false a mark is same)

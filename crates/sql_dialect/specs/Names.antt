@@ -60,7 +60,8 @@ window_frame_clause_group_support IsoGroupWindowFrameUnit = codes "IsoGroupWindo
 
 abbrev pub aggregate_function_expressions : AggregateFunctionExpressions → List ℕ
 aggregate_function_expressions NoAggregateFunctionExpressions = codes "NoAggregateFunctionExpressions"
-aggregate_function_expressions PostgresLikeAggregateFunctionExpressions = codes "PostgresLikeAggregateFunctionExpressions"
+aggregate_function_expressions PostgresLikeAggregateFunctionExpressions =
+    codes "PostgresLikeAggregateFunctionExpressions"
 
 abbrev pub window_frame_exclusion_support : WindowFrameExclusionSupport → List ℕ
 window_frame_exclusion_support FrameExclusionSupport = codes "FrameExclusionSupport"

@@ -19,3 +19,8 @@ combines Sqlite Intersect Distinct = true
 combines Sqlite Intersect All = false
 combines Sqlite Except Distinct = true
 combines Sqlite Except All = false
+
+-- whether ALL stands behind the operator
+abbrev pub is_all : DuplicateRule → Bool
+is_all Distinct = false
+is_all All = true

@@ -43,17 +43,21 @@ pub trait QueryBuilder {
 
     /// Appends the placeholder of one more value: `$1`, `$2` .. in PostgreSQL, `?` in MySQL and SQLite.
     fn push_bind_param(&mut self) -> Result<(), BindError>
-        ensures text { OnOk result (text self.new ≡ text self.old ++ placeholder dialect (count self.old + 1)) }
+        ensures text { OnOk result
+            (text self.new ≡ text self.old ++ placeholder dialect (count self.old + 1)) }
         ensures count { OnOk result (count self.new ≡ raised dialect (count self.old)) }
-        ensures err { OnErr result ((text self.new ≡ text self.old) × (count self.new ≡ count self.old)) }
-        ensures full { IsErrOf result BindError.TooManyBinds ↔ (IsTrue (numbers dialect) × (count self.old ≡ MAX_BINDS)) };
+        ensures err { OnErr result
+            ((text self.new ≡ text self.old) × (count self.new ≡ count self.old)) }
+        ensures full { IsErrOf result BindError.TooManyBinds
+            ↔ (IsTrue (numbers dialect) × (count self.old ≡ MAX_BINDS)) };
 
     /// Counts one more value whose placeholder stands in the text already, as in a query that was given whole.
     fn push_bind_param_value_only(&mut self) -> Result<(), BindError>
         ensures text { text self.new ≡ text self.old }
         ensures count { OnOk result (count self.new ≡ raised dialect (count self.old)) }
         ensures err { OnErr result (count self.new ≡ count self.old) }
-        ensures full { IsErrOf result BindError.TooManyBinds ↔ (IsTrue (numbers dialect) × (count self.old ≡ MAX_BINDS)) }
+        ensures full { IsErrOf result BindError.TooManyBinds
+            ↔ (IsTrue (numbers dialect) × (count self.old ≡ MAX_BINDS)) }
         // It takes no memory.
         ensures only { OnErr result (IsErrOf result BindError.TooManyBinds) };
 

@@ -10,7 +10,8 @@ pub document_from_read : (bytes : List ℕ) (d : Data) → IsUtf8 bytes → read
 unfolding document
 document_from_read bytes d text is = rw (is_utf8-from_IsUtf8 bytes text, is) refl
 
-refused_at : (bytes : List ℕ) (b : Bool) → is_utf8 bytes ≡ b → (IsUtf8 bytes → read bytes ≡ None) → document bytes ≡ None
+refused_at : (bytes : List ℕ) (b : Bool) → is_utf8 bytes ≡ b → (IsUtf8 bytes → read bytes ≡ None)
+    → document bytes ≡ None
 unfolding document
 refused_at bytes true is none = rw (is, none (IsUtf8-from_is_utf8 bytes is)) refl
 refused_at bytes false is none = rw is refl

@@ -14,7 +14,8 @@ use Rattle.sql_document.specs.declared.refusal.Refusal.TheVariants.{NoMemory, No
 abbrev pub with_front : {A : Type 0} → List A → Option (List A) → Option (List A)
 with_front front rest = option_map (λ xs. front ++ xs) rest
 
-regroup : {A : Type 0} (front : List A) (y : A) (rest : Option (List A)) → with_front front (rest >>= λ xs. Some (y ∷ xs)) ≡ with_front (front ++ y ∷ []) rest
+regroup : {A : Type 0} (front : List A) (y : A) (rest : Option (List A))
+    → with_front front (rest >>= λ xs. Some (y ∷ xs)) ≡ with_front (front ++ y ∷ []) rest
 regroup front y (Some xs) = ap Some (sym (append_assoc front (y ∷ []) xs))
 regroup front y None = refl
 
@@ -26,24 +27,36 @@ here : (xs : List Value) (i : ℕ) (v : Value) → i < length xs → v ≡ get_o
 here xs i v lt is = drop_more xs i v lt ∙ ap (λ x. x ∷ drop (i + 1) xs) (sym is)
 
 -- one item more is read, of items that are taken one by one
-pub steps_on : {A : Type 0} (f : Data → Option A) (front : List A) (xs rest : List Value) (v : Value) (y : A) (total : Option (List A)) → xs ≡ v ∷ rest → f (view v) ≡ Some y
-    → with_front front (each f (items_view xs)) ≡ total → with_front (front ++ y ∷ []) (each f (items_view rest)) ≡ total
+pub steps_on : {A : Type 0} (f : Data → Option A) (front : List A) (xs rest : List Value) (v : Value) (y : A)
+    (total : Option (List A))
+    → xs ≡ v ∷ rest → f (view v) ≡ Some y
+    → with_front front (each f (items_view xs)) ≡ total
+    → with_front (front ++ y ∷ []) (each f (items_view rest)) ≡ total
 steps_on f front xs rest v y total is read so_far =
-    let one : with_front front (each f (items_view xs)) ≡ with_front (front ++ y ∷ []) (each f (items_view rest)) = rw (is, read) (regroup front y (each f (items_view rest))) in
+    let one : with_front front (each f (items_view xs)) ≡ with_front (front ++ y ∷ []) (each f (items_view rest)) =
+    rw (is, read) (regroup front y (each f (items_view rest))) in
     sym one ∙ so_far
 
-pub goes_on : {A : Type 0} (f : Data → Option A) (front : List A) (xs : List Value) (i : ℕ) (v : Value) (y : A) (total : Option (List A)) → i < length xs → v ≡ get_or xs i v → f (view v) ≡ Some y
-    → with_front front (each f (rest_of xs i)) ≡ total → with_front (front ++ y ∷ []) (each f (rest_of xs (i + 1))) ≡ total
-goes_on f front xs i v y total lt is read so_far = steps_on f front (drop i xs) (drop (i + 1) xs) v y total (here xs i v lt is) read so_far
+pub goes_on : {A : Type 0} (f : Data → Option A) (front : List A) (xs : List Value) (i : ℕ) (v : Value) (y : A)
+    (total : Option (List A))
+    → i < length xs → v ≡ get_or xs i v → f (view v) ≡ Some y
+    → with_front front (each f (rest_of xs i)) ≡ total
+    → with_front (front ++ y ∷ []) (each f (rest_of xs (i + 1))) ≡ total
+goes_on f front xs i v y total lt is read so_far =
+    steps_on f front (drop i xs) (drop (i + 1) xs) v y total (here xs i v lt is) read so_far
 
-pub ends : {A : Type 0} (e : Refusal) (f : Data → Option A) (front : List A) (xs : List Value) (i : ℕ) (v : Value) (total : Option (List A)) → i < length xs → v ≡ get_or xs i v → Refuses e (f (view v))
+pub ends : {A : Type 0} (e : Refusal) (f : Data → Option A) (front : List A) (xs : List Value) (i : ℕ) (v : Value)
+    (total : Option (List A))
+    → i < length xs → v ≡ get_or xs i v → Refuses e (f (view v))
     → with_front front (each f (rest_of xs i)) ≡ total → Refuses e total
 ends NoMemory f front xs i v total lt is read so_far = tt
 ends NotADocument f front xs i v total lt is read so_far =
     let one : with_front front (each f (rest_of xs i)) ≡ None = rw (here xs i v lt is, read) refl in
     sym so_far ∙ one
 
-pub is_done : {A : Type 0} (f : Data → Option A) (front : List A) (xs : List Value) (i : ℕ) (total : Option (List A)) → length xs ≤ i → with_front front (each f (rest_of xs i)) ≡ total → total ≡ Some front
+pub is_done : {A : Type 0} (f : Data → Option A) (front : List A) (xs : List Value) (i : ℕ) (total : Option (List A))
+    → length xs ≤ i → with_front front (each f (rest_of xs i)) ≡ total → total ≡ Some front
 is_done f front xs i total le so_far =
-    let one : with_front front (each f (rest_of xs i)) ≡ Some front = rw (drop_all i xs le) (ap Some (append-nil front)) in
+    let one : with_front front (each f (rest_of xs i)) ≡ Some front =
+    rw (drop_all i xs le) (ap Some (append-nil front)) in
     sym so_far ∙ one

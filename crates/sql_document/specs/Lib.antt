@@ -6,5 +6,5 @@ pub mod Queries
 pub mod Scalar
 pub mod Names
 pub mod Members
--- A device of proofs: how decoders answer.
+-- How `read_document` and its parts answer.
 pub mod Giving

@@ -144,7 +144,9 @@ plain_text plain.SkipLocked = codes "skip_locked"
 plain_text plain.NoWait = codes "no_wait"
 
 abbrev pub plain_calls : List PlainCall
-plain_calls = plain.Distinct ∷ plain.Count ∷ plain.Nullable ∷ plain.ForUpdate ∷ plain.ForNoKeyUpdate ∷ plain.ForShare ∷ plain.ForKeyShare ∷ plain.SkipLocked ∷ plain.NoWait ∷ []
+plain_calls =
+    plain.Distinct ∷ plain.Count ∷ plain.Nullable ∷ plain.ForUpdate ∷ plain.ForNoKeyUpdate ∷ plain.ForShare
+    ∷ plain.ForKeyShare ∷ plain.SkipLocked ∷ plain.NoWait ∷ []
 
 -- the call of that name that has no arguments
 unfoldable pub plain_of : List ℕ → Option PlainCall

@@ -147,7 +147,8 @@ join_source_of expr source on d = do
   if is_some (at 3 d) then None else Some (join kind left right (maybe_of condition))
 
 -- of three that may stand exactly one does, and what it gives
-abbrev pub one_of_three : {A : Type 0} → Option Data → Option A → Option Data → Option A → Option Data → (Data → Option A) → Option A
+abbrev pub one_of_three : {A : Type 0} → Option Data → Option A → Option Data → Option A → Option Data
+    → (Data → Option A) → Option A
 one_of_three (Some x) a None b None f = a
 one_of_three None a (Some y) b None f = b
 one_of_three None a None b (Some z) f = f z
@@ -216,7 +217,8 @@ list_call expr name ds =
     if bytes_eq name (codes "find") then option_map (λ es. find (exprs_of es)) (each expr ds)
     else if bytes_eq name (codes "order") then option_map (λ is. order (items_of is)) (each (item_of expr) ds)
     else if bytes_eq name (codes "order_by") then option_map (λ is. order (items_of is)) (each (item_of expr) ds)
-    else if bytes_eq name (codes "then_order_by") then option_map (λ is. then_order_by (items_of is)) (each (item_of expr) ds)
+    else if bytes_eq name (codes "then_order_by")
+    then option_map (λ is. then_order_by (items_of is)) (each (item_of expr) ds)
     else if bytes_eq name (codes "positional_order_by") then option_map positional_order_by (each place_of ds)
     else None
 
@@ -228,10 +230,12 @@ argument_call expr name d =
     else as_array d >>= list_call expr name
 
 abbrev pub last_call : (Data → Option Expr) → List ℕ → Data → Option Call
-last_call expr name d = if bytes_eq name (codes "into_boxed") then boxed_call d else argument_of d >>= argument_call expr name
+last_call expr name d =
+    if bytes_eq name (codes "into_boxed") then boxed_call d else argument_of d >>= argument_call expr name
 
 -- a call of that name, whose arguments stand behind the name in the array
-unfoldable pub named_call : (Data → Option Expr) → (Data → Option Source) → (Data → Option Query) → List ℕ → Data → Option Call
+unfoldable pub named_call : (Data → Option Expr) → (Data → Option Source) → (Data → Option Query) → List ℕ → Data
+    → Option Call
 named_call expr source subquery name d =
     if_some (plain_of name) (λ c. plain_call c d)
     (if_some (clause_of name) (λ c. argument_of d >>= λ a. option_map (clause c) (expr a))

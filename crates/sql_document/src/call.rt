@@ -38,7 +38,9 @@ pub(crate) fn call(alloc: Global, value: &Value, depth: u32) -> Result<Call, Ref
 #[cycle(decode)]
 #[tactic(auto, unfolding(crate::specs::Queries::named_call))]
 fn named_call(alloc: Global, name: &str, value: &Value, depth: u32) -> Result<Call, Refusal>
-    ensures { Gives call_tree result (named_call_of (expr_of depth) (source_of depth) (query_of depth) name.now (view value.now)) }
+    ensures { Gives call_tree result
+        (named_call_of (expr_of depth) (source_of depth) (query_of depth) name.now
+        (view value.now)) }
 {
     match plain_call(name) {
         Some(call) => plain(call, value),
@@ -67,7 +69,9 @@ fn plain(call: PlainCall, value: &Value) -> Result<Call, Refusal>
 
 #[cycle(decode)]
 fn clause(alloc: Global, call: ClauseCall, value: &Value, depth: u32) -> Result<Call, Refusal>
-    ensures { Gives call_tree result (option_and_then (λ a. option_map (tree.clause call) (expr_of depth a)) (argument_of (view value.now))) }
+    ensures { Gives call_tree result
+        (option_and_then (λ a. option_map (tree.clause call) (expr_of depth a))
+        (argument_of (view value.now))) }
 {
     let inner = argument(value).ok_or(Refusal::NotADocument)?;
     Ok(Call::Clause(call, expr(alloc, inner, depth)?))
@@ -76,7 +80,8 @@ fn clause(alloc: Global, call: ClauseCall, value: &Value, depth: u32) -> Result<
 #[cycle(decode)]
 #[tactic(auto, unfolding(crate::specs::Queries::join_call), using(sql_syntax::proofs::Trees::opens_call))]
 fn join_call(alloc: Global, kind: JoinKind, value: &Value, depth: u32) -> Result<Call, Refusal>
-    ensures { Gives call_tree result (join_call_of (expr_of depth) (source_of depth) kind (view value.now)) }
+    ensures { Gives call_tree result
+        (join_call_of (expr_of depth) (source_of depth) kind (view value.now)) }
 {
     let source = source_item(alloc, value, 1, depth)?;
     let on = condition(alloc, value.get(2usize), depth)?;
@@ -94,7 +99,9 @@ fn combined(
     value: &Value,
     depth: u32,
 ) -> Result<Call, Refusal>
-    ensures { Gives call_tree result (option_and_then (λ a. option_map (tree.combine combinator rule) (query_of depth a)) (argument_of (view value.now))) }
+    ensures { Gives call_tree result
+        (option_and_then (λ a. option_map (tree.combine combinator rule) (query_of depth a))
+        (argument_of (view value.now))) }
 {
     let inner = argument(value).ok_or(Refusal::NotADocument)?;
     Ok(Call::Combine(combinator, rule, query(alloc, inner, depth)?))
@@ -149,7 +156,8 @@ fn argument_call(alloc: Global, name: &str, value: &Value, depth: u32) -> Result
 #[cycle(decode)]
 #[tactic(auto, unfolding(crate::specs::Queries::list_call), using(sql_syntax::proofs::Trees::opens_call))]
 fn list_call(alloc: Global, name: &str, list: &Vec<Value>, depth: u32) -> Result<Call, Refusal>
-    ensures { Gives call_tree result (list_call_of (expr_of depth) name.now (items_view list.now.items)) }
+    ensures { Gives call_tree result
+        (list_call_of (expr_of depth) name.now (items_view list.now.items)) }
 {
     match name {
         "find" => Ok(Call::Find(SqlList::from(exprs(alloc, list, depth)?))),

@@ -45,7 +45,8 @@ fn one_request(alloc: Global, value: &Value) -> Result<Request, Refusal>
 
 /// Each item is given up once it is decoded, so that JSON and requests are not held together.
 fn each_request(alloc: Global, items: Vec<Value>) -> Result<Vec<Request>, Refusal>
-    ensures { Gives (λ v. map request_tree v.items) result (each request_of (items_view items.items)) }
+    ensures { Gives (λ v. map request_tree v.items) result
+        (each request_of (items_view items.items)) }
 {
     let mut all = Vec::new(alloc);
     for item in items {
@@ -87,7 +88,7 @@ fn of_value(alloc: Global, value: Value) -> Result<Document, Refusal>
     whole(alloc, value)
 }
 
-/// The document that the bytes are.
+/// The document that the bytes are, else `NotADocument`; `NoMemory` where memory was wanting.
 #[tactic(auto, unfolding(crate::specs::Documents::document, crate::specs::Documents::of_data))]
 pub fn read_document(alloc: Global, bytes: &[u8]) -> Result<Document, Refusal>
     ensures { Gives document_tree result (document bytes.now) }

@@ -40,7 +40,8 @@ pub(crate) fn decode_if_any<T: Decode + Drop>(
     alloc: Global,
     value: Option<&Value>,
 ) -> Result<Vec<T>, Refusal>
-    ensures { Gives (λ v. v.items) result (each_if_any T.form (option_map (λ v. view v.now) value.entry)) }
+    ensures { Gives (λ v. v.items) result
+        (each_if_any T.form (option_map (λ v. view v.now) value.entry)) }
 {
     match value {
         None => Ok(Vec::new(alloc)),

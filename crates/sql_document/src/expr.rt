@@ -100,7 +100,8 @@ pub(crate) fn expr(alloc: Global, value: &Value, depth: u32) -> Result<Expr, Ref
 
 #[cycle(decode)]
 pub(crate) fn exprs(alloc: Global, items: &Vec<Value>, depth: u32) -> Result<Vec<Expr>, Refusal>
-    ensures { Gives (λ v. map expr_tree v.items) result (each (expr_of depth) (items_view items.now.items)) }
+    ensures { Gives (λ v. map expr_tree v.items) result
+        (each (expr_of depth) (items_view items.now.items)) }
 {
     let mut all = Vec::new(alloc);
     for item in items {
@@ -112,7 +113,9 @@ pub(crate) fn exprs(alloc: Global, items: &Vec<Value>, depth: u32) -> Result<Vec
 #[cycle(decode)]
 #[tactic(auto, unfolding(crate::specs::Queries::member_expr), using(sql_syntax::proofs::Trees::opens_expr))]
 fn member(alloc: Global, members: &Map<String, Value>, depth: u32) -> Result<Expr, Refusal>
-    ensures { Gives expr_tree result (option_and_then (member_expr (expr_of depth) (query_of depth)) (single (members_view members.now.entries))) }
+    ensures { Gives expr_tree result
+        (option_and_then (member_expr (expr_of depth) (query_of depth))
+        (single (members_view members.now.entries))) }
 {
     let (name, value) = only_entry(members).ok_or(Refusal::NotADocument)?;
     match name.as_str() {
@@ -134,7 +137,8 @@ fn member(alloc: Global, members: &Map<String, Value>, depth: u32) -> Result<Exp
 #[cycle(decode)]
 #[tactic(auto, unfolding(crate::specs::Queries::operation), using(sql_syntax::proofs::Trees::opens_expr))]
 fn operation(alloc: Global, name: &str, value: &Value, depth: u32) -> Result<Expr, Refusal>
-    ensures { Gives expr_tree result (operation_of (expr_of depth) (query_of depth) name.now (view value.now)) }
+    ensures { Gives expr_tree result
+        (operation_of (expr_of depth) (query_of depth) name.now (view value.now)) }
 {
     match unary_operator(name) {
         Some(operator) => {
@@ -175,7 +179,8 @@ fn quantified(
     value: &Value,
     depth: u32,
 ) -> Result<Expr, Refusal>
-    ensures { Gives expr_tree result (quantified_expr (expr_of depth) (query_of depth) operator (view value.now)) }
+    ensures { Gives expr_tree result
+        (quantified_expr (expr_of depth) (query_of depth) operator (view value.now)) }
 {
     let (first, second) = two(value).ok_or(Refusal::NotADocument)?;
     let left = expr(alloc, first, depth)?;
@@ -209,7 +214,8 @@ pub(crate) fn condition(
     value: Option<&Value>,
     depth: u32,
 ) -> Result<Option<Expr>, Refusal>
-    ensures { Gives (λ o. option_map expr_tree o) result (if_any (expr_of depth) (option_map (λ v. view v.now) value.entry)) }
+    ensures { Gives (λ o. option_map expr_tree o) result
+        (if_any (expr_of depth) (option_map (λ v. view v.now) value.entry)) }
 {
     match value {
         None => Ok(None),

@@ -38,7 +38,8 @@ pub(crate) fn has(value: &Value, name: &str) -> bool
 
 /// The member of an object of one.
 pub(crate) fn only_entry(members: &Map<String, Value>) -> Option<(&String, &Value)>
-    ensures { option_map (λ p. (string_bytes p.0.now, view p.1.now)) result ≡ single (members_view members.now.entries) }
+    ensures { option_map (λ p. (string_bytes p.0.now, view p.1.now)) result
+        ≡ single (members_view members.now.entries) }
 {
     let mut rest = members.iter();
     let first = rest.next()?;

@@ -20,7 +20,8 @@ use std::alloc::Global;
 
 /// What stands behind a name that says the direction: `{"asc":X}`.
 fn behind_direction(value: &Value) -> Option<(Direction, &Value)>
-    ensures { option_map (λ p. (p.0, view p.1.now)) result ≡ option_and_then directed (only_member (view value.now)) }
+    ensures { option_map (λ p. (p.0, view p.1.now)) result
+        ≡ option_and_then directed (only_member (view value.now)) }
 {
     let (name, inner) = only_member(value)?;
     Some((direction(name)?, inner))
@@ -52,7 +53,8 @@ pub(crate) fn items(
     items: &Vec<Value>,
     depth: u32,
 ) -> Result<Vec<OrderItem>, Refusal>
-    ensures { Gives (λ v. map order_item_tree v.items) result (each (item_of (expr_of depth)) (items_view items.now.items)) }
+    ensures { Gives (λ v. map order_item_tree v.items) result
+        (each (item_of (expr_of depth)) (items_view items.now.items)) }
 {
     let mut all = Vec::new(alloc);
     for one in items {

@@ -36,7 +36,8 @@ pub(crate) fn query(alloc: Global, value: &Value, depth: u32) -> Result<Query, R
 /// A query whose calls stand, each on the form that the calls before it give.
 #[tactic(auto, unfolding(crate::specs::Queries::query_from), using(sql_syntax::proofs::Trees::opens_query))]
 fn checked(start: QueryStart, calls: Vec<Call>) -> Result<Query, Refusal>
-    ensures { Gives query_tree result (query_from (query_start_tree start) (map call_tree calls.items)) }
+    ensures { Gives query_tree result
+        (query_from (query_start_tree start) (map call_tree calls.items)) }
 {
     if !all_stand(&calls) {
         return Err(Refusal::NotADocument);
@@ -55,7 +56,9 @@ fn start(
     select: Option<&Value>,
     depth: u32,
 ) -> Result<QueryStart, Refusal>
-    ensures { Gives query_start_tree result (start_of (expr_of depth) (source_of depth) (option_map (λ v. view v.now) from.entry) (option_map (λ v. view v.now) select.entry)) }
+    ensures { Gives query_start_tree result
+        (start_of (expr_of depth) (source_of depth) (option_map (λ v. view v.now) from.entry)
+        (option_map (λ v. view v.now) select.entry)) }
 {
     match (from, select) {
         (Some(from), None) => Ok(QueryStart::From(source(alloc, from, depth)?)),
@@ -66,7 +69,8 @@ fn start(
 
 #[cycle(decode)]
 fn calls(alloc: Global, value: Option<&Value>, depth: u32) -> Result<Vec<Call>, Refusal>
-    ensures { Gives (λ v. map call_tree v.items) result (each_if_any (call_of depth) (option_map (λ v. view v.now) value.entry)) }
+    ensures { Gives (λ v. map call_tree v.items) result
+        (each_if_any (call_of depth) (option_map (λ v. view v.now) value.entry)) }
 {
     match value {
         None => Ok(Vec::new(alloc)),
@@ -79,7 +83,8 @@ fn calls(alloc: Global, value: Option<&Value>, depth: u32) -> Result<Vec<Call>, 
 
 #[cycle(decode)]
 fn each_call(alloc: Global, items: &Vec<Value>, depth: u32) -> Result<Vec<Call>, Refusal>
-    ensures { Gives (λ v. map call_tree v.items) result (each (call_of depth) (items_view items.now.items)) }
+    ensures { Gives (λ v. map call_tree v.items) result
+        (each (call_of depth) (items_view items.now.items)) }
 {
     let mut all = Vec::new(alloc);
     for item in items {

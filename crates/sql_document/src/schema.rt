@@ -111,7 +111,8 @@ impl Decode for (SqlText, SqlText) {
 }
 
 fn declare_tables(builder: &mut SchemaBuilder, tables: Vec<TableDecl>) -> Result<(), AllocError>
-    ensures { OnOk result (builder.new ≡ record builder.old { tables = builder.old.tables ++ tables.items }) }
+    ensures { OnOk result
+        (builder.new ≡ record builder.old { tables = builder.old.tables ++ tables.items }) }
 {
     for table in tables {
         builder.table(table)?;
@@ -123,7 +124,8 @@ fn declare_joinables(
     builder: &mut SchemaBuilder,
     joinables: &[JoinableDecl],
 ) -> Result<(), AllocError>
-    ensures { OnOk result (builder.new ≡ record builder.old { joinables = builder.old.joinables ++ joinables.now }) }
+    ensures { OnOk result
+        (builder.new ≡ record builder.old { joinables = builder.old.joinables ++ joinables.now }) }
 {
     for joinable in joinables {
         builder.joinable(
@@ -139,7 +141,8 @@ fn declare_together(
     builder: &mut SchemaBuilder,
     together: &[(SqlText, SqlText)],
 ) -> Result<(), AllocError>
-    ensures { OnOk result (builder.new ≡ record builder.old { together = builder.old.together ++ together.now }) }
+    ensures { OnOk result
+        (builder.new ≡ record builder.old { together = builder.old.together ++ together.now }) }
 {
     for pair in together {
         builder.together(pair.0.as_str(), pair.1.as_str())?;
@@ -153,7 +156,8 @@ fn declared(
     joinables: &[JoinableDecl],
     together: &[(SqlText, SqlText)],
 ) -> Result<SchemaBuilder, AllocError>
-    ensures { IfOk result (λ b. b ≡ record { tables = tables.items; joinables = joinables.now; together = together.now }) }
+    ensures { IfOk result (λ b. b
+        ≡ record { tables = tables.items; joinables = joinables.now; together = together.now }) }
 {
     let mut builder = SchemaBuilder::new(alloc);
     declare_tables(&mut builder, tables)?;

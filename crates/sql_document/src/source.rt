@@ -118,7 +118,8 @@ pub(crate) fn source_item(
     place: usize,
     depth: u32,
 ) -> Result<Source, Refusal>
-    ensures { Gives source_tree result (option_and_then (source_of depth) (at place (view value.now))) }
+    ensures { Gives source_tree result
+        (option_and_then (source_of depth) (at place (view value.now))) }
 {
     let item = value.get(place).ok_or(Refusal::NotADocument)?;
     source(alloc, item, depth)
@@ -127,7 +128,9 @@ pub(crate) fn source_item(
 #[cycle(decode)]
 #[tactic(auto, unfolding(crate::specs::Queries::join_source_of), using(sql_syntax::proofs::Trees::opens_join))]
 fn join(alloc: Global, sides: &Value, on: Option<&Value>, depth: u32) -> Result<Join, Refusal>
-    ensures { Gives join_tree result (join_source_of (expr_of depth) (source_of depth) (option_map (λ v. view v.now) on.entry) (view sides.now)) }
+    ensures { Gives join_tree result
+        (join_source_of (expr_of depth) (source_of depth) (option_map (λ v. view v.now) on.entry)
+        (view sides.now)) }
 {
     let name = text_item(sides, 0).ok_or(Refusal::NotADocument)?;
     let kind = side_join(name).ok_or(Refusal::NotADocument)?;

@@ -23,7 +23,9 @@ abbrev pub first_ten : TableDecl → List ℕ → DeclaredColumn → Statement
 first_ten users name c = limited (pos 10) (filtered And (is_text name c) (simple (of_table users false None)))
 
 abbrev pub report : Declarations → List ℕ → Option Statement
-report schema name = option_and_then (λ users. option_map (first_ten users name) (column_in users (codes "name"))) (table_named schema.tables (codes "users"))
+report schema name =
+    option_and_then (λ users. option_map (first_ten users name) (column_in users (codes "name")))
+    (table_named schema.tables (codes "users"))
 
 -- the rule that an error names
 abbrev pub refusal : ReportError → Option Rule

@@ -38,10 +38,12 @@ impl From<AllocError> for ReportError {
 pub fn users_named(alloc: Global, schema: &Schema, name: &str) -> Result<Built, ReportError>
     // What is told is told of the report's statement, which breaks no rule, and the text is read as that and as nothing else.
     ensures built { IfOk result (λ b. (s : tree.Statement) × (report schema.now name.now ≡ Some s)
-        × IsBuilt schema.now PgDialect s b × IsRead PgDialect s (string_bytes b.sql) b.binds.items) }
+        × IsBuilt schema.now PgDialect s b
+        × IsRead PgDialect s (string_bytes b.sql) b.binds.items) }
     ensures no_users { IsErrOf result ReportError.NoUsers → report schema.now name.now ≡ None }
     // An error that names a rule names the first that the statement breaks. Any other is want of memory.
-    ensures refused { IfErr result (λ e. (r : Rule) → refusal e ≡ Some r → (s : tree.Statement) × (report schema.now name.now ≡ Some s)
+    ensures refused { IfErr result (λ e. (r : Rule) → refusal e ≡ Some r
+        → (s : tree.Statement) × (report schema.now name.now ≡ Some s)
         × IsLeast r schema.now PgDialect s) }
 {
     let statement = statement(alloc, schema, name)?;

@@ -1,7 +1,7 @@
 #![tactic(auto, using(sql_node::proofs::Trees::opens_where_clause, sql_node::proofs::Trees::opens_expr))]
 
-ghost use Rattle.std.specs.Prelude.{◌≡◌, IfOk};
-ghost use Rattle.sql_node.specs.Tree.{MaybeExpr, an_expr};
+ghost use Rattle.std.specs.Prelude.{◌≡◌, IfOk, IsOk};
+ghost use Rattle.sql_node.specs.Tree.{MaybeExpr, an_expr, no_expr};
 ghost use Rattle.sql_node.specs.View.{expr_tree, where_clause_tree};
 ghost use Rattle.sql_node.specs.Words as by;
 ghost use Rattle.sql_expr.specs.Calls.{beside};
@@ -18,7 +18,9 @@ pub trait WhereAnd: Sized {
 
     /// The clause with one more condition: ` WHERE (old AND new)`. The first stands alone and takes no memory.
     fn and(self, alloc: Global, new: Expr) -> Result<WhereClause, NoMemory>
-        ensures { IfOk result (λ c. where_clause_tree c ≡ an_expr (beside by.And (condition self) (expr_tree new))) };
+        ensures whole { IfOk result (λ c. where_clause_tree c
+            ≡ an_expr (beside by.And (condition self) (expr_tree new))) }
+        ensures first { condition self ≡ no_expr → IsOk result };
 }
 
 /// Conditions of which one has to hold.
@@ -28,7 +30,9 @@ pub trait WhereOr: Sized {
 
     /// The clause with one more condition: ` WHERE (old OR new)`. The first stands alone and takes no memory.
     fn or(self, alloc: Global, new: Expr) -> Result<WhereClause, NoMemory>
-        ensures { IfOk result (λ c. where_clause_tree c ≡ an_expr (beside by.Or (condition self) (expr_tree new))) };
+        ensures whole { IfOk result (λ c. where_clause_tree c
+            ≡ an_expr (beside by.Or (condition self) (expr_tree new))) }
+        ensures first { condition self ≡ no_expr → IsOk result };
 }
 
 impl WhereAnd for WhereClause {

@@ -21,35 +21,43 @@ pub trait ExpressionMethods: Sized {
 
     /// `(a = b)`: whether both are equal.
     fn eq(self, alloc: Global, other: Expr) -> Result<Expr, NoMemory>
-        ensures { IfOk result (λ e. expr_tree e ≡ tree.compared by.Eq (expression self) (expr_tree other)) };
+        ensures { IfOk result (λ e. expr_tree e
+            ≡ tree.compared by.Eq (expression self) (expr_tree other)) };
 
     /// `(a != b)`: whether they differ.
     fn ne(self, alloc: Global, other: Expr) -> Result<Expr, NoMemory>
-        ensures { IfOk result (λ e. expr_tree e ≡ tree.compared by.Ne (expression self) (expr_tree other)) };
+        ensures { IfOk result (λ e. expr_tree e
+            ≡ tree.compared by.Ne (expression self) (expr_tree other)) };
 
     /// `(a > b)`: whether it is greater.
     fn gt(self, alloc: Global, other: Expr) -> Result<Expr, NoMemory>
-        ensures { IfOk result (λ e. expr_tree e ≡ tree.compared by.Gt (expression self) (expr_tree other)) };
+        ensures { IfOk result (λ e. expr_tree e
+            ≡ tree.compared by.Gt (expression self) (expr_tree other)) };
 
     /// `(a >= b)`: whether it is greater or equal.
     fn ge(self, alloc: Global, other: Expr) -> Result<Expr, NoMemory>
-        ensures { IfOk result (λ e. expr_tree e ≡ tree.compared by.Ge (expression self) (expr_tree other)) };
+        ensures { IfOk result (λ e. expr_tree e
+            ≡ tree.compared by.Ge (expression self) (expr_tree other)) };
 
     /// `(a < b)`: whether it is less.
     fn lt(self, alloc: Global, other: Expr) -> Result<Expr, NoMemory>
-        ensures { IfOk result (λ e. expr_tree e ≡ tree.compared by.Lt (expression self) (expr_tree other)) };
+        ensures { IfOk result (λ e. expr_tree e
+            ≡ tree.compared by.Lt (expression self) (expr_tree other)) };
 
     /// `(a <= b)`: whether it is less or equal.
     fn le(self, alloc: Global, other: Expr) -> Result<Expr, NoMemory>
-        ensures { IfOk result (λ e. expr_tree e ≡ tree.compared by.Le (expression self) (expr_tree other)) };
+        ensures { IfOk result (λ e. expr_tree e
+            ≡ tree.compared by.Le (expression self) (expr_tree other)) };
 
     /// `(a AND b)`: whether both hold.
     fn and(self, alloc: Global, other: Expr) -> Result<Expr, NoMemory>
-        ensures { IfOk result (λ e. expr_tree e ≡ tree.joined by.And (expression self) (expr_tree other)) };
+        ensures { IfOk result (λ e. expr_tree e
+            ≡ tree.joined by.And (expression self) (expr_tree other)) };
 
     /// `(a OR b)`: whether one of them holds.
     fn or(self, alloc: Global, other: Expr) -> Result<Expr, NoMemory>
-        ensures { IfOk result (λ e. expr_tree e ≡ tree.joined by.Or (expression self) (expr_tree other)) };
+        ensures { IfOk result (λ e. expr_tree e
+            ≡ tree.joined by.Or (expression self) (expr_tree other)) };
 
     /// `(a IS NULL)`.
     fn is_null(self, alloc: Global) -> Result<Expr, NoMemory>
@@ -65,11 +73,13 @@ pub trait ExpressionMethods: Sized {
 
     /// `(a = ANY(..))`, in MySQL and SQLite `(a IN (..))`: whether it is one of them.
     fn eq_any(self, alloc: Global, among: InValues) -> Result<Expr, NoMemory>
-        ensures { IfOk result (λ e. expr_tree e ≡ among_of false (expression self) (in_values_tree among)) };
+        ensures { IfOk result (λ e. expr_tree e
+            ≡ among_of false (expression self) (in_values_tree among)) };
 
     /// `(a != ALL(..))`, in MySQL and SQLite `(a NOT IN (..))`: whether it is none of them.
     fn ne_all(self, alloc: Global, among: InValues) -> Result<Expr, NoMemory>
-        ensures { IfOk result (λ e. expr_tree e ≡ among_of true (expression self) (in_values_tree among)) };
+        ensures { IfOk result (λ e. expr_tree e
+            ≡ among_of true (expression self) (in_values_tree among)) };
 
     /// `a ASC`, in an order.
     fn asc(self) -> OrderItem

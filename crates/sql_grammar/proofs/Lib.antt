@@ -5,6 +5,7 @@ pub mod TokenLaws
 pub mod TokenRules
 pub mod TextLaws
 pub mod Readings
+pub mod Replaced
 pub mod Numbers
 pub mod Filling
 pub mod Worked

@@ -28,7 +28,18 @@ pub record Clauses : Type 0 where
   pub lock : Lock
 
 abbrev pub empty : Clauses
-empty = record { source = NoSource; filter = NoExpression; group = NoExpressions; having = NoExpression; order = NoItems; places = NoPlaces; limit = None; offset = None; lock = Unlocked }
+empty =
+    record {
+      source = NoSource;
+      filter = NoExpression;
+      group = NoExpressions;
+      having = NoExpression;
+      order = NoItems;
+      places = NoPlaces;
+      limit = None;
+      offset = None;
+      lock = Unlocked;
+    }
 
 pub data Item : Type 0 where
   -- a token as it is

@@ -5,148 +5,6 @@ use Rattle.sql_grammar.specs.Tree.{Sample, Whole, Sampled, Page, PageBy, Express
 use Rattle.sql_grammar.specs.Numbering.{each_expression, after_expression, each_expressions, after_expressions, each_items, after_items, each_source, after_source, each_maybe, after_maybe, each_maybe_expressions, after_maybe_expressions, each_maybe_items, after_maybe_items, each_maybe_source, after_maybe_source, each_distinct, after_distinct, each_query, after_query, each_marks, after_marks, each_option, after_option, each_sample, after_sample, each_page, after_page}
 use Rattle.sql_grammar.specs.Values.{values_expression, values_expressions, values_items, values_source, values_maybe, values_maybe_expressions, values_maybe_items, values_maybe_source, values_distinct, values_query, values_marks, values_option, values_sample, values_page}
 
--- ## A second replacement on a first
-
-after_marks-each : {M N : Type 0} (g : ℕ → M → N) (n : ℕ) (ms : List M) → after_marks n (each_marks g n ms) ≡ after_marks n ms
-after_marks-each g n [] = refl
-after_marks-each g n (m ∷ ms) = after_marks-each g (suc n) ms
-
-each_marks-each : {M N O : Type 0} (f : ℕ → N → O) (g : ℕ → M → N) (n : ℕ) (ms : List M) → each_marks f n (each_marks g n ms) ≡ each_marks (λ k m. f k (g k m)) n ms
-each_marks-each f g n [] = refl
-each_marks-each f g n (m ∷ ms) = ap (λ xs. f n (g n m) ∷ xs) (each_marks-each f g (suc n) ms)
-
-after_option-each : {M N : Type 0} (g : ℕ → M → N) (n : ℕ) (o : Option M) → after_option n (each_option g n o) ≡ after_option n o
-after_option-each g n None = refl
-after_option-each g n (Some m) = refl
-
-each_option-each : {M N O : Type 0} (f : ℕ → N → O) (g : ℕ → M → N) (n : ℕ) (o : Option M) → each_option f n (each_option g n o) ≡ each_option (λ k m. f k (g k m)) n o
-each_option-each f g n None = refl
-each_option-each f g n (Some m) = refl
-
-after_sample-each : {M N : Type 0} (g : ℕ → M → N) (n : ℕ) (s : Sample M) → after_sample n (each_sample g n s) ≡ after_sample n s
-after_sample-each g n Whole = refl
-after_sample-each g n (Sampled by p s) = after_option-each g (suc n) s
-
-each_sample-each : {M N O : Type 0} (f : ℕ → N → O) (g : ℕ → M → N) (n : ℕ) (s : Sample M) → each_sample f n (each_sample g n s) ≡ each_sample (λ k m. f k (g k m)) n s
-each_sample-each f g n Whole = refl
-each_sample-each f g n (Sampled by p s) = ap (Sampled by (f n (g n p))) (each_option-each f g (suc n) s)
-
-after_page-each : {M N : Type 0} (g : ℕ → M → N) (n : ℕ) (p : Page M) → after_page n (each_page g n p) ≡ after_page n p
-after_page-each g n (PageBy l o) = rw (after_option-each g n l, after_option-each g (after_option n l) o)
-
-each_page-each : {M N O : Type 0} (f : ℕ → N → O) (g : ℕ → M → N) (n : ℕ) (p : Page M) → each_page f n (each_page g n p) ≡ each_page (λ k m. f k (g k m)) n p
-each_page-each f g n (PageBy l o) = rw (after_option-each g n l, each_option-each f g n l, each_option-each f g (after_option n l) o)
-
-module _ {M N : Type 0} (g : ℕ → M → N) where
-  mutual
-    pub after_expression-each : (n : ℕ) (t : Expression M) → after_expression n (each_expression g n t) ≡ after_expression n t
-    after_expression-each n (Path a ns) = refl
-    after_expression-each n (Placeholder m) = refl
-    after_expression-each n (SingleValue q) = after_query-each n q
-    after_expression-each n (Exists q) = after_query-each n q
-    after_expression-each n (Compared by a b) = rw (after_expression-each n a, after_expression-each (after_expression n a) b)
-    after_expression-each n (Connected by a b) = rw (after_expression-each n a, after_expression-each (after_expression n a) b)
-    after_expression-each n (Not a) = after_expression-each n a
-    after_expression-each n (NullTest k a) = after_expression-each n a
-    after_expression-each n CountAll = refl
-    after_expression-each n (Count a) = after_expression-each n a
-    after_expression-each n (InList k a m ms) = rw (after_expression-each n a, after_marks-each g (suc (after_expression n a)) ms)
-    after_expression-each n (InQuery k a q) = rw (after_expression-each n a, after_query-each (after_expression n a) q)
-    after_expression-each n (Constant k) = refl
-
-    pub after_expressions-each : (n : ℕ) (t : Expressions M) → after_expressions n (each_expressions g n t) ≡ after_expressions n t
-    after_expressions-each n (OnlyExpression a) = after_expression-each n a
-    after_expressions-each n (MoreExpression a more) = rw (after_expression-each n a, after_expressions-each (after_expression n a) more)
-
-    pub after_items-each : (n : ℕ) (t : Items M) → after_items n (each_items g n t) ≡ after_items n t
-    after_items-each n (OnlyItem a by) = after_expression-each n a
-    after_items-each n (MoreItem a by more) = rw (after_expression-each n a, after_items-each (after_expression n a) more)
-
-    pub after_source-each : (n : ℕ) (t : Source M) → after_source n (each_source g n t) ≡ after_source n t
-    after_source-each n (Table a ns o s) = after_sample-each g n s
-    after_source-each n (Alias a ns b) = refl
-    after_source-each n (Join k a b e) = rw (after_source-each n a, after_source-each (after_source n a) b, after_expression-each (after_source (after_source n a) b) e)
-
-    pub after_maybe-each : (n : ℕ) (t : MaybeExpression M) → after_maybe n (each_maybe g n t) ≡ after_maybe n t
-    after_maybe-each n NoExpression = refl
-    after_maybe-each n (SomeExpression e) = after_expression-each n e
-
-    pub after_maybe_expressions-each : (n : ℕ) (t : MaybeExpressions M) → after_maybe_expressions n (each_maybe_expressions g n t) ≡ after_maybe_expressions n t
-    after_maybe_expressions-each n NoExpressions = refl
-    after_maybe_expressions-each n (SomeExpressions es) = after_expressions-each n es
-
-    pub after_maybe_items-each : (n : ℕ) (t : MaybeItems M) → after_maybe_items n (each_maybe_items g n t) ≡ after_maybe_items n t
-    after_maybe_items-each n NoItems = refl
-    after_maybe_items-each n (SomeItems is) = after_items-each n is
-
-    pub after_maybe_source-each : (n : ℕ) (t : MaybeSource M) → after_maybe_source n (each_maybe_source g n t) ≡ after_maybe_source n t
-    after_maybe_source-each n NoSource = refl
-    after_maybe_source-each n (SomeSource s) = after_source-each n s
-
-    pub after_distinct-each : (n : ℕ) (t : Distinctness M) → after_distinct n (each_distinct g n t) ≡ after_distinct n t
-    after_distinct-each n Every = refl
-    after_distinct-each n Distinct = refl
-    after_distinct-each n (DistinctOn es) = after_expressions-each n es
-
-    pub after_query-each : (n : ℕ) (t : Query M) → after_query n (each_query g n t) ≡ after_query n t
-    after_query-each n (Select u es s w gb hv o p l) = rw (after_distinct-each n u, after_expressions-each (after_distinct n u) es, after_maybe_source-each (after_expressions (after_distinct n u) es) s, after_maybe-each (after_maybe_source (after_expressions (after_distinct n u) es) s) w, after_maybe_expressions-each (after_maybe (after_maybe_source (after_expressions (after_distinct n u) es) s) w) gb, after_maybe-each (after_maybe_expressions (after_maybe (after_maybe_source (after_expressions (after_distinct n u) es) s) w) gb) hv, after_maybe_items-each (after_maybe (after_maybe_expressions (after_maybe (after_maybe_source (after_expressions (after_distinct n u) es) s) w) gb) hv) o, after_page-each g (after_maybe_items (after_maybe (after_maybe_expressions (after_maybe (after_maybe_source (after_expressions (after_distinct n u) es) s) w) gb) hv) o) p)
-    after_query-each n (Combined a by all b o p) = rw (after_query-each n a, after_query-each (after_query n a) b, after_page-each g (after_query (after_query n a) b) p)
-
-module _ {M N O : Type 0} (f : ℕ → N → O) (g : ℕ → M → N) where
-  mutual
-    pub each_expression-each : (n : ℕ) (t : Expression M) → each_expression f n (each_expression g n t) ≡ each_expression (λ k m. f k (g k m)) n t
-    each_expression-each n (Path a ns) = refl
-    each_expression-each n (Placeholder m) = refl
-    each_expression-each n (SingleValue q) = rw (each_query-each n q)
-    each_expression-each n (Exists q) = rw (each_query-each n q)
-    each_expression-each n (Compared by a b) = rw (after_expression-each g n a, each_expression-each n a, each_expression-each (after_expression n a) b)
-    each_expression-each n (Connected by a b) = rw (after_expression-each g n a, each_expression-each n a, each_expression-each (after_expression n a) b)
-    each_expression-each n (Not a) = rw (each_expression-each n a)
-    each_expression-each n (NullTest k a) = rw (each_expression-each n a)
-    each_expression-each n CountAll = refl
-    each_expression-each n (Count a) = rw (each_expression-each n a)
-    each_expression-each n (InList k a m ms) = rw (after_expression-each g n a, each_expression-each n a, each_marks-each f g (suc (after_expression n a)) ms)
-    each_expression-each n (InQuery k a q) = rw (after_expression-each g n a, each_expression-each n a, each_query-each (after_expression n a) q)
-    each_expression-each n (Constant k) = refl
-
-    pub each_expressions-each : (n : ℕ) (t : Expressions M) → each_expressions f n (each_expressions g n t) ≡ each_expressions (λ k m. f k (g k m)) n t
-    each_expressions-each n (OnlyExpression a) = rw (each_expression-each n a)
-    each_expressions-each n (MoreExpression a more) = rw (after_expression-each g n a, each_expression-each n a, each_expressions-each (after_expression n a) more)
-
-    pub each_items-each : (n : ℕ) (t : Items M) → each_items f n (each_items g n t) ≡ each_items (λ k m. f k (g k m)) n t
-    each_items-each n (OnlyItem a by) = rw (each_expression-each n a)
-    each_items-each n (MoreItem a by more) = rw (after_expression-each g n a, each_expression-each n a, each_items-each (after_expression n a) more)
-
-    pub each_source-each : (n : ℕ) (t : Source M) → each_source f n (each_source g n t) ≡ each_source (λ k m. f k (g k m)) n t
-    each_source-each n (Table a ns o s) = rw (each_sample-each f g n s)
-    each_source-each n (Alias a ns b) = refl
-    each_source-each n (Join k a b e) = rw (after_source-each g n a, each_source-each n a, after_source-each g (after_source n a) b, each_source-each (after_source n a) b, each_expression-each (after_source (after_source n a) b) e)
-
-    pub each_maybe-each : (n : ℕ) (t : MaybeExpression M) → each_maybe f n (each_maybe g n t) ≡ each_maybe (λ k m. f k (g k m)) n t
-    each_maybe-each n NoExpression = refl
-    each_maybe-each n (SomeExpression e) = rw (each_expression-each n e)
-
-    pub each_maybe_expressions-each : (n : ℕ) (t : MaybeExpressions M) → each_maybe_expressions f n (each_maybe_expressions g n t) ≡ each_maybe_expressions (λ k m. f k (g k m)) n t
-    each_maybe_expressions-each n NoExpressions = refl
-    each_maybe_expressions-each n (SomeExpressions es) = rw (each_expressions-each n es)
-
-    pub each_maybe_items-each : (n : ℕ) (t : MaybeItems M) → each_maybe_items f n (each_maybe_items g n t) ≡ each_maybe_items (λ k m. f k (g k m)) n t
-    each_maybe_items-each n NoItems = refl
-    each_maybe_items-each n (SomeItems is) = rw (each_items-each n is)
-
-    pub each_maybe_source-each : (n : ℕ) (t : MaybeSource M) → each_maybe_source f n (each_maybe_source g n t) ≡ each_maybe_source (λ k m. f k (g k m)) n t
-    each_maybe_source-each n NoSource = refl
-    each_maybe_source-each n (SomeSource s) = rw (each_source-each n s)
-
-    pub each_distinct-each : (n : ℕ) (t : Distinctness M) → each_distinct f n (each_distinct g n t) ≡ each_distinct (λ k m. f k (g k m)) n t
-    each_distinct-each n Every = refl
-    each_distinct-each n Distinct = refl
-    each_distinct-each n (DistinctOn es) = rw (each_expressions-each n es)
-
-    pub each_query-each : (n : ℕ) (t : Query M) → each_query f n (each_query g n t) ≡ each_query (λ k m. f k (g k m)) n t
-    each_query-each n (Select u es s w gb hv o p l) = rw (after_distinct-each g n u, each_distinct-each n u, after_expressions-each g (after_distinct n u) es, each_expressions-each (after_distinct n u) es, after_maybe_source-each g (after_expressions (after_distinct n u) es) s, each_maybe_source-each (after_expressions (after_distinct n u) es) s, after_maybe-each g (after_maybe_source (after_expressions (after_distinct n u) es) s) w, each_maybe-each (after_maybe_source (after_expressions (after_distinct n u) es) s) w, after_maybe_expressions-each g (after_maybe (after_maybe_source (after_expressions (after_distinct n u) es) s) w) gb, each_maybe_expressions-each (after_maybe (after_maybe_source (after_expressions (after_distinct n u) es) s) w) gb, after_maybe-each g (after_maybe_expressions (after_maybe (after_maybe_source (after_expressions (after_distinct n u) es) s) w) gb) hv, each_maybe-each (after_maybe_expressions (after_maybe (after_maybe_source (after_expressions (after_distinct n u) es) s) w) gb) hv, after_maybe_items-each g (after_maybe (after_maybe_expressions (after_maybe (after_maybe_source (after_expressions (after_distinct n u) es) s) w) gb) hv) o, each_maybe_items-each (after_maybe (after_maybe_expressions (after_maybe (after_maybe_source (after_expressions (after_distinct n u) es) s) w) gb) hv) o, each_page-each f g (after_maybe_items (after_maybe (after_maybe_expressions (after_maybe (after_maybe_source (after_expressions (after_distinct n u) es) s) w) gb) hv) o) p)
-    each_query-each n (Combined a by all b o p) = rw (after_query-each g n a, each_query-each n a, after_query-each g (after_query n a) b, each_query-each (after_query n a) b, each_page-each f g (after_query (after_query n a) b) p)
-
 -- ## How many there are
 
 pub after_marks-count : {M : Type 0} (n : ℕ) (ms : List M) → after_marks n ms ≡ n + length ms
@@ -162,11 +20,14 @@ after_sample-count n Whole = omega arith
 after_sample-count n (Sampled by p s) = after_option-count (suc n) s ∙ omega arith
 
 -- the count of two lists, one behind the other
-two_counts : {M : Type 0} (n a b : ℕ) (xs ys : List M) → a ≡ n + length xs → b ≡ a + length ys → b ≡ n + length (xs ++ ys)
+two_counts : {M : Type 0} (n a b : ℕ) (xs ys : List M) → a ≡ n + length xs → b ≡ a + length ys
+    → b ≡ n + length (xs ++ ys)
 two_counts n a b xs ys h k = rw (length-append xs ys) (omega arith)
 
 pub after_page-count : {M : Type 0} (n : ℕ) (p : Page M) → after_page n p ≡ n + length (values_page p)
-after_page-count n (PageBy l o) = two_counts n _ _ (values_option l) (values_option o) (after_option-count n l) (after_option-count (after_option n l) o)
+after_page-count n (PageBy l o) =
+    two_counts n _ _ (values_option l) (values_option o) (after_option-count n l)
+    (after_option-count (after_option n l) o)
 
 one_count : {M : Type 0} (n : ℕ) (m : M) → suc n ≡ n + length (m ∷ [])
 one_count n m = omega arith
@@ -175,56 +36,100 @@ module _ {M : Type 0} where
   mutual
     pub after_expression-count : (n : ℕ) (t : Expression M) → after_expression n t ≡ n + length (values_expression t)
     after_expression-count n (Path a ns) = omega arith
-    after_expression-count n (Placeholder m) = (one_count n m)
-    after_expression-count n (SingleValue q) = (after_query-count n q)
-    after_expression-count n (Exists q) = (after_query-count n q)
-    after_expression-count n (Compared by a b) = (two_counts n _ _ (values_expression a) (values_expression b) (after_expression-count n a) (after_expression-count (after_expression n a) b))
-    after_expression-count n (Connected by a b) = (two_counts n _ _ (values_expression a) (values_expression b) (after_expression-count n a) (after_expression-count (after_expression n a) b))
-    after_expression-count n (Not a) = (after_expression-count n a)
-    after_expression-count n (NullTest k a) = (after_expression-count n a)
+    after_expression-count n (Placeholder m) = one_count n m
+    after_expression-count n (SingleValue q) = after_query-count n q
+    after_expression-count n (Exists q) = after_query-count n q
+    after_expression-count n (Compared by a b) =
+        two_counts n _ _ (values_expression a) (values_expression b) (after_expression-count n a)
+        (after_expression-count (after_expression n a) b)
+    after_expression-count n (Connected by a b) =
+        two_counts n _ _ (values_expression a) (values_expression b) (after_expression-count n a)
+        (after_expression-count (after_expression n a) b)
+    after_expression-count n (Not a) = after_expression-count n a
+    after_expression-count n (NullTest k a) = after_expression-count n a
     after_expression-count n CountAll = omega arith
-    after_expression-count n (Count a) = (after_expression-count n a)
-    after_expression-count n (InList k a m ms) = (two_counts n _ _ (values_expression a) ((m ∷ []) ++ values_marks ms) (after_expression-count n a) (two_counts (after_expression n a) _ _ (m ∷ []) (values_marks ms) (one_count (after_expression n a) m) (after_marks-count (suc (after_expression n a)) ms)))
-    after_expression-count n (InQuery k a q) = (two_counts n _ _ (values_expression a) (values_query q) (after_expression-count n a) (after_query-count (after_expression n a) q))
+    after_expression-count n (Count a) = after_expression-count n a
+    after_expression-count n (InList k a m ms) =
+        two_counts n _ _ (values_expression a) ((m ∷ []) ++ values_marks ms) (after_expression-count n a)
+        (two_counts (after_expression n a) _ _ (m ∷ []) (values_marks ms) (one_count (after_expression n a) m)
+        (after_marks-count (suc (after_expression n a)) ms))
+    after_expression-count n (InQuery k a q) =
+        two_counts n _ _ (values_expression a) (values_query q) (after_expression-count n a)
+        (after_query-count (after_expression n a) q)
     after_expression-count n (Constant k) = omega arith
 
-    pub after_expressions-count : (n : ℕ) (t : Expressions M) → after_expressions n t ≡ n + length (values_expressions t)
-    after_expressions-count n (OnlyExpression a) = (after_expression-count n a)
-    after_expressions-count n (MoreExpression a more) = (two_counts n _ _ (values_expression a) (values_expressions more) (after_expression-count n a) (after_expressions-count (after_expression n a) more))
+    pub after_expressions-count : (n : ℕ) (t : Expressions M)
+        → after_expressions n t ≡ n + length (values_expressions t)
+    after_expressions-count n (OnlyExpression a) = after_expression-count n a
+    after_expressions-count n (MoreExpression a more) =
+        two_counts n _ _ (values_expression a) (values_expressions more) (after_expression-count n a)
+        (after_expressions-count (after_expression n a) more)
 
     pub after_items-count : (n : ℕ) (t : Items M) → after_items n t ≡ n + length (values_items t)
-    after_items-count n (OnlyItem a by) = (after_expression-count n a)
-    after_items-count n (MoreItem a by more) = (two_counts n _ _ (values_expression a) (values_items more) (after_expression-count n a) (after_items-count (after_expression n a) more))
+    after_items-count n (OnlyItem a by) = after_expression-count n a
+    after_items-count n (MoreItem a by more) =
+        two_counts n _ _ (values_expression a) (values_items more) (after_expression-count n a)
+        (after_items-count (after_expression n a) more)
 
     pub after_source-count : (n : ℕ) (t : Source M) → after_source n t ≡ n + length (values_source t)
-    after_source-count n (Table a ns o s) = (after_sample-count n s)
+    after_source-count n (Table a ns o s) = after_sample-count n s
     after_source-count n (Alias a ns b) = omega arith
-    after_source-count n (Join k a b e) = (two_counts n _ _ (values_source a) (values_source b ++ values_expression e) (after_source-count n a) (two_counts (after_source n a) _ _ (values_source b) (values_expression e) (after_source-count (after_source n a) b) (after_expression-count (after_source (after_source n a) b) e)))
+    after_source-count n (Join k a b e) =
+        two_counts n _ _ (values_source a) (values_source b ++ values_expression e) (after_source-count n a)
+        (two_counts (after_source n a) _ _ (values_source b) (values_expression e)
+        (after_source-count (after_source n a) b) (after_expression-count (after_source (after_source n a) b) e))
 
     pub after_maybe-count : (n : ℕ) (t : MaybeExpression M) → after_maybe n t ≡ n + length (values_maybe t)
     after_maybe-count n NoExpression = omega arith
-    after_maybe-count n (SomeExpression e) = (after_expression-count n e)
+    after_maybe-count n (SomeExpression e) = after_expression-count n e
 
-    pub after_maybe_expressions-count : (n : ℕ) (t : MaybeExpressions M) → after_maybe_expressions n t ≡ n + length (values_maybe_expressions t)
+    pub after_maybe_expressions-count : (n : ℕ) (t : MaybeExpressions M)
+        → after_maybe_expressions n t ≡ n + length (values_maybe_expressions t)
     after_maybe_expressions-count n NoExpressions = omega arith
-    after_maybe_expressions-count n (SomeExpressions es) = (after_expressions-count n es)
+    after_maybe_expressions-count n (SomeExpressions es) = after_expressions-count n es
 
     pub after_maybe_items-count : (n : ℕ) (t : MaybeItems M) → after_maybe_items n t ≡ n + length (values_maybe_items t)
     after_maybe_items-count n NoItems = omega arith
-    after_maybe_items-count n (SomeItems is) = (after_items-count n is)
+    after_maybe_items-count n (SomeItems is) = after_items-count n is
 
-    pub after_maybe_source-count : (n : ℕ) (t : MaybeSource M) → after_maybe_source n t ≡ n + length (values_maybe_source t)
+    pub after_maybe_source-count : (n : ℕ) (t : MaybeSource M)
+        → after_maybe_source n t ≡ n + length (values_maybe_source t)
     after_maybe_source-count n NoSource = omega arith
-    after_maybe_source-count n (SomeSource s) = (after_source-count n s)
+    after_maybe_source-count n (SomeSource s) = after_source-count n s
 
     pub after_distinct-count : (n : ℕ) (t : Distinctness M) → after_distinct n t ≡ n + length (values_distinct t)
     after_distinct-count n Every = omega arith
     after_distinct-count n Distinct = omega arith
-    after_distinct-count n (DistinctOn es) = (after_expressions-count n es)
+    after_distinct-count n (DistinctOn es) = after_expressions-count n es
 
     pub after_query-count : (n : ℕ) (t : Query M) → after_query n t ≡ n + length (values_query t)
-    after_query-count n (Select u es s w gb hv o p l) = (two_counts n _ _ (values_distinct u) (values_expressions es ++ (values_maybe_source s ++ (values_maybe w ++ (values_maybe_expressions gb ++ (values_maybe hv ++ (values_maybe_items o ++ values_page p)))))) (after_distinct-count n u) (two_counts (after_distinct n u) _ _ (values_expressions es) (values_maybe_source s ++ (values_maybe w ++ (values_maybe_expressions gb ++ (values_maybe hv ++ (values_maybe_items o ++ values_page p))))) (after_expressions-count (after_distinct n u) es) (two_counts (after_expressions (after_distinct n u) es) _ _ (values_maybe_source s) (values_maybe w ++ (values_maybe_expressions gb ++ (values_maybe hv ++ (values_maybe_items o ++ values_page p)))) (after_maybe_source-count (after_expressions (after_distinct n u) es) s) (two_counts (after_maybe_source (after_expressions (after_distinct n u) es) s) _ _ (values_maybe w) (values_maybe_expressions gb ++ (values_maybe hv ++ (values_maybe_items o ++ values_page p))) (after_maybe-count (after_maybe_source (after_expressions (after_distinct n u) es) s) w) (two_counts (after_maybe (after_maybe_source (after_expressions (after_distinct n u) es) s) w) _ _ (values_maybe_expressions gb) (values_maybe hv ++ (values_maybe_items o ++ values_page p)) (after_maybe_expressions-count (after_maybe (after_maybe_source (after_expressions (after_distinct n u) es) s) w) gb) (two_counts (after_maybe_expressions (after_maybe (after_maybe_source (after_expressions (after_distinct n u) es) s) w) gb) _ _ (values_maybe hv) (values_maybe_items o ++ values_page p) (after_maybe-count (after_maybe_expressions (after_maybe (after_maybe_source (after_expressions (after_distinct n u) es) s) w) gb) hv) (two_counts (after_maybe (after_maybe_expressions (after_maybe (after_maybe_source (after_expressions (after_distinct n u) es) s) w) gb) hv) _ _ (values_maybe_items o) (values_page p) (after_maybe_items-count (after_maybe (after_maybe_expressions (after_maybe (after_maybe_source (after_expressions (after_distinct n u) es) s) w) gb) hv) o) (after_page-count (after_maybe_items (after_maybe (after_maybe_expressions (after_maybe (after_maybe_source (after_expressions (after_distinct n u) es) s) w) gb) hv) o) p))))))))
-    after_query-count n (Combined a by all b o p) = (two_counts n _ _ (values_query a) (values_query b ++ values_page p) (after_query-count n a) (two_counts (after_query n a) _ _ (values_query b) (values_page p) (after_query-count (after_query n a) b) (after_page-count (after_query (after_query n a) b) p)))
+    after_query-count n (Select u es s w gb hv o p l) =
+        let n1 = after_distinct n u in
+        let n2 = after_expressions n1 es in
+        let n3 = after_maybe_source n2 s in
+        let n4 = after_maybe n3 w in
+        let n5 = after_maybe_expressions n4 gb in
+        let n6 = after_maybe n5 hv in
+        let n7 = after_maybe_items n6 o in
+        let r7 = values_page p in
+        let r6 = values_maybe_items o ++ r7 in
+        let r5 = values_maybe hv ++ r6 in
+        let r4 = values_maybe_expressions gb ++ r5 in
+        let r3 = values_maybe w ++ r4 in
+        let r2 = values_maybe_source s ++ r3 in
+        let r1 = values_expressions es ++ r2 in
+        two_counts n _ _ (values_distinct u) r1 (after_distinct-count n u)
+        (two_counts n1 _ _ (values_expressions es) r2 (after_expressions-count n1 es)
+        (two_counts n2 _ _ (values_maybe_source s) r3 (after_maybe_source-count n2 s)
+        (two_counts n3 _ _ (values_maybe w) r4 (after_maybe-count n3 w)
+        (two_counts n4 _ _ (values_maybe_expressions gb) r5 (after_maybe_expressions-count n4 gb)
+        (two_counts n5 _ _ (values_maybe hv) r6 (after_maybe-count n5 hv)
+        (two_counts n6 _ _ (values_maybe_items o) r7 (after_maybe_items-count n6 o)
+        (after_page-count n7 p)))))))
+    after_query-count n (Combined a by all b o p) =
+        two_counts n _ _ (values_query a) (values_query b ++ values_page p) (after_query-count n a)
+        (two_counts (after_query n a) _ _ (values_query b) (values_page p) (after_query-count (after_query n a) b)
+        (after_page-count (after_query (after_query n a) b) p))
 
 -- ## What stands at each
 
@@ -252,7 +157,13 @@ front_at n xs ys bs h k m e = h k m (get-left xs ys k m e)
 
 back_at : {M : Type 0} (n a : ℕ) (xs ys bs : List M) → a ≡ n + length xs → StandsAt n (xs ++ ys) bs → StandsAt a ys bs
 back_at n a xs ys bs q h k m e =
-    ap (slice_get bs) (let l : a + k ≡ n + (length xs + k) = omega arith in l) ∙ h (length xs + k) m (get-right xs ys k ∙ e)
+    ap (slice_get bs) (let l : a + k ≡ n + (length xs + k) = omega arith in l)
+    ∙ h (length xs + k) m (get-right xs ys k ∙ e)
+
+-- a list and the list behind it, each where it stands
+both_at : {M : Type 0} (n a : ℕ) (xs ys bs : List M) → a ≡ n + length xs → StandsAt n (xs ++ ys) bs
+    → StandsAt n xs bs × StandsAt a ys bs
+both_at n a xs ys bs q h = (front_at n xs ys bs h, back_at n a xs ys bs q h)
 
 one_at : {M : Type 0} (n : ℕ) (m : M) (bs : List M) → StandsAt n (m ∷ []) bs → slice_get bs n ≡ Some m
 one_at n m bs h = ap (slice_get bs) (let l : n ≡ n + 0 = omega arith in l) ∙ h 0 m refl
@@ -266,7 +177,11 @@ module _ {M : Type 0} (bs : List M) where
 
   fills_marks : (n : ℕ) (ms : List M) → StandsAt n ms bs → each_marks at n ms ≡ each_marks self n ms
   fills_marks n [] h = refl
-  fills_marks n (m ∷ ms) h = rw (one_at n m bs (front_at n (m ∷ []) ms bs h), fills_marks (suc n) ms (back_at n (suc n) (m ∷ []) ms bs (omega arith) h))
+  fills_marks n (m ∷ ms) h =
+      rw (
+        one_at n m bs (front_at n (m ∷ []) ms bs h),
+        fills_marks (suc n) ms (back_at n (suc n) (m ∷ []) ms bs (omega arith) h),
+      )
 
   fills_option : (n : ℕ) (o : Option M) → StandsAt n (values_option o) bs → each_option at n o ≡ each_option self n o
   fills_option n None h = refl
@@ -274,62 +189,177 @@ module _ {M : Type 0} (bs : List M) where
 
   fills_sample : (n : ℕ) (s : Sample M) → StandsAt n (values_sample s) bs → each_sample at n s ≡ each_sample self n s
   fills_sample n Whole h = refl
-  fills_sample n (Sampled by p s) h = rw (one_at n p bs (front_at n (p ∷ []) (values_option s) bs h), fills_option (suc n) s (back_at n (suc n) (p ∷ []) (values_option s) bs (omega arith) h))
+  fills_sample n (Sampled by p s) h =
+      rw (
+        one_at n p bs (front_at n (p ∷ []) (values_option s) bs h),
+        fills_option (suc n) s (back_at n (suc n) (p ∷ []) (values_option s) bs (omega arith) h),
+      )
 
   fills_page : (n : ℕ) (p : Page M) → StandsAt n (values_page p) bs → each_page at n p ≡ each_page self n p
   fills_page n (PageBy l o) h =
-      rw (fills_option n l (front_at n (values_option l) (values_option o) bs h), fills_option (after_option n l) o (back_at n (after_option n l) (values_option l) (values_option o) bs (after_option-count n l) h))
+      rw (
+        fills_option n l (front_at n (values_option l) (values_option o) bs h),
+        fills_option (after_option n l) o
+            (back_at n (after_option n l) (values_option l) (values_option o) bs (after_option-count n l) h),
+      )
 
   mutual
-    pub fills_expression : (n : ℕ) (t : Expression M) → StandsAt n (values_expression t) bs → each_expression at n t ≡ each_expression self n t
+    pub fills_expression : (n : ℕ) (t : Expression M) → StandsAt n (values_expression t) bs
+        → each_expression at n t ≡ each_expression self n t
     fills_expression n (Path a ns) h = refl
     fills_expression n (Placeholder m) h = rw (one_at n m bs h)
     fills_expression n (SingleValue q) h = rw (fills_query n q h)
     fills_expression n (Exists q) h = rw (fills_query n q h)
-    fills_expression n (Compared by a b) h = let h1 = back_at n (after_expression n a) (values_expression a) (values_expression b) bs (after_expression-count n a) h in rw (fills_expression n a (front_at n (values_expression a) (values_expression b) bs h), fills_expression (after_expression n a) b h1)
-    fills_expression n (Connected by a b) h = let h1 = back_at n (after_expression n a) (values_expression a) (values_expression b) bs (after_expression-count n a) h in rw (fills_expression n a (front_at n (values_expression a) (values_expression b) bs h), fills_expression (after_expression n a) b h1)
+    fills_expression n (Compared by a b) h =
+        let h1 =
+        back_at n (after_expression n a) (values_expression a) (values_expression b) bs (after_expression-count n a)
+        h in
+        rw (
+          fills_expression n a (front_at n (values_expression a) (values_expression b) bs h),
+          fills_expression (after_expression n a) b h1,
+        )
+    fills_expression n (Connected by a b) h =
+        let h1 =
+        back_at n (after_expression n a) (values_expression a) (values_expression b) bs (after_expression-count n a)
+        h in
+        rw (
+          fills_expression n a (front_at n (values_expression a) (values_expression b) bs h),
+          fills_expression (after_expression n a) b h1,
+        )
     fills_expression n (Not a) h = rw (fills_expression n a h)
     fills_expression n (NullTest k a) h = rw (fills_expression n a h)
     fills_expression n CountAll h = refl
     fills_expression n (Count a) h = rw (fills_expression n a h)
-    fills_expression n (InList k a m ms) h = let h1 = back_at n (after_expression n a) (values_expression a) ((m ∷ []) ++ values_marks ms) bs (after_expression-count n a) h in let h2 = back_at (after_expression n a) (suc (after_expression n a)) (m ∷ []) (values_marks ms) bs (one_count (after_expression n a) m) h1 in rw (fills_expression n a (front_at n (values_expression a) ((m ∷ []) ++ values_marks ms) bs h), one_at (after_expression n a) m bs (front_at (after_expression n a) (m ∷ []) (values_marks ms) bs h1), fills_marks (suc (after_expression n a)) ms h2)
-    fills_expression n (InQuery k a q) h = let h1 = back_at n (after_expression n a) (values_expression a) (values_query q) bs (after_expression-count n a) h in rw (fills_expression n a (front_at n (values_expression a) (values_query q) bs h), fills_query (after_expression n a) q h1)
+    fills_expression n (InList k a m ms) h =
+        let h1 =
+        back_at n (after_expression n a) (values_expression a) ((m ∷ []) ++ values_marks ms) bs
+        (after_expression-count n a) h in
+        let h2 =
+        back_at (after_expression n a) (suc (after_expression n a)) (m ∷ []) (values_marks ms) bs
+        (one_count (after_expression n a) m) h1 in
+        rw (
+          fills_expression n a (front_at n (values_expression a) ((m ∷ []) ++ values_marks ms) bs h),
+          one_at (after_expression n a) m bs (front_at (after_expression n a) (m ∷ []) (values_marks ms) bs h1),
+          fills_marks (suc (after_expression n a)) ms h2,
+        )
+    fills_expression n (InQuery k a q) h =
+        let h1 =
+        back_at n (after_expression n a) (values_expression a) (values_query q) bs (after_expression-count n a) h in
+        rw (
+          fills_expression n a (front_at n (values_expression a) (values_query q) bs h),
+          fills_query (after_expression n a) q h1,
+        )
     fills_expression n (Constant k) h = refl
 
-    pub fills_expressions : (n : ℕ) (t : Expressions M) → StandsAt n (values_expressions t) bs → each_expressions at n t ≡ each_expressions self n t
+    pub fills_expressions : (n : ℕ) (t : Expressions M) → StandsAt n (values_expressions t) bs
+        → each_expressions at n t ≡ each_expressions self n t
     fills_expressions n (OnlyExpression a) h = rw (fills_expression n a h)
-    fills_expressions n (MoreExpression a more) h = let h1 = back_at n (after_expression n a) (values_expression a) (values_expressions more) bs (after_expression-count n a) h in rw (fills_expression n a (front_at n (values_expression a) (values_expressions more) bs h), fills_expressions (after_expression n a) more h1)
+    fills_expressions n (MoreExpression a more) h =
+        let h1 =
+        back_at n (after_expression n a) (values_expression a) (values_expressions more) bs
+        (after_expression-count n a) h in
+        rw (
+          fills_expression n a (front_at n (values_expression a) (values_expressions more) bs h),
+          fills_expressions (after_expression n a) more h1,
+        )
 
     pub fills_items : (n : ℕ) (t : Items M) → StandsAt n (values_items t) bs → each_items at n t ≡ each_items self n t
     fills_items n (OnlyItem a by) h = rw (fills_expression n a h)
-    fills_items n (MoreItem a by more) h = let h1 = back_at n (after_expression n a) (values_expression a) (values_items more) bs (after_expression-count n a) h in rw (fills_expression n a (front_at n (values_expression a) (values_items more) bs h), fills_items (after_expression n a) more h1)
+    fills_items n (MoreItem a by more) h =
+        let h1 =
+        back_at n (after_expression n a) (values_expression a) (values_items more) bs (after_expression-count n a)
+        h in
+        rw (
+          fills_expression n a (front_at n (values_expression a) (values_items more) bs h),
+          fills_items (after_expression n a) more h1,
+        )
 
-    pub fills_source : (n : ℕ) (t : Source M) → StandsAt n (values_source t) bs → each_source at n t ≡ each_source self n t
+    pub fills_source : (n : ℕ) (t : Source M) → StandsAt n (values_source t) bs
+        → each_source at n t ≡ each_source self n t
     fills_source n (Table a ns o s) h = rw (fills_sample n s h)
     fills_source n (Alias a ns b) h = refl
-    fills_source n (Join k a b e) h = let h1 = back_at n (after_source n a) (values_source a) (values_source b ++ values_expression e) bs (after_source-count n a) h in let h2 = back_at (after_source n a) (after_source (after_source n a) b) (values_source b) (values_expression e) bs (after_source-count (after_source n a) b) h1 in rw (fills_source n a (front_at n (values_source a) (values_source b ++ values_expression e) bs h), fills_source (after_source n a) b (front_at (after_source n a) (values_source b) (values_expression e) bs h1), fills_expression (after_source (after_source n a) b) e h2)
+    fills_source n (Join k a b e) h =
+        let h1 =
+        back_at n (after_source n a) (values_source a) (values_source b ++ values_expression e) bs
+        (after_source-count n a) h in
+        let h2 =
+        back_at (after_source n a) (after_source (after_source n a) b) (values_source b) (values_expression e) bs
+        (after_source-count (after_source n a) b) h1 in
+        rw (
+          fills_source n a (front_at n (values_source a) (values_source b ++ values_expression e) bs h),
+          fills_source (after_source n a) b
+              (front_at (after_source n a) (values_source b) (values_expression e) bs h1),
+          fills_expression (after_source (after_source n a) b) e h2,
+        )
 
-    pub fills_maybe : (n : ℕ) (t : MaybeExpression M) → StandsAt n (values_maybe t) bs → each_maybe at n t ≡ each_maybe self n t
+    pub fills_maybe : (n : ℕ) (t : MaybeExpression M) → StandsAt n (values_maybe t) bs
+        → each_maybe at n t ≡ each_maybe self n t
     fills_maybe n NoExpression h = refl
     fills_maybe n (SomeExpression e) h = rw (fills_expression n e h)
 
-    pub fills_maybe_expressions : (n : ℕ) (t : MaybeExpressions M) → StandsAt n (values_maybe_expressions t) bs → each_maybe_expressions at n t ≡ each_maybe_expressions self n t
+    pub fills_maybe_expressions : (n : ℕ) (t : MaybeExpressions M) → StandsAt n (values_maybe_expressions t) bs
+        → each_maybe_expressions at n t ≡ each_maybe_expressions self n t
     fills_maybe_expressions n NoExpressions h = refl
     fills_maybe_expressions n (SomeExpressions es) h = rw (fills_expressions n es h)
 
-    pub fills_maybe_items : (n : ℕ) (t : MaybeItems M) → StandsAt n (values_maybe_items t) bs → each_maybe_items at n t ≡ each_maybe_items self n t
+    pub fills_maybe_items : (n : ℕ) (t : MaybeItems M) → StandsAt n (values_maybe_items t) bs
+        → each_maybe_items at n t ≡ each_maybe_items self n t
     fills_maybe_items n NoItems h = refl
     fills_maybe_items n (SomeItems is) h = rw (fills_items n is h)
 
-    pub fills_maybe_source : (n : ℕ) (t : MaybeSource M) → StandsAt n (values_maybe_source t) bs → each_maybe_source at n t ≡ each_maybe_source self n t
+    pub fills_maybe_source : (n : ℕ) (t : MaybeSource M) → StandsAt n (values_maybe_source t) bs
+        → each_maybe_source at n t ≡ each_maybe_source self n t
     fills_maybe_source n NoSource h = refl
     fills_maybe_source n (SomeSource s) h = rw (fills_source n s h)
 
-    pub fills_distinct : (n : ℕ) (t : Distinctness M) → StandsAt n (values_distinct t) bs → each_distinct at n t ≡ each_distinct self n t
+    pub fills_distinct : (n : ℕ) (t : Distinctness M) → StandsAt n (values_distinct t) bs
+        → each_distinct at n t ≡ each_distinct self n t
     fills_distinct n Every h = refl
     fills_distinct n Distinct h = refl
     fills_distinct n (DistinctOn es) h = rw (fills_expressions n es h)
 
     pub fills_query : (n : ℕ) (t : Query M) → StandsAt n (values_query t) bs → each_query at n t ≡ each_query self n t
-    fills_query n (Select u es s w gb hv o p l) h = let h1 = back_at n (after_distinct n u) (values_distinct u) (values_expressions es ++ (values_maybe_source s ++ (values_maybe w ++ (values_maybe_expressions gb ++ (values_maybe hv ++ (values_maybe_items o ++ values_page p)))))) bs (after_distinct-count n u) h in let h2 = back_at (after_distinct n u) (after_expressions (after_distinct n u) es) (values_expressions es) (values_maybe_source s ++ (values_maybe w ++ (values_maybe_expressions gb ++ (values_maybe hv ++ (values_maybe_items o ++ values_page p))))) bs (after_expressions-count (after_distinct n u) es) h1 in let h3 = back_at (after_expressions (after_distinct n u) es) (after_maybe_source (after_expressions (after_distinct n u) es) s) (values_maybe_source s) (values_maybe w ++ (values_maybe_expressions gb ++ (values_maybe hv ++ (values_maybe_items o ++ values_page p)))) bs (after_maybe_source-count (after_expressions (after_distinct n u) es) s) h2 in let h4 = back_at (after_maybe_source (after_expressions (after_distinct n u) es) s) (after_maybe (after_maybe_source (after_expressions (after_distinct n u) es) s) w) (values_maybe w) (values_maybe_expressions gb ++ (values_maybe hv ++ (values_maybe_items o ++ values_page p))) bs (after_maybe-count (after_maybe_source (after_expressions (after_distinct n u) es) s) w) h3 in let h5 = back_at (after_maybe (after_maybe_source (after_expressions (after_distinct n u) es) s) w) (after_maybe_expressions (after_maybe (after_maybe_source (after_expressions (after_distinct n u) es) s) w) gb) (values_maybe_expressions gb) (values_maybe hv ++ (values_maybe_items o ++ values_page p)) bs (after_maybe_expressions-count (after_maybe (after_maybe_source (after_expressions (after_distinct n u) es) s) w) gb) h4 in let h6 = back_at (after_maybe_expressions (after_maybe (after_maybe_source (after_expressions (after_distinct n u) es) s) w) gb) (after_maybe (after_maybe_expressions (after_maybe (after_maybe_source (after_expressions (after_distinct n u) es) s) w) gb) hv) (values_maybe hv) (values_maybe_items o ++ values_page p) bs (after_maybe-count (after_maybe_expressions (after_maybe (after_maybe_source (after_expressions (after_distinct n u) es) s) w) gb) hv) h5 in let h7 = back_at (after_maybe (after_maybe_expressions (after_maybe (after_maybe_source (after_expressions (after_distinct n u) es) s) w) gb) hv) (after_maybe_items (after_maybe (after_maybe_expressions (after_maybe (after_maybe_source (after_expressions (after_distinct n u) es) s) w) gb) hv) o) (values_maybe_items o) (values_page p) bs (after_maybe_items-count (after_maybe (after_maybe_expressions (after_maybe (after_maybe_source (after_expressions (after_distinct n u) es) s) w) gb) hv) o) h6 in rw (fills_distinct n u (front_at n (values_distinct u) (values_expressions es ++ (values_maybe_source s ++ (values_maybe w ++ (values_maybe_expressions gb ++ (values_maybe hv ++ (values_maybe_items o ++ values_page p)))))) bs h), fills_expressions (after_distinct n u) es (front_at (after_distinct n u) (values_expressions es) (values_maybe_source s ++ (values_maybe w ++ (values_maybe_expressions gb ++ (values_maybe hv ++ (values_maybe_items o ++ values_page p))))) bs h1), fills_maybe_source (after_expressions (after_distinct n u) es) s (front_at (after_expressions (after_distinct n u) es) (values_maybe_source s) (values_maybe w ++ (values_maybe_expressions gb ++ (values_maybe hv ++ (values_maybe_items o ++ values_page p)))) bs h2), fills_maybe (after_maybe_source (after_expressions (after_distinct n u) es) s) w (front_at (after_maybe_source (after_expressions (after_distinct n u) es) s) (values_maybe w) (values_maybe_expressions gb ++ (values_maybe hv ++ (values_maybe_items o ++ values_page p))) bs h3), fills_maybe_expressions (after_maybe (after_maybe_source (after_expressions (after_distinct n u) es) s) w) gb (front_at (after_maybe (after_maybe_source (after_expressions (after_distinct n u) es) s) w) (values_maybe_expressions gb) (values_maybe hv ++ (values_maybe_items o ++ values_page p)) bs h4), fills_maybe (after_maybe_expressions (after_maybe (after_maybe_source (after_expressions (after_distinct n u) es) s) w) gb) hv (front_at (after_maybe_expressions (after_maybe (after_maybe_source (after_expressions (after_distinct n u) es) s) w) gb) (values_maybe hv) (values_maybe_items o ++ values_page p) bs h5), fills_maybe_items (after_maybe (after_maybe_expressions (after_maybe (after_maybe_source (after_expressions (after_distinct n u) es) s) w) gb) hv) o (front_at (after_maybe (after_maybe_expressions (after_maybe (after_maybe_source (after_expressions (after_distinct n u) es) s) w) gb) hv) (values_maybe_items o) (values_page p) bs h6), fills_page (after_maybe_items (after_maybe (after_maybe_expressions (after_maybe (after_maybe_source (after_expressions (after_distinct n u) es) s) w) gb) hv) o) p h7)
-    fills_query n (Combined a by all b o p) h = let h1 = back_at n (after_query n a) (values_query a) (values_query b ++ values_page p) bs (after_query-count n a) h in let h2 = back_at (after_query n a) (after_query (after_query n a) b) (values_query b) (values_page p) bs (after_query-count (after_query n a) b) h1 in rw (fills_query n a (front_at n (values_query a) (values_query b ++ values_page p) bs h), fills_query (after_query n a) b (front_at (after_query n a) (values_query b) (values_page p) bs h1), fills_page (after_query (after_query n a) b) p h2)
+    fills_query n (Select u es s w gb hv o p l) h =
+        let n1 = after_distinct n u in
+        let n2 = after_expressions n1 es in
+        let n3 = after_maybe_source n2 s in
+        let n4 = after_maybe n3 w in
+        let n5 = after_maybe_expressions n4 gb in
+        let n6 = after_maybe n5 hv in
+        let n7 = after_maybe_items n6 o in
+        let r7 = values_page p in
+        let r6 = values_maybe_items o ++ r7 in
+        let r5 = values_maybe hv ++ r6 in
+        let r4 = values_maybe_expressions gb ++ r5 in
+        let r3 = values_maybe w ++ r4 in
+        let r2 = values_maybe_source s ++ r3 in
+        let r1 = values_expressions es ++ r2 in
+        let h1 = both_at n n1 (values_distinct u) r1 bs (after_distinct-count n u) h in
+        let h2 = both_at n1 n2 (values_expressions es) r2 bs (after_expressions-count n1 es) h1.1 in
+        let h3 = both_at n2 n3 (values_maybe_source s) r3 bs (after_maybe_source-count n2 s) h2.1 in
+        let h4 = both_at n3 n4 (values_maybe w) r4 bs (after_maybe-count n3 w) h3.1 in
+        let h5 = both_at n4 n5 (values_maybe_expressions gb) r5 bs (after_maybe_expressions-count n4 gb) h4.1 in
+        let h6 = both_at n5 n6 (values_maybe hv) r6 bs (after_maybe-count n5 hv) h5.1 in
+        let h7 = both_at n6 n7 (values_maybe_items o) r7 bs (after_maybe_items-count n6 o) h6.1 in
+        rw (
+          fills_distinct n u h1.0,
+          fills_expressions n1 es h2.0,
+          fills_maybe_source n2 s h3.0,
+          fills_maybe n3 w h4.0,
+          fills_maybe_expressions n4 gb h5.0,
+          fills_maybe n5 hv h6.0,
+          fills_maybe_items n6 o h7.0,
+          fills_page n7 p h7.1,
+        )
+    fills_query n (Combined a by all b o p) h =
+        let h1 =
+        back_at n (after_query n a) (values_query a) (values_query b ++ values_page p) bs (after_query-count n a)
+        h in
+        let h2 =
+        back_at (after_query n a) (after_query (after_query n a) b) (values_query b) (values_page p) bs
+        (after_query-count (after_query n a) b) h1 in
+        rw (
+          fills_query n a (front_at n (values_query a) (values_query b ++ values_page p) bs h),
+          fills_query (after_query n a) b (front_at (after_query n a) (values_query b) (values_page p) bs h1),
+          fills_page (after_query (after_query n a) b) p h2,
+        )

@@ -48,7 +48,8 @@ mode-law ForNoKeyUpdate u = refl
 mode-law ForShare u = refl
 mode-law ForKeyShare u = refl
 
-pub lock-law : (l : Lock) (rest : List Token) → Ends rest → Ready (r.lock l rest) (record empty { lock = l }) (fold rest)
+pub lock-law : (l : Lock) (rest : List Token) → Ends rest
+    → Ready (r.lock l rest) (record empty { lock = l }) (fold rest)
 unfolding m.fold m.step m.word m.lock_by r.lock put_mode
 lock-law Unlocked rest h = h
 lock-law (Locks by w) rest h =
@@ -61,22 +62,27 @@ no_limit-law Pg u = refl
 no_limit-law Mysql u = refl
 no_limit-law Sqlite u = refl
 
-offset-law : (t : Clauses) (o : Mark) (rest : List Token) (σ : Stack) → Ready rest t σ → fold (Word OFFSET ∷ token.Mark o ∷ rest) ≡ Tail (record t { offset = Some o }) ∷ σ
+offset-law : (t : Clauses) (o : Mark) (rest : List Token) (σ : Stack) → Ready rest t σ
+    → fold (Word OFFSET ∷ token.Mark o ∷ rest) ≡ Tail (record t { offset = Some o }) ∷ σ
 unfolding m.fold m.step m.word m.offset_by m.mark_in
 offset-law t o rest σ h = ap (λ (c : Clauses × Stack). Tail (record c.0 { offset = Some o }) ∷ c.1) h.tail
 
-limit-law : (t : Clauses) (l : Mark) (rest : List Token) (σ : Stack) → Ready rest t σ → fold (Word LIMIT ∷ token.Mark l ∷ rest) ≡ Tail (record t { limit = Some l }) ∷ σ
+limit-law : (t : Clauses) (l : Mark) (rest : List Token) (σ : Stack) → Ready rest t σ
+    → fold (Word LIMIT ∷ token.Mark l ∷ rest) ≡ Tail (record t { limit = Some l }) ∷ σ
 unfolding m.fold m.step m.word m.limit_by m.mark_in
 limit-law t l rest σ h = ap (λ (c : Clauses × Stack). Tail (record c.0 { limit = Some l }) ∷ c.1) h.tail
 
-pub page-law : (d : Dialect) (t : Clauses) (l o : Option Mark) (rest : List Token) (σ : Stack) → Ready rest (record t { limit = None; offset = None }) σ → Ready (r.page d (PageBy l o) rest) (record t { limit = l; offset = o }) σ
+pub page-law : (d : Dialect) (t : Clauses) (l o : Option Mark) (rest : List Token) (σ : Stack)
+    → Ready rest (record t { limit = None; offset = None }) σ
+    → Ready (r.page d (PageBy l o) rest) (record t { limit = l; offset = o }) σ
 unfolding r.page
 page-law d t None None rest σ h = h
 page-law d t None (Some o) rest σ h = ready _ (no_limit-law d _ ∙ offset-law _ o rest σ h)
 page-law d t (Some l) None rest σ h = ready _ (limit-law _ l rest σ h)
 page-law d t (Some l) (Some o) rest σ h = ready _ (limit-law _ l _ σ (ready _ (offset-law _ o rest σ h)))
 
-pub by_places-law : (t : Clauses) (o : MaybePlaces) (rest : List Token) (σ : Stack) → Ready rest (record t { places = NoPlaces }) σ → Ready (r.by_places o rest) (record t { places = o }) σ
+pub by_places-law : (t : Clauses) (o : MaybePlaces) (rest : List Token) (σ : Stack)
+    → Ready rest (record t { places = NoPlaces }) σ → Ready (r.by_places o rest) (record t { places = o }) σ
 unfolding m.fold m.step m.word m.order_by m.order_token m.put_places r.by_places
 by_places-law t NoPlaces rest σ h = h
 by_places-law t (SomePlaces ps) rest σ h =
@@ -90,7 +96,9 @@ side_of Pg σ = σ
 side_of Mysql σ = σ
 side_of Sqlite σ = m.select (Raw Star ∷ m.from σ)
 
-side-law : (d : Dialect) (q : Query) (rest : List Token) → fold (r.query d q (Close ∷ rest)) ≡ Q q ∷ Raw Close ∷ fold rest → fold (r.side_open d (r.query d q (Close ∷ rest))) ≡ side_of d (m.grouped q (fold rest))
+side-law : (d : Dialect) (q : Query) (rest : List Token)
+    → fold (r.query d q (Close ∷ rest)) ≡ Q q ∷ Raw Close ∷ fold rest
+    → fold (r.side_open d (r.query d q (Close ∷ rest))) ≡ side_of d (m.grouped q (fold rest))
 unfolding m.fold m.step m.word m.open_bracket m.open_query r.side_open side_of
 side-law Pg q rest h = ap m.open_bracket h
 side-law Mysql q rest h = ap m.open_bracket h
@@ -108,7 +116,8 @@ combines-law Union u = refl
 combines-law Intersect u = refl
 combines-law Except u = refl
 
-all-law : (d : Dialect) (by : SetOperator) (all : Bool) (q : Query) (u : List Token) (σ : Stack) → fold u ≡ side_of d (E (SingleValue q) ∷ σ) → m.combines by (fold (r.all_word all u)) ≡ Combines by all q ∷ σ
+all-law : (d : Dialect) (by : SetOperator) (all : Bool) (q : Query) (u : List Token) (σ : Stack)
+    → fold u ≡ side_of d (E (SingleValue q) ∷ σ) → m.combines by (fold (r.all_word all u)) ≡ Combines by all q ∷ σ
 unfolding m.fold m.step m.word m.combines m.all_or_not m.select m.select_star m.from m.from_expression r.all_word side_of
 all-law Pg by false q u σ h = ap (m.combines by) h
 all-law Pg by true q u σ h = ap (λ τ. m.combines by (Raw (Word ALL) ∷ τ)) h
@@ -117,7 +126,8 @@ all-law Mysql by true q u σ h = ap (λ τ. m.combines by (Raw (Word ALL) ∷ τ
 all-law Sqlite by false q u σ h = ap (m.combines by) h
 all-law Sqlite by true q u σ h = ap (λ τ. m.combines by (Raw (Word ALL) ∷ τ)) h
 
-combined-law : (q : Query) (by : SetOperator) (all : Bool) (b : Query) (t : Clauses) (σ τ : Stack) → tail_of τ ≡ (t, σ) → m.grouped q (Combines by all b ∷ τ) ≡ Q (Combined q by all b t.places (PageBy t.limit t.offset)) ∷ σ
+combined-law : (q : Query) (by : SetOperator) (all : Bool) (b : Query) (t : Clauses) (σ τ : Stack) → tail_of τ ≡ (t, σ)
+    → m.grouped q (Combines by all b ∷ τ) ≡ Q (Combined q by all b t.places (PageBy t.limit t.offset)) ∷ σ
 unfolding m.grouped m.combined
 combined-law q by all b t σ τ h = ap (m.combined q by all b) h
 
@@ -127,12 +137,14 @@ unfolding m.fold m.step m.word m.null m.not_of m.negate r.null_test
 null-law false rest = refl
 null-law true rest = refl
 
-logic-law : (by : Logic) (b : Expression) (u : List Token) (σ : Stack) → fold u ≡ E b ∷ Raw Close ∷ σ → fold (r.logic by ∷ u) ≡ Right (Joins by b) ∷ σ
+logic-law : (by : Logic) (b : Expression) (u : List Token) (σ : Stack) → fold u ≡ E b ∷ Raw Close ∷ σ
+    → fold (r.logic by ∷ u) ≡ Right (Joins by b) ∷ σ
 unfolding m.fold m.step m.word m.joins r.logic
 logic-law And b u σ h = ap (m.joins And) h
 logic-law Or b u σ h = ap (m.joins Or) h
 
-among-row : (d : Dialect) (b : Bool) (is : Items) (u : List Token) (σ : Stack) → fold u ≡ Row is ∷ Raw Close ∷ σ → fold (r.among d b u) ≡ Right (IsIn b is) ∷ σ
+among-row : (d : Dialect) (b : Bool) (is : Items) (u : List Token) (σ : Stack) → fold u ≡ Row is ∷ Raw Close ∷ σ
+    → fold (r.among d b u) ≡ Right (IsIn b is) ∷ σ
 unfolding m.fold m.step m.word m.sign m.sign_token m.in_row m.negated m.not_of m.negate r.among
 among-row Pg false is u σ h = ap (m.in_row false) h
 among-row Pg true is u σ h = ap (m.in_row true) h
@@ -141,7 +153,8 @@ among-row Mysql true is u σ h = ap (λ τ. m.not_of (m.in_row false τ)) h
 among-row Sqlite false is u σ h = ap (m.in_row false) h
 among-row Sqlite true is u σ h = ap (λ τ. m.not_of (m.in_row false τ)) h
 
-among-query : (d : Dialect) (b : Bool) (q : Query) (u : List Token) (σ : Stack) → fold u ≡ E (SingleValue q) ∷ Raw Close ∷ σ → fold (r.among d b u) ≡ Right (IsInQuery b q) ∷ σ
+among-query : (d : Dialect) (b : Bool) (q : Query) (u : List Token) (σ : Stack)
+    → fold u ≡ E (SingleValue q) ∷ Raw Close ∷ σ → fold (r.among d b u) ≡ Right (IsInQuery b q) ∷ σ
 unfolding m.fold m.step m.word m.sign m.sign_token m.in_row m.in_query m.query_in m.negated m.not_of m.negate r.among
 among-query Pg false q u σ h = ap (m.in_row false) h
 among-query Pg true q u σ h = ap (m.in_row true) h
@@ -156,7 +169,8 @@ constant-law false rest = refl
 constant-law true rest = refl
 
 -- a query in brackets
-group-law : (q : Query) (rest : List Token) (u : List Token) → fold u ≡ Q q ∷ Raw Close ∷ fold rest → 1 ≤ top (fold rest) → fold (Open ∷ u) ≡ E (SingleValue q) ∷ fold rest
+group-law : (q : Query) (rest : List Token) (u : List Token) → fold u ≡ Q q ∷ Raw Close ∷ fold rest
+    → 1 ≤ top (fold rest) → fold (Open ∷ u) ≡ E (SingleValue q) ∷ fold rest
 unfolding m.fold m.step m.open_bracket m.open_query
 group-law q rest u h c = ap m.open_bracket h ∙ grouped-free q (fold rest) c
 
@@ -173,83 +187,115 @@ unfolding m.fold m.step m.top m.rank
 close-calm rest = lit≤ tt
 
 -- a bracket whose right part is known
-bracket : (d : Dialect) (a : Expression) (u : List Token) (x : Rest) (σ : Stack) → ExpressionLaw d a → fold u ≡ Right x ∷ σ → fold (Open ∷ r.expression d a u) ≡ m.complete a x ∷ σ
+bracket : (d : Dialect) (a : Expression) (u : List Token) (x : Rest) (σ : Stack) → ExpressionLaw d a
+    → fold u ≡ Right x ∷ σ → fold (Open ∷ r.expression d a u) ≡ m.complete a x ∷ σ
 unfolding m.fold m.step m.open_bracket m.open_expression ExpressionLaw
 bracket d a u x σ law h = ap m.open_bracket (law u (rw h (right-calm x σ)) ∙ ap (λ τ. E a ∷ τ) h)
 
 -- an expression in brackets
-inside : (d : Dialect) (a : Expression) (rest : List Token) → ExpressionLaw d a → fold (Open ∷ r.expression d a (Close ∷ rest)) ≡ Row (OnlyItem a Plain) ∷ fold rest
+inside : (d : Dialect) (a : Expression) (rest : List Token) → ExpressionLaw d a
+    → fold (Open ∷ r.expression d a (Close ∷ rest)) ≡ Row (OnlyItem a Plain) ∷ fold rest
 unfolding m.fold m.step m.open_bracket m.open_expression ExpressionLaw
 inside d a rest law = ap m.open_bracket (law (Close ∷ rest) (omega (arith, close-calm rest)))
 
 -- clauses, where what they hold is known
-where-law : (t : Clauses) (e : Expression) (u rest : List Token) (σ : Stack) → Ready rest (record t { filter = NoExpression }) σ → fold u ≡ E e ∷ fold rest → Ready (Word WHERE ∷ u) (record t { filter = SomeExpression e }) σ
+where-law : (t : Clauses) (e : Expression) (u rest : List Token) (σ : Stack)
+    → Ready rest (record t { filter = NoExpression }) σ → fold u ≡ E e ∷ fold rest
+    → Ready (Word WHERE ∷ u) (record t { filter = SomeExpression e }) σ
 unfolding m.fold m.step m.word m.where_by
-where-law t e u rest σ h g = ready _ (ap m.where_by g ∙ ap (λ (c : Clauses × Stack). Tail (record c.0 { filter = SomeExpression e }) ∷ c.1) h.tail)
+where-law t e u rest σ h g =
+    ready _
+    (ap m.where_by g ∙ ap (λ (c : Clauses × Stack). Tail (record c.0 { filter = SomeExpression e }) ∷ c.1) h.tail)
 
-having-law : (t : Clauses) (e : Expression) (u rest : List Token) (σ : Stack) → Ready rest (record t { having = NoExpression }) σ → fold u ≡ E e ∷ fold rest → Ready (Word HAVING ∷ u) (record t { having = SomeExpression e }) σ
+having-law : (t : Clauses) (e : Expression) (u rest : List Token) (σ : Stack)
+    → Ready rest (record t { having = NoExpression }) σ → fold u ≡ E e ∷ fold rest
+    → Ready (Word HAVING ∷ u) (record t { having = SomeExpression e }) σ
 unfolding m.fold m.step m.word m.having_by
-having-law t e u rest σ h g = ready _ (ap m.having_by g ∙ ap (λ (c : Clauses × Stack). Tail (record c.0 { having = SomeExpression e }) ∷ c.1) h.tail)
+having-law t e u rest σ h g =
+    ready _
+    (ap m.having_by g ∙ ap (λ (c : Clauses × Stack). Tail (record c.0 { having = SomeExpression e }) ∷ c.1) h.tail)
 
-group-by-law : (t : Clauses) (es : Expressions) (u rest : List Token) (σ : Stack) → Ready rest (record t { group = NoExpressions }) σ → fold u ≡ E (m.first (plain es)) ∷ behind (plain es) (fold rest) → Ready (Word GROUP ∷ Word BY ∷ u) (record t { group = SomeExpressions es }) σ
+group-by-law : (t : Clauses) (es : Expressions) (u rest : List Token) (σ : Stack)
+    → Ready rest (record t { group = NoExpressions }) σ
+    → fold u ≡ E (m.first (plain es)) ∷ behind (plain es) (fold rest)
+    → Ready (Word GROUP ∷ Word BY ∷ u) (record t { group = SomeExpressions es }) σ
 unfolding m.fold m.step m.word m.group_by m.put_group
 group-by-law t es u rest σ h g =
     ready _ (ap m.group_by g ∙ ap m.put_group (items-back (plain es) (fold rest) (omega (arith, h.calm)))
-    ∙ ap (λ (c : Clauses × Stack). Tail (record c.0 { group = SomeExpressions (m.expressions_of (plain es)) }) ∷ c.1) h.tail
+    ∙ ap (λ (c : Clauses × Stack). Tail (record c.0 { group = SomeExpressions (m.expressions_of (plain es)) }) ∷ c.1)
+    h.tail
     ∙ ap (λ xs. Tail (record t { group = SomeExpressions xs }) ∷ σ) (expressions-back es))
 
-order-law : (t : Clauses) (is : Items) (u rest : List Token) (σ : Stack) → Ready rest (record t { order = NoItems }) σ → fold u ≡ E (m.first is) ∷ behind is (fold rest) → Ready (Word ORDER ∷ Word BY ∷ u) (record t { order = SomeItems is }) σ
+order-law : (t : Clauses) (is : Items) (u rest : List Token) (σ : Stack) → Ready rest (record t { order = NoItems }) σ
+    → fold u ≡ E (m.first is) ∷ behind is (fold rest)
+    → Ready (Word ORDER ∷ Word BY ∷ u) (record t { order = SomeItems is }) σ
 unfolding m.fold m.step m.word m.order_by m.put_order
 order-law t is u rest σ h g =
     ready _ (ap m.order_by g ∙ ap m.put_order (items-back is (fold rest) (omega (arith, h.calm)))
     ∙ ap (λ (c : Clauses × Stack). Tail (record c.0 { order = SomeItems is }) ∷ c.1) h.tail)
 
-from-law : (t : Clauses) (s : Source) (u rest : List Token) (σ : Stack) → Ready rest (record t { source = NoSource }) σ → fold u ≡ push_source s (fold rest) → Ready (Word FROM ∷ u) (record t { source = SomeSource s }) σ
+from-law : (t : Clauses) (s : Source) (u rest : List Token) (σ : Stack) → Ready rest (record t { source = NoSource }) σ
+    → fold u ≡ push_source s (fold rest) → Ready (Word FROM ∷ u) (record t { source = SomeSource s }) σ
 unfolding m.fold m.step m.word m.from_source
 from-law t s u rest σ h g =
     ready _ (ap m.from g ∙ from-push s (fold rest) h.calm
     ∙ ap (λ (c : Clauses × Stack). Tail (record c.0 { source = SomeSource s }) ∷ c.1) h.tail)
 
 -- a selection
-on-law : (es : Expressions) (u rest : List Token) → fold u ≡ E (m.first (plain es)) ∷ behind (plain es) (fold (Close ∷ rest)) → fold (Word DISTINCT ∷ Word ON ∷ Open ∷ u) ≡ m.Distinctly (DistinctOn es) ∷ fold rest
+on-law : (es : Expressions) (u rest : List Token)
+    → fold u ≡ E (m.first (plain es)) ∷ behind (plain es) (fold (Close ∷ rest))
+    → fold (Word DISTINCT ∷ Word ON ∷ Open ∷ u) ≡ m.Distinctly (DistinctOn es) ∷ fold rest
 unfolding m.fold m.step m.word m.on m.distinctly
 on-law es u rest h =
     ap (λ σ. m.distinctly (m.on (m.open_bracket σ))) h ∙ ap (λ σ. m.distinctly (m.on σ)) (row-items es (fold rest))
     ∙ ap (λ xs. m.Distinctly (DistinctOn xs) ∷ fold rest) (expressions-back es)
 
-plain-distinct : (e : Expression) (σ : Stack) (u : List Token) → fold u ≡ E e ∷ σ → fold (Word DISTINCT ∷ u) ≡ m.Distinctly Distinct ∷ E e ∷ σ
+plain-distinct : (e : Expression) (σ : Stack) (u : List Token) → fold u ≡ E e ∷ σ
+    → fold (Word DISTINCT ∷ u) ≡ m.Distinctly Distinct ∷ E e ∷ σ
 unfolding m.fold m.step m.word m.distinctly
 plain-distinct e σ u h = ap m.distinctly h
 
 select-items : (u : Distinctness) (es : Expressions) (t : Clauses) (σ τ : Stack) → 3 ≤ top τ → tail_of τ ≡ (t, σ) →
-    m.select_from u (E (m.first (plain es)) ∷ behind (plain es) τ) ≡ Q (Select u es t.source t.filter t.group t.having t.order (PageBy t.limit t.offset) t.lock) ∷ σ
+    m.select_from u (E (m.first (plain es)) ∷ behind (plain es) τ)
+    ≡ Q (Select u es t.source t.filter t.group t.having t.order (PageBy t.limit t.offset) t.lock) ∷ σ
 unfolding m.select_from m.select_list
 select-items u es t σ τ c h =
     ap (m.select_list u) (items-back (plain es) τ c)
-    ∙ ap (λ (x : Clauses × Stack). Q (Select u (m.expressions_of (plain es)) x.0.source x.0.filter x.0.group x.0.having x.0.order (PageBy x.0.limit x.0.offset) x.0.lock) ∷ x.1) h
-    ∙ ap (λ xs. Q (Select u xs t.source t.filter t.group t.having t.order (PageBy t.limit t.offset) t.lock) ∷ σ) (expressions-back es)
+    ∙ ap
+    (λ (x : Clauses × Stack). Q (Select u (m.expressions_of (plain es)) x.0.source x.0.filter x.0.group x.0.having
+    x.0.order (PageBy x.0.limit x.0.offset) x.0.lock)
+    ∷ x.1)
+    h
+    ∙ ap (λ xs. Q (Select u xs t.source t.filter t.group t.having t.order (PageBy t.limit t.offset) t.lock) ∷ σ)
+    (expressions-back es)
 
-select-distinct : (u : Distinctness) (e : Expression) (σ : Stack) (v : List Token) → fold v ≡ m.Distinctly u ∷ E e ∷ σ → fold (Word SELECT ∷ v) ≡ m.select_from u (E e ∷ σ)
+select-distinct : (u : Distinctness) (e : Expression) (σ : Stack) (v : List Token) → fold v ≡ m.Distinctly u ∷ E e ∷ σ
+    → fold (Word SELECT ∷ v) ≡ m.select_from u (E e ∷ σ)
 unfolding m.fold m.step m.word m.select
 select-distinct u e σ v h = ap m.select h
 
-select-every : (e : Expression) (σ : Stack) (v : List Token) → fold v ≡ E e ∷ σ → fold (Word SELECT ∷ v) ≡ m.select_from Every (E e ∷ σ)
+select-every : (e : Expression) (σ : Stack) (v : List Token) → fold v ≡ E e ∷ σ
+    → fold (Word SELECT ∷ v) ≡ m.select_from Every (E e ∷ σ)
 unfolding m.fold m.step m.word m.select
 select-every e σ v h = ap m.select h
 
-exists-law : (q : Query) (u rest : List Token) → fold u ≡ E (SingleValue q) ∷ fold rest → fold (Word EXISTS ∷ u) ≡ E (Exists q) ∷ fold rest
+exists-law : (q : Query) (u rest : List Token) → fold u ≡ E (SingleValue q) ∷ fold rest
+    → fold (Word EXISTS ∷ u) ≡ E (Exists q) ∷ fold rest
 unfolding m.fold m.step m.word m.exists m.exists_item m.query_in
 exists-law q u rest h = ap m.exists h
 
-not-law : (a : Expression) (u rest : List Token) → fold u ≡ Row (OnlyItem a Plain) ∷ fold rest → fold (Word NOT ∷ u) ≡ E (Not a) ∷ fold rest
+not-law : (a : Expression) (u rest : List Token) → fold u ≡ Row (OnlyItem a Plain) ∷ fold rest
+    → fold (Word NOT ∷ u) ≡ E (Not a) ∷ fold rest
 unfolding m.fold m.step m.word m.not_of m.first
 not-law a u rest h = ap m.not_of h
 
-count-law : (a : Expression) (u rest : List Token) → fold u ≡ Row (OnlyItem a Plain) ∷ fold rest → fold (Word COUNT ∷ u) ≡ E (Count a) ∷ fold rest
+count-law : (a : Expression) (u rest : List Token) → fold u ≡ Row (OnlyItem a Plain) ∷ fold rest
+    → fold (Word COUNT ∷ u) ≡ E (Count a) ∷ fold rest
 unfolding m.fold m.step m.word m.count m.first
 count-law a u rest h = ap m.count h
 
-sign-law : (by : Comparison) (b : Expression) (u rest : List Token) → fold u ≡ E b ∷ fold (Close ∷ rest) → fold (Sign by ∷ u) ≡ Right (Compares by b) ∷ fold rest
+sign-law : (by : Comparison) (b : Expression) (u rest : List Token) → fold u ≡ E b ∷ fold (Close ∷ rest)
+    → fold (Sign by ∷ u) ≡ Right (Compares by b) ∷ fold rest
 unfolding m.fold m.step m.sign
 sign-law by b u rest h = ap (m.sign by) h
 
@@ -257,27 +303,35 @@ count_all-law : (rest : List Token) → fold (Word COUNT ∷ Open ∷ Star ∷ C
 unfolding m.fold m.step m.word m.count m.open_bracket m.open_token
 count_all-law rest = refl
 
-constant-bracket : (b : Bool) (rest : List Token) → fold (Open ∷ Number (codes "1") ∷ Sign Equal ∷ Number (r.constant b) ∷ Close ∷ rest) ≡ E (Constant b) ∷ fold rest
+constant-bracket : (b : Bool) (rest : List Token)
+    → fold (Open ∷ Number (codes "1") ∷ Sign Equal ∷ Number (r.constant b) ∷ Close ∷ rest) ≡ E (Constant b) ∷ fold rest
 unfolding m.fold m.step m.sign m.sign_token m.open_bracket m.open_token m.open_number
 constant-bracket b rest = ap (λ x. E (Constant x) ∷ fold rest) (constant-law b rest)
 
-marks-row : (p : Mark) (ps : List Mark) (rest : List Token) → fold (Open ∷ r.marks p ps (Close ∷ rest)) ≡ Row (plain (marked p ps)) ∷ fold rest
+marks-row : (p : Mark) (ps : List Mark) (rest : List Token)
+    → fold (Open ∷ r.marks p ps (Close ∷ rest)) ≡ Row (plain (marked p ps)) ∷ fold rest
 unfolding m.fold m.step
-marks-row p ps rest = ap m.open_bracket (marks-law p ps (Close ∷ rest) (omega (arith, close-calm rest))) ∙ row-items (marked p ps) (fold rest)
+marks-row p ps rest =
+    ap m.open_bracket (marks-law p ps (Close ∷ rest) (omega (arith, close-calm rest)))
+    ∙ row-items (marked p ps) (fold rest)
 
-among_marks-back : (b : Bool) (a : Expression) (p : Mark) (ps : List Mark) (σ : Stack) → m.complete a (IsIn b (plain (marked p ps))) ∷ σ ≡ E (InList b a p ps) ∷ σ
+among_marks-back : (b : Bool) (a : Expression) (p : Mark) (ps : List Mark) (σ : Stack)
+    → m.complete a (IsIn b (plain (marked p ps))) ∷ σ ≡ E (InList b a p ps) ∷ σ
 unfolding m.complete
 among_marks-back b a p ps σ = rw (first_mark-back, more_marks-back) refl
 
-joined : (a : Expression) (by : Logic) (b : Expression) (σ : Stack) → m.complete a (Joins by b) ∷ σ ≡ E (Connected by a b) ∷ σ
+joined : (a : Expression) (by : Logic) (b : Expression) (σ : Stack)
+    → m.complete a (Joins by b) ∷ σ ≡ E (Connected by a b) ∷ σ
 unfolding m.complete
 joined a by b σ = refl
 
-comma-law : (is : Items) (u rest : List Token) → 3 ≤ top (fold rest) → fold u ≡ E (m.first is) ∷ behind is (fold rest) → fold (Comma ∷ u) ≡ Listed is ∷ fold rest
+comma-law : (is : Items) (u rest : List Token) → 3 ≤ top (fold rest) → fold u ≡ E (m.first is) ∷ behind is (fold rest)
+    → fold (Comma ∷ u) ≡ Listed is ∷ fold rest
 unfolding m.fold m.step
 comma-law is u rest c h = ap m.comma h ∙ comma-items is (fold rest) c
 
-on_expression-law : (e : Expression) (u rest : List Token) → fold u ≡ E e ∷ fold (Close ∷ rest) → fold (Word ON ∷ u) ≡ OnExpression e ∷ fold rest
+on_expression-law : (e : Expression) (u rest : List Token) → fold u ≡ E e ∷ fold (Close ∷ rest)
+    → fold (Word ON ∷ u) ≡ OnExpression e ∷ fold rest
 unfolding m.fold m.step m.word m.on
 on_expression-law e u rest h = ap m.on h
 
@@ -301,74 +355,102 @@ module _ (d : Dialect) where
   mutual
     unfolding r.expression m.complete ExpressionLaw behind plain m.fold m.step m.first push_direction
 
-    pub expression-law : (e : Expression) (rest : List Token) → 1 ≤ top (fold rest) → fold (r.expression d e rest) ≡ E e ∷ fold rest
+    pub expression-law : (e : Expression) (rest : List Token) → 1 ≤ top (fold rest)
+        → fold (r.expression d e rest) ≡ E e ∷ fold rest
     expression-law (Path a ns) rest h = names-law a ns rest h
     expression-law (Placeholder p) rest h = mark-law p rest
     expression-law (SingleValue q) rest h = group-law q rest _ (query-law q (Close ∷ rest) (ends-close rest)) h
-    expression-law (Exists q) rest h = exists-law q (Open ∷ r.query d q (Close ∷ rest)) rest (group-law q rest _ (query-law q (Close ∷ rest) (ends-close rest)) h)
-    expression-law (Compared by a b) rest h = bracket d a _ (Compares by b) (fold rest) (expression-law a) (sign-law by b _ rest (expression-law b (Close ∷ rest) (omega (arith, close-calm rest))))
-    expression-law (Connected by a b) rest h = bracket d a _ (Joins by b) (fold rest) (expression-law a) (logic-law by b _ (fold rest) (expression-law b (Close ∷ rest) (omega (arith, close-calm rest))))
-    expression-law (Not a) rest h = not-law a (Open ∷ r.expression d a (Close ∷ rest)) rest (inside d a rest (expression-law a))
+    expression-law (Exists q) rest h =
+        exists-law q (Open ∷ r.query d q (Close ∷ rest)) rest
+        (group-law q rest _ (query-law q (Close ∷ rest) (ends-close rest)) h)
+    expression-law (Compared by a b) rest h =
+        bracket d a _ (Compares by b) (fold rest) (expression-law a)
+        (sign-law by b _ rest (expression-law b (Close ∷ rest) (omega (arith, close-calm rest))))
+    expression-law (Connected by a b) rest h =
+        bracket d a _ (Joins by b) (fold rest) (expression-law a)
+        (logic-law by b _ (fold rest) (expression-law b (Close ∷ rest) (omega (arith, close-calm rest))))
+    expression-law (Not a) rest h =
+        not-law a (Open ∷ r.expression d a (Close ∷ rest)) rest (inside d a rest (expression-law a))
     expression-law (NullTest b a) rest h = bracket d a _ (IsNull b) (fold rest) (expression-law a) (null-law b rest)
     expression-law CountAll rest h = count_all-law rest
-    expression-law (Count a) rest h = count-law a (Open ∷ r.expression d a (Close ∷ rest)) rest (inside d a rest (expression-law a))
+    expression-law (Count a) rest h =
+        count-law a (Open ∷ r.expression d a (Close ∷ rest)) rest (inside d a rest (expression-law a))
     expression-law (InList b a p ps) rest h =
-        bracket d a _ (IsIn b (plain (marked p ps))) (fold rest) (expression-law a) (among-row d b (plain (marked p ps)) _ (fold rest) (marks-row p ps (Close ∷ rest)))
+        bracket d a _ (IsIn b (plain (marked p ps))) (fold rest) (expression-law a)
+        (among-row d b (plain (marked p ps)) _ (fold rest) (marks-row p ps (Close ∷ rest)))
         ∙ among_marks-back b a p ps (fold rest)
     expression-law (InQuery b a q) rest h =
         bracket d a _ (IsInQuery b q) (fold rest) (expression-law a) (among-query d b q _ (fold rest)
-        (group-law q (Close ∷ rest) _ (query-law q (Close ∷ Close ∷ rest) (ends-close (Close ∷ rest))) (omega (arith, close-calm rest))))
+        (group-law q (Close ∷ rest) _ (query-law q (Close ∷ Close ∷ rest) (ends-close (Close ∷ rest)))
+        (omega (arith, close-calm rest))))
     expression-law (Constant b) rest h = constant-bracket b rest
 
-    pub expressions-law : (es : Expressions) (rest : List Token) → 3 ≤ top (fold rest) → fold (r.expressions d es rest) ≡ E (m.first (plain es)) ∷ behind (plain es) (fold rest)
+    pub expressions-law : (es : Expressions) (rest : List Token) → 3 ≤ top (fold rest)
+        → fold (r.expressions d es rest) ≡ E (m.first (plain es)) ∷ behind (plain es) (fold rest)
     expressions-law (OnlyExpression e) rest h = expression-law e rest (omega (arith, h))
     expressions-law (MoreExpression e more) rest h =
         let c = comma-law (plain more) _ rest h (expressions-law more rest h) in
         expression-law e _ (rw c (omega (arith, listed-calm (plain more) (fold rest)))) ∙ ap (λ σ. E e ∷ σ) c
 
-    pub items-law : (is : Items) (rest : List Token) → 3 ≤ top (fold rest) → fold (r.items d is rest) ≡ E (m.first is) ∷ behind is (fold rest)
+    pub items-law : (is : Items) (rest : List Token) → 3 ≤ top (fold rest)
+        → fold (r.items d is rest) ≡ E (m.first is) ∷ behind is (fold rest)
     items-law (OnlyItem e by) rest h =
         let g = direction-law by rest in
         expression-law e _ (rw g (direction-calm by (fold rest) (omega (arith, h)))) ∙ ap (λ σ. E e ∷ σ) g
     items-law (MoreItem e by more) rest h =
         let c = comma-law more _ rest h (items-law more rest h) in
-        let g : fold (r.direction by (Comma ∷ r.items d more rest)) ≡ push_direction by (Listed more ∷ fold rest) = direction-law by _ ∙ ap (push_direction by) c in
+        let g : fold (r.direction by (Comma ∷ r.items d more rest)) ≡ push_direction by (Listed more ∷ fold rest) =
+        direction-law by _ ∙ ap (push_direction by) c in
         expression-law e _ (rw g (direction-calm by _ (listed-calm more (fold rest)))) ∙ ap (λ σ. E e ∷ σ) g
 
-    pub source-law : (s : Source) (rest : List Token) → 4 ≤ top (fold rest) → fold (r.source d s rest) ≡ push_source s (fold rest)
+    pub source-law : (s : Source) (rest : List Token) → 4 ≤ top (fold rest)
+        → fold (r.source d s rest) ≡ push_source s (fold rest)
     source-law (Table a ns o s) rest h = table-law a ns o s rest h
     source-law (Alias a ns b) rest h = alias-law a ns b rest h
     source-law (Join k a b e) rest h =
         let e1 = on_expression-law e _ rest (expression-law e (Close ∷ rest) (omega (arith, close-calm rest))) in
         let e2 = source-law b _ (rw e1 (on_expression-calm e (fold rest))) ∙ ap (push_source b) e1 in
         let e3 = kind-law k b e _ (fold rest) e2 in
-        open-law _ ∙ ap m.open_bracket (source-law a _ (rw e3 (right-calm-4 (JoinsTo k b e) (fold rest))) ∙ ap (push_source a) e3) ∙ open-push k a b e (fold rest)
+        open-law _
+        ∙ ap m.open_bracket
+        (source-law a _ (rw e3 (right-calm-4 (JoinsTo k b e) (fold rest))) ∙ ap (push_source a) e3)
+        ∙ open-push k a b e (fold rest)
 
-    pub from-ready : (s : MaybeSource) (t : Clauses) (rest : List Token) (σ : Stack) → Ready rest (record t { source = NoSource }) σ → Ready (r.from d s rest) (record t { source = s }) σ
+    pub from-ready : (s : MaybeSource) (t : Clauses) (rest : List Token) (σ : Stack)
+        → Ready rest (record t { source = NoSource }) σ → Ready (r.from d s rest) (record t { source = s }) σ
     from-ready NoSource t rest σ h = h
     from-ready (SomeSource s) t rest σ h = from-law t s _ rest σ h (source-law s rest h.calm)
 
-    pub where-ready : (e : MaybeExpression) (t : Clauses) (rest : List Token) (σ : Stack) → Ready rest (record t { filter = NoExpression }) σ → Ready (r.where_by d e rest) (record t { filter = e }) σ
+    pub where-ready : (e : MaybeExpression) (t : Clauses) (rest : List Token) (σ : Stack)
+        → Ready rest (record t { filter = NoExpression }) σ → Ready (r.where_by d e rest) (record t { filter = e }) σ
     where-ready NoExpression t rest σ h = h
     where-ready (SomeExpression e) t rest σ h = where-law t e _ rest σ h (expression-law e rest (omega (arith, h.calm)))
 
-    pub group-ready : (es : MaybeExpressions) (t : Clauses) (rest : List Token) (σ : Stack) → Ready rest (record t { group = NoExpressions }) σ → Ready (r.group_by d es rest) (record t { group = es }) σ
+    pub group-ready : (es : MaybeExpressions) (t : Clauses) (rest : List Token) (σ : Stack)
+        → Ready rest (record t { group = NoExpressions }) σ → Ready (r.group_by d es rest) (record t { group = es }) σ
     group-ready NoExpressions t rest σ h = h
-    group-ready (SomeExpressions es) t rest σ h = group-by-law t es _ rest σ h (expressions-law es rest (omega (arith, h.calm)))
+    group-ready (SomeExpressions es) t rest σ h =
+        group-by-law t es _ rest σ h (expressions-law es rest (omega (arith, h.calm)))
 
-    pub having-ready : (e : MaybeExpression) (t : Clauses) (rest : List Token) (σ : Stack) → Ready rest (record t { having = NoExpression }) σ → Ready (r.having_by d e rest) (record t { having = e }) σ
+    pub having-ready : (e : MaybeExpression) (t : Clauses) (rest : List Token) (σ : Stack)
+        → Ready rest (record t { having = NoExpression }) σ → Ready (r.having_by d e rest) (record t { having = e }) σ
     having-ready NoExpression t rest σ h = h
-    having-ready (SomeExpression e) t rest σ h = having-law t e _ rest σ h (expression-law e rest (omega (arith, h.calm)))
+    having-ready (SomeExpression e) t rest σ h =
+        having-law t e _ rest σ h (expression-law e rest (omega (arith, h.calm)))
 
-    pub order-ready : (is : MaybeItems) (t : Clauses) (rest : List Token) (σ : Stack) → Ready rest (record t { order = NoItems }) σ → Ready (r.order_by d is rest) (record t { order = is }) σ
+    pub order-ready : (is : MaybeItems) (t : Clauses) (rest : List Token) (σ : Stack)
+        → Ready rest (record t { order = NoItems }) σ → Ready (r.order_by d is rest) (record t { order = is }) σ
     order-ready NoItems t rest σ h = h
     order-ready (SomeItems is) t rest σ h = order-law t is _ rest σ h (items-law is rest (omega (arith, h.calm)))
 
-    pub selection-law : (u : Distinctness) (e : Expression) (σ : Stack) (v : List Token) → fold v ≡ E e ∷ σ → fold (Word SELECT ∷ r.distinct d u v) ≡ m.select_from u (E e ∷ σ)
+    pub selection-law : (u : Distinctness) (e : Expression) (σ : Stack) (v : List Token) → fold v ≡ E e ∷ σ
+        → fold (Word SELECT ∷ r.distinct d u v) ≡ m.select_from u (E e ∷ σ)
     selection-law Every e σ v h = select-every e σ v h
     selection-law Distinct e σ v h = select-distinct Distinct e σ (Word DISTINCT ∷ v) (plain-distinct e σ v h)
     selection-law (DistinctOn es) e σ v h =
-        select-distinct (DistinctOn es) e σ (Word DISTINCT ∷ Word ON ∷ Open ∷ r.expressions d es (Close ∷ v)) (on-law es _ v (expressions-law es (Close ∷ v) (omega (arith, close-calm v))) ∙ ap (λ τ. m.Distinctly (DistinctOn es) ∷ τ) h)
+        select-distinct (DistinctOn es) e σ (Word DISTINCT ∷ Word ON ∷ Open ∷ r.expressions d es (Close ∷ v))
+        (on-law es _ v (expressions-law es (Close ∷ v) (omega (arith, close-calm v)))
+        ∙ ap (λ τ. m.Distinctly (DistinctOn es) ∷ τ) h)
 
     pub query-law : (q : Query) (rest : List Token) → Ends rest → fold (r.query d q rest) ≡ Q q ∷ fold rest
     query-law (Select u es f w g h o (PageBy l k) x) rest ends =
@@ -378,14 +460,21 @@ module _ (d : Dialect) where
         let t3 = order-ready o (record empty { lock = x; limit = l; offset = k }) _ σ t2 in
         let t4 = having-ready h (record empty { lock = x; limit = l; offset = k; order = o }) _ σ t3 in
         let t5 = group-ready g (record empty { lock = x; limit = l; offset = k; order = o; having = h }) _ σ t4 in
-        let t6 = where-ready w (record empty { lock = x; limit = l; offset = k; order = o; having = h; group = g }) _ σ t5 in
-        let t7 = from-ready f (record empty { lock = x; limit = l; offset = k; order = o; having = h; group = g; filter = w }) _ σ t6 in
-        selection-law u (m.first (plain es)) _ _ (expressions-law es _ (omega (arith, t7.calm))) ∙ select-items u es _ σ _ (omega (arith, t7.calm)) t7.tail
+        let t6 =
+        where-ready w (record empty { lock = x; limit = l; offset = k; order = o; having = h; group = g }) _ σ t5 in
+        let t7 =
+        from-ready f
+        (record empty { lock = x; limit = l; offset = k; order = o; having = h; group = g; filter = w }) _ σ
+        t6 in
+        selection-law u (m.first (plain es)) _ _ (expressions-law es _ (omega (arith, t7.calm)))
+        ∙ select-items u es _ σ _ (omega (arith, t7.calm)) t7.tail
     query-law (Combined a by all b o (PageBy l k)) rest ends =
         let σ = fold rest in
         let t1 = page-law d empty l k rest σ ends in
         let t2 = by_places-law (record empty { limit = l; offset = k }) o _ σ t1 in
-        let c1 = side-law d b _ (query-law b (Close ∷ _) (ends-close _)) ∙ ap (side_of d) (grouped-free b _ (omega (arith, t2.calm))) in
+        let c1 =
+        side-law d b _ (query-law b (Close ∷ _) (ends-close _))
+        ∙ ap (side_of d) (grouped-free b _ (omega (arith, t2.calm))) in
         let c2 = combines-law by _ ∙ all-law d by all b _ _ c1 in
         side-law d a _ (query-law a (Close ∷ _) (ends-close _)) ∙ ap (λ τ. side_of d (m.grouped a τ)) c2
         ∙ ap (side_of d) (combined-law a by all b _ σ _ t2.tail) ∙ side-query d _ σ
@@ -403,7 +492,8 @@ empty-calm : 4 ≤ top (fold [])
 unfolding m.fold m.top
 empty-calm = lit≤ tt
 
-pub one-expression : (d : Dialect) (tokens : List Token) (a b : Expression) → r.ReadsExpression d tokens a → r.ReadsExpression d tokens b → a ≡ b
+pub one-expression : (d : Dialect) (tokens : List Token) (a b : Expression) → r.ReadsExpression d tokens a
+    → r.ReadsExpression d tokens b → a ≡ b
 one-expression d tokens a b x y =
     let p = expression-law d a [] (omega (arith, empty-calm)) in
     let q = expression-law d b [] (omega (arith, empty-calm)) in
@@ -411,7 +501,8 @@ one-expression d tokens a b x y =
     let w = y.1 in
     cc
 
-pub one-source : (d : Dialect) (tokens : List Token) (a b : Source) → r.ReadsSource d tokens a → r.ReadsSource d tokens b → a ≡ b
+pub one-source : (d : Dialect) (tokens : List Token) (a b : Source) → r.ReadsSource d tokens a
+    → r.ReadsSource d tokens b → a ≡ b
 one-source d tokens a b x y =
     let p = source-back a (fold []) empty-calm in
     let q = source-back b (fold []) empty-calm in

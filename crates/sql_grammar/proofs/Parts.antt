@@ -37,7 +37,8 @@ numbered-free n by [] h = refl
 numbered-free n by (Numbered ps ∷ σ) h = absurd (omega arith)
 numbered-free n by (x ∷ σ) h = refl
 
-pub after_name-free : (o : Bool) (a : Name) (ns : List Name) (σ : Stack) → 4 ≤ top σ → m.after_name o a ns σ ≡ (Table a ns o Whole, σ)
+pub after_name-free : (o : Bool) (a : Name) (ns : List Name) (σ : Stack) → 4 ≤ top σ
+    → m.after_name o a ns σ ≡ (Table a ns o Whole, σ)
 unfolding m.after_name m.top m.rank
 after_name-free o a ns [] h = refl
 after_name-free o a ns (AliasAs b ∷ σ) h = absurd (omega arith)
@@ -57,7 +58,8 @@ wait-free (Waiting w ∷ σ) h = absurd (omega arith)
 wait-free (x ∷ σ) h = refl
 
 -- a path
-pub names-law : (a : Name) (ns : List Name) (rest : List Token) → 1 ≤ top (fold rest) → fold (r.names a ns rest) ≡ E (Path a ns) ∷ fold rest
+pub names-law : (a : Name) (ns : List Name) (rest : List Token) → 1 ≤ top (fold rest)
+    → fold (r.names a ns rest) ≡ E (Path a ns) ∷ fold rest
 unfolding m.fold m.step m.dot m.quoted m.name_in m.names_in r.names
 names-law a [] rest h = quoted-free a (fold rest) h
 names-law a (b ∷ bs) rest h = ap (λ σ. m.quoted a (m.dot σ)) (names-law b bs rest h)
@@ -83,7 +85,8 @@ expressions-back (MoreExpression e more) = ap (MoreExpression e) (expressions-ba
 
 pub items-back : (is : Items) (σ : Stack) → 3 ≤ top σ → m.items_of (m.first is) (behind is σ) ≡ (is, σ)
 unfolding m.items_of m.first m.direction_of m.listed behind push_direction
-items-back (OnlyItem e Plain) σ h = ap (λ (d : Direction × Stack). m.listed e d.0 d.1) (direction-free σ (omega arith)) ∙ listed-free e Plain σ h
+items-back (OnlyItem e Plain) σ h =
+    ap (λ (d : Direction × Stack). m.listed e d.0 d.1) (direction-free σ (omega arith)) ∙ listed-free e Plain σ h
 items-back (OnlyItem e Ascending) σ h = listed-free e Ascending σ h
 items-back (OnlyItem e Descending) σ h = listed-free e Descending σ h
 items-back (MoreItem e Plain more) σ h = refl
@@ -110,7 +113,8 @@ pub comma-items : (is : Items) (σ : Stack) → 3 ≤ top σ → m.comma (E (m.f
 unfolding m.comma m.put_listed
 comma-items is σ h = ap m.put_listed (items-back is σ h)
 
-pub row-items : (es : Expressions) (σ : Stack) → m.open_bracket (E (m.first (plain es)) ∷ behind (plain es) (Raw Close ∷ σ)) ≡ Row (plain es) ∷ σ
+pub row-items : (es : Expressions) (σ : Stack)
+    → m.open_bracket (E (m.first (plain es)) ∷ behind (plain es) (Raw Close ∷ σ)) ≡ Row (plain es) ∷ σ
 unfolding m.open_bracket m.open_expression m.open_listed m.first plain behind push_direction
 row-items (OnlyExpression e) σ = refl
 row-items (MoreExpression e more) σ = refl
@@ -120,10 +124,13 @@ unfoldable pub marked : Mark → List Mark → Expressions
 marked p [] = OnlyExpression (Placeholder p)
 marked p (n ∷ ns) = MoreExpression (Placeholder p) (marked n ns)
 
-pub marks-law : (p : Mark) (ps : List Mark) (rest : List Token) → 3 ≤ top (fold rest) → fold (r.marks p ps rest) ≡ E (m.first (plain (marked p ps))) ∷ behind (plain (marked p ps)) (fold rest)
+pub marks-law : (p : Mark) (ps : List Mark) (rest : List Token) → 3 ≤ top (fold rest)
+    → fold (r.marks p ps rest) ≡ E (m.first (plain (marked p ps))) ∷ behind (plain (marked p ps)) (fold rest)
 unfolding m.fold m.step m.first r.marks plain marked behind push_direction
 marks-law p [] rest h = refl
-marks-law p (n ∷ ns) rest h = ap (λ σ. E (Placeholder p) ∷ σ) (ap m.comma (marks-law n ns rest h) ∙ comma-items (plain (marked n ns)) (fold rest) h)
+marks-law p (n ∷ ns) rest h =
+    ap (λ σ. E (Placeholder p) ∷ σ)
+    (ap m.comma (marks-law n ns rest h) ∙ comma-items (plain (marked n ns)) (fold rest) h)
 
 pub marks-back : (p : Mark) (ps : List Mark) → m.marks_of (plain (marked p ps)) ≡ p ∷ ps
 unfolding m.marks_of m.mark_in plain marked
@@ -151,22 +158,26 @@ first_place (MorePlace n by more) = n
 
 pub places-back : (ps : Places) (σ : Stack) → 3 ≤ top σ → m.places_of (first_place ps) (behind_place ps σ) ≡ (ps, σ)
 unfolding m.places_of m.direction_of m.numbered first_place behind_place push_direction
-places-back (OnlyPlace n Plain) σ h = ap (λ (d : Direction × Stack). m.numbered n d.0 d.1) (direction-free σ (omega arith)) ∙ numbered-free n Plain σ h
+places-back (OnlyPlace n Plain) σ h =
+    ap (λ (d : Direction × Stack). m.numbered n d.0 d.1) (direction-free σ (omega arith)) ∙ numbered-free n Plain σ h
 places-back (OnlyPlace n Ascending) σ h = numbered-free n Ascending σ h
 places-back (OnlyPlace n Descending) σ h = numbered-free n Descending σ h
 places-back (MorePlace n Plain more) σ h = refl
 places-back (MorePlace n Ascending more) σ h = refl
 places-back (MorePlace n Descending more) σ h = refl
 
-pub places-law : (ps : Places) (rest : List Token) → 3 ≤ top (fold rest) → fold (r.places ps rest) ≡ Raw (Number (first_place ps)) ∷ behind_place ps (fold rest)
+pub places-law : (ps : Places) (rest : List Token) → 3 ≤ top (fold rest)
+    → fold (r.places ps rest) ≡ Raw (Number (first_place ps)) ∷ behind_place ps (fold rest)
 unfolding m.fold m.step m.comma m.comma_token m.put_numbered r.places first_place behind_place
 places-law (OnlyPlace n by) rest h = ap (λ σ. Raw (Number n) ∷ σ) (direction-law by rest)
 places-law (MorePlace n by more) rest h =
-    let c : m.comma (fold (r.places more rest)) ≡ Numbered more ∷ fold rest = ap m.comma (places-law more rest h) ∙ ap m.put_numbered (places-back more (fold rest) h) in
+    let c : m.comma (fold (r.places more rest)) ≡ Numbered more ∷ fold rest =
+    ap m.comma (places-law more rest h) ∙ ap m.put_numbered (places-back more (fold rest) h) in
     ap (λ σ. Raw (Number n) ∷ σ) (direction-law by (Comma ∷ r.places more rest) ∙ ap (push_direction by) c)
 
 -- a sample
-pub seed-law : (s : Option Mark) (rest : List Token) → 4 ≤ top (fold rest) → m.seed_of (fold (r.seed s rest)) ≡ (s, fold rest)
+pub seed-law : (s : Option Mark) (rest : List Token) → 4 ≤ top (fold rest)
+    → m.seed_of (fold (r.seed s rest)) ≡ (s, fold rest)
 unfolding m.fold m.step m.word m.seeded m.seed_of m.open_bracket m.open_expression m.first m.mark_in r.seed
 seed-law None rest h = seed-free (fold rest) h
 seed-law (Some p) rest h = refl
@@ -174,7 +185,8 @@ seed-law (Some p) rest h = refl
 put_sample : SampleMethod → Mark → Option Mark × Stack → Stack
 put_sample by p (s, σ) = SampledBy (Sampled by p s) ∷ σ
 
-pub sample-law : (by : SampleMethod) (p : Mark) (s : Option Mark) (rest : List Token) → 4 ≤ top (fold rest) → fold (r.sample (Sampled by p s) rest) ≡ SampledBy (Sampled by p s) ∷ fold rest
+pub sample-law : (by : SampleMethod) (p : Mark) (s : Option Mark) (rest : List Token) → 4 ≤ top (fold rest)
+    → fold (r.sample (Sampled by p s) rest) ≡ SampledBy (Sampled by p s) ∷ fold rest
 unfolding m.fold m.step m.word m.sampled m.open_bracket m.open_expression m.first m.mark_in r.sample r.method put_sample
 sample-law Bernoulli p s rest h = ap (put_sample Bernoulli p) (seed-law s rest h)
 sample-law System p s rest h = ap (put_sample System p) (seed-law s rest h)
@@ -203,7 +215,8 @@ from-push (Table a ns true s) σ h = refl
 from-push (Alias a ns b) σ h = refl
 from-push (Join k a b e) σ h = refl
 
-pub open-push : (k : JoinKind) (a b : Source) (e : Expression) (σ : Stack) → m.open_bracket (push_source a (Right (JoinsTo k b e) ∷ σ)) ≡ push_source (Join k a b e) σ
+pub open-push : (k : JoinKind) (a b : Source) (e : Expression) (σ : Stack)
+    → m.open_bracket (push_source a (Right (JoinsTo k b e) ∷ σ)) ≡ push_source (Join k a b e) σ
 unfolding m.open_bracket m.open_expression m.open_source m.source_item m.complete m.name_in m.names_in push_source
 open-push k (Table a ns false Whole) b e σ = refl
 open-push k (Table a ns false (Sampled by p s)) b e σ = refl
@@ -211,22 +224,31 @@ open-push k (Table a ns true s) b e σ = refl
 open-push k (Alias a ns c) b e σ = refl
 open-push k (Join k' a c f) b e σ = refl
 
-pub kind-law : (k : JoinKind) (b : Source) (e : Expression) (u : List Token) (σ : Stack) → fold u ≡ push_source b (OnExpression e ∷ σ) → fold (r.kind k u) ≡ Right (JoinsTo k b e) ∷ σ
+pub kind-law : (k : JoinKind) (b : Source) (e : Expression) (u : List Token) (σ : Stack)
+    → fold u ≡ push_source b (OnExpression e ∷ σ) → fold (r.kind k u) ≡ Right (JoinsTo k b e) ∷ σ
 unfolding m.fold m.step m.word m.join m.join_of m.join_with m.join_on r.kind m.top m.rank
-kind-law Inner b e u σ h = ap (λ τ. m.join_of Inner (m.join τ)) h ∙ ap (λ p. m.join_of Inner (m.join_with p)) (source-back b (OnExpression e ∷ σ) (lit≤ tt))
-kind-law LeftOuter b e u σ h = ap (λ τ. m.join_of LeftOuter (m.join τ)) h ∙ ap (λ p. m.join_of LeftOuter (m.join_with p)) (source-back b (OnExpression e ∷ σ) (lit≤ tt))
+kind-law Inner b e u σ h =
+    ap (λ τ. m.join_of Inner (m.join τ)) h
+    ∙ ap (λ p. m.join_of Inner (m.join_with p)) (source-back b (OnExpression e ∷ σ) (lit≤ tt))
+kind-law LeftOuter b e u σ h =
+    ap (λ τ. m.join_of LeftOuter (m.join τ)) h
+    ∙ ap (λ p. m.join_of LeftOuter (m.join_with p)) (source-back b (OnExpression e ∷ σ) (lit≤ tt))
 
-pub table-law : (a : Name) (ns : List Name) (o : Bool) (s : Sample) (rest : List Token) → 4 ≤ top (fold rest) → fold (r.only o (r.names a ns (r.sample s rest))) ≡ push_source (Table a ns o s) (fold rest)
+pub table-law : (a : Name) (ns : List Name) (o : Bool) (s : Sample) (rest : List Token) → 4 ≤ top (fold rest)
+    → fold (r.only o (r.names a ns (r.sample s rest))) ≡ push_source (Table a ns o s) (fold rest)
 unfolding m.fold m.step m.word m.only m.only_item m.after_name m.name_in m.names_in r.only r.sample push_source m.top m.rank
 table-law a ns false Whole rest h = names-law a ns rest (omega arith)
-table-law a ns true Whole rest h = ap m.only (names-law a ns rest (omega arith)) ∙ ap m.only_item (after_name-free true a ns (fold rest) h)
+table-law a ns true Whole rest h =
+    ap m.only (names-law a ns rest (omega arith)) ∙ ap m.only_item (after_name-free true a ns (fold rest) h)
 table-law a ns false (Sampled by p s) rest h =
     let e = sample-law by p s rest h in names-law a ns _ (rw e (lit≤ tt)) ∙ ap (λ σ. E (Path a ns) ∷ σ) e
 table-law a ns true (Sampled by p s) rest h =
     let e = sample-law by p s rest h in ap m.only (names-law a ns _ (rw e (lit≤ tt)) ∙ ap (λ σ. E (Path a ns) ∷ σ) e)
 
-pub alias-law : (a : Name) (ns : List Name) (b : Name) (rest : List Token) → 4 ≤ top (fold rest) → fold (r.names a ns (Word AS ∷ Quoted b ∷ rest)) ≡ push_source (Alias a ns b) (fold rest)
+pub alias-law : (a : Name) (ns : List Name) (b : Name) (rest : List Token) → 4 ≤ top (fold rest)
+    → fold (r.names a ns (Word AS ∷ Quoted b ∷ rest)) ≡ push_source (Alias a ns b) (fold rest)
 unfolding m.fold m.step m.word m.alias_as m.name_in m.names_in push_source m.top m.rank
 alias-law a ns b rest h =
-    let e : m.alias_as (m.quoted b (fold rest)) ≡ AliasAs b ∷ fold rest = ap m.alias_as (quoted-free b (fold rest) (omega arith)) in
+    let e : m.alias_as (m.quoted b (fold rest)) ≡ AliasAs b ∷ fold rest =
+    ap m.alias_as (quoted-free b (fold rest) (omega arith)) in
     names-law a ns _ (rw e (lit≤ tt)) ∙ ap (λ σ. E (Path a ns) ∷ σ) e

@@ -47,45 +47,57 @@ unfolding lex.put lex.ending lex.extended
 whole d t [] = ends d (Whole t) t [] refl tt
 whole d t (c ∷ cs) = ends d (Whole t) t (c ∷ cs) refl refl
 
-pub name-rule : (d : Dialect) (name rest : List ℕ) → NoQuoteAt d rest → tokens d (quoted d name ++ rest) ≡ in_front (Quoted name) (tokens d rest)
+pub name-rule : (d : Dialect) (name rest : List ℕ) → NoQuoteAt d rest
+    → tokens d (quoted d name ++ rest) ≡ in_front (Quoted name) (tokens d rest)
 unfolding lex.put lex.ending
-name-rule d name rest h = quoted-name d name rest ∙ ends d (AfterQuote name) (Quoted name) rest refl (quote-stops d name rest h)
+name-rule d name rest h =
+    quoted-name d name rest ∙ ends d (AfterQuote name) (Quoted name) rest refl (quote-stops d name rest h)
 
 pub space-rule : (d : Dialect) (rest : List ℕ) → tokens d (32 ∷ rest) ≡ tokens d rest
 unfolding lex.tokens_from lex.from_extended lex.from_begun lex.put lex.extended lex.begun lex.ending spell.is_letter spell.is_digit
 space-rule d rest = refl
 
-pub word-rule : (d : Dialect) (w rest : List ℕ) → 0 < length w → all_letters w ≡ true → NotAt is_letter rest → tokens d (w ++ rest) ≡ in_front (word_of w) (tokens d rest)
+pub word-rule : (d : Dialect) (w rest : List ℕ) → 0 < length w → all_letters w ≡ true → NotAt is_letter rest
+    → tokens d (w ++ rest) ≡ in_front (word_of w) (tokens d rest)
 unfolding lex.put
 word-rule d w rest n h stop = word-run-ends d w rest h n (letter-stops d w rest stop)
 
 pub keyword-rule : (k : Keyword) → word_of (spelling k) ≡ Word k
 keyword-rule k = word_of-spelling k
 
-pub number-rule : (d : Dialect) (w rest : List ℕ) → 0 < length w → all_digits w ≡ true → NotAt is_digit rest → tokens d (w ++ rest) ≡ in_front (Number w) (tokens d rest)
+pub number-rule : (d : Dialect) (w rest : List ℕ) → 0 < length w → all_digits w ≡ true → NotAt is_digit rest
+    → tokens d (w ++ rest) ≡ in_front (Number w) (tokens d rest)
 unfolding lex.put
 number-rule d w rest n h stop = number-ends d w rest h n (digit-stops d w rest stop)
 
-pub dollar-rule : (w rest : List ℕ) → 0 < length w → all_digits w ≡ true → NotAt is_digit rest → is_placeholder_number w ≡ true → tokens Pg (36 ∷ (w ++ rest)) ≡ in_front (Mark (Some (value_of w))) (tokens Pg rest)
+pub dollar-rule : (w rest : List ℕ) → 0 < length w → all_digits w ≡ true → NotAt is_digit rest
+    → is_placeholder_number w ≡ true
+    → tokens Pg (36 ∷ (w ++ rest)) ≡ in_front (Mark (Some (value_of w))) (tokens Pg rest)
 unfolding lex.put
 dollar-rule w rest n h stop u =
-    dollar-run w rest h n ∙ ends Pg (InPlaceholder w) (Mark (Some (value_of w))) rest (placeholder-ending w u) (place-stops Pg w rest stop)
+    dollar-run w rest h n
+    ∙ ends Pg (InPlaceholder w) (Mark (Some (value_of w))) rest (placeholder-ending w u)
+    (place-stops Pg w rest stop)
 
-broken : (w rest : List ℕ) → is_placeholder_number w ≡ false → Stops Pg (InPlaceholder w) rest → tokens_from Pg (InPlaceholder w) rest ≡ None
+broken : (w rest : List ℕ) → is_placeholder_number w ≡ false → Stops Pg (InPlaceholder w) rest
+    → tokens_from Pg (InPlaceholder w) rest ≡ None
 unfolding lex.tokens_from lex.put lex.from_extended lex.ending
 broken w [] u stop = rw u refl
 broken w (c ∷ cs) u stop = rw (stop, u) refl
 
-pub no_number-rule : (w rest : List ℕ) → 0 < length w → all_digits w ≡ true → NotAt is_digit rest → is_placeholder_number w ≡ false → tokens Pg (36 ∷ (w ++ rest)) ≡ None
+pub no_number-rule : (w rest : List ℕ) → 0 < length w → all_digits w ≡ true → NotAt is_digit rest
+    → is_placeholder_number w ≡ false → tokens Pg (36 ∷ (w ++ rest)) ≡ None
 no_number-rule w rest n h stop u = dollar-run w rest h n ∙ broken w rest u (place-stops Pg w rest stop)
 
-pub question-rule : (d : Dialect) (rest : List ℕ) → numbers d ≡ false → tokens d (63 ∷ rest) ≡ in_front (Mark None) (tokens d rest)
+pub question-rule : (d : Dialect) (rest : List ℕ) → numbers d ≡ false
+    → tokens d (63 ∷ rest) ≡ in_front (Mark None) (tokens d rest)
 unfolding lex.tokens_from lex.from_extended lex.from_begun lex.put lex.extended lex.begun lex.begun_name lex.begun_placeholder spell.quote lex.ending spell.is_letter spell.is_digit
 question-rule Pg rest h = cc
 question-rule Mysql rest h = whole Mysql (Mark None) rest
 question-rule Sqlite rest h = whole Sqlite (Mark None) rest
 
-pub comparison-rule : (d : Dialect) (by : Comparison) (rest : List ℕ) → IsLongest by rest → tokens d (spell.sign_text by rest) ≡ in_front (Sign by) (tokens d rest)
+pub comparison-rule : (d : Dialect) (by : Comparison) (rest : List ℕ) → IsLongest by rest
+    → tokens d (spell.sign_text by rest) ≡ in_front (Sign by) (tokens d rest)
 unfolding lex.tokens_from lex.from_extended lex.from_begun lex.put lex.extended lex.begun lex.ending spell.is_letter spell.is_digit spell.sign_text
 comparison-rule d Equal rest h = whole d (Sign Equal) rest
 comparison-rule d NotEqual rest h = whole d (Sign NotEqual) rest
@@ -127,7 +139,8 @@ end-rule d = refl
 pub unclosed-rule : (d : Dialect) (name : List ℕ) → tokens d (quote d ∷ doubled (quote d) name) ≡ None
 unfolding lex.tokens_from lex.put lex.ending
 unclosed-rule d name =
-    opening-quote d (doubled (quote d) name) ∙ ap (tokens_from d (InName [])) (sym (append-nil (doubled (quote d) name))) ∙ name-run d [] name []
+    opening-quote d (doubled (quote d) name)
+    ∙ ap (tokens_from d (InName [])) (sym (append-nil (doubled (quote d) name))) ∙ name-run d [] name []
 
 bang-broken : (d : Dialect) (rest : List ℕ) → NotAt is_equal rest → tokens_from d AfterBang rest ≡ None
 unfolding lex.tokens_from lex.put lex.from_extended lex.extended lex.ending

@@ -24,20 +24,23 @@ unfolding m.rank m.top m.query_in m.mark_in m.name_in m.names_in m.first m.marks
 candidate_of ts = m.candidate ts
 
 -- Where the machine finds nothing, or what doesn't fit, there is no reading.
-not_found : (d : Dialect) (text : List ℕ) (ts : List Token) → tokens d text ≡ Some ts → m.candidate ts ≡ None → (q : Query) → IsReading d text q → ⊥
+not_found : (d : Dialect) (text : List ℕ) (ts : List Token) → tokens d text ≡ Some ts → m.candidate ts ≡ None
+    → (q : Query) → IsReading d text q → ⊥
 not_found d text ts e none q h =
     let same : h.0 ≡ ts = some_back (sym h.1 ∙ e) in
     let is = found d h.0 q h.2 in
     none_some (sym none ∙ ap m.candidate (sym same) ∙ is)
 
-misfit : (d : Dialect) (text : List ℕ) (ts : List Token) (other : Query) → tokens d text ≡ Some ts → m.candidate ts ≡ Some other → (f.FitsQuery d other → ⊥) → (q : Query) → IsReading d text q → ⊥
+misfit : (d : Dialect) (text : List ℕ) (ts : List Token) (other : Query) → tokens d text ≡ Some ts
+    → m.candidate ts ≡ Some other → (f.FitsQuery d other → ⊥) → (q : Query) → IsReading d text q → ⊥
 misfit d text ts other e one lacks q h =
     let same : h.0 ≡ ts = some_back (sym h.1 ∙ e) in
     let is : q ≡ other = some_back (sym (found d h.0 q h.2) ∙ ap m.candidate same ∙ one) in
     lacks (subst (f.FitsQuery d) is h.2.0)
 
 -- what the machine finds has other tokens
-mistaken : (d : Dialect) (text : List ℕ) (ts : List Token) (other : Query) → tokens d text ≡ Some ts → m.candidate ts ≡ Some other → (ts ≡ r.query d other [] → ⊥) → (q : Query) → IsReading d text q → ⊥
+mistaken : (d : Dialect) (text : List ℕ) (ts : List Token) (other : Query) → tokens d text ≡ Some ts
+    → m.candidate ts ≡ Some other → (ts ≡ r.query d other [] → ⊥) → (q : Query) → IsReading d text q → ⊥
 mistaken d text ts other e one differ q h =
     let same : h.0 ≡ ts = some_back (sym h.1 ∙ e) in
     let is : q ≡ other = some_back (sym (found d h.0 q h.2) ∙ ap m.candidate same ∙ one) in
@@ -48,26 +51,35 @@ no_tokens : (d : Dialect) (text : List ℕ) → tokens d text ≡ None → (q : 
 no_tokens d text e q h = none_some (sym e ∙ h.1)
 
 select_value : Query
-select_value = Select Every (OnlyExpression (Placeholder None)) NoSource NoExpression NoExpressions NoExpression NoItems (PageBy None None) Unlocked
+select_value =
+    Select Every (OnlyExpression (Placeholder None)) NoSource NoExpression NoExpressions NoExpression NoItems
+    (PageBy None None) Unlocked
 
 select_locked : Query
-select_locked = Select Every (OnlyExpression (Placeholder None)) NoSource NoExpression NoExpressions NoExpression NoItems (PageBy None None) (Locks ForUpdate Waits)
+select_locked =
+    Select Every (OnlyExpression (Placeholder None)) NoSource NoExpression NoExpressions NoExpression NoItems
+    (PageBy None None) (Locks ForUpdate Waits)
 
 pub lock_on_sqlite : (q : Query) → IsReading Sqlite (codes "SELECT ? FOR UPDATE") q → ⊥
 unfolding computed candidate_of select_locked f.FitsQuery
-lock_on_sqlite = misfit Sqlite (codes "SELECT ? FOR UPDATE") (Word SELECT ∷ Mark None ∷ Word FOR ∷ Word UPDATE ∷ []) select_locked refl refl (λ h. h.8)
+lock_on_sqlite =
+    misfit Sqlite (codes "SELECT ? FOR UPDATE") (Word SELECT ∷ Mark None ∷ Word FOR ∷ Word UPDATE ∷ []) select_locked
+    refl refl (λ h. h.8)
 
 pub intersect_on_mysql : (q : Query) → IsReading Mysql (codes "(SELECT ?) INTERSECT (SELECT ?)") q → ⊥
 unfolding computed candidate_of select_value f.FitsQuery
 intersect_on_mysql =
-    misfit Mysql (codes "(SELECT ?) INTERSECT (SELECT ?)") (Open ∷ Word SELECT ∷ Mark None ∷ Close ∷ Word INTERSECT ∷ Open ∷ Word SELECT ∷ Mark None ∷ Close ∷ [])
+    misfit Mysql (codes "(SELECT ?) INTERSECT (SELECT ?)")
+    (Open ∷ Word SELECT ∷ Mark None ∷ Close ∷ Word INTERSECT ∷ Open ∷ Word SELECT ∷ Mark None ∷ Close ∷ [])
     (Combined select_value Intersect false select_value NoPlaces (PageBy None None)) refl refl (λ h. h.1)
 
 bare_tokens : List Token
 bare_tokens = Word SELECT ∷ Mark (Some 1) ∷ Word WHERE ∷ Mark (Some 2) ∷ Sign Equal ∷ Mark (Some 3) ∷ []
 
 select_where : Query
-select_where = Select Every (OnlyExpression (Placeholder (Some 1))) NoSource (SomeExpression (Placeholder (Some 2))) NoExpressions NoExpression NoItems (PageBy None None) Unlocked
+select_where =
+    Select Every (OnlyExpression (Placeholder (Some 1))) NoSource (SomeExpression (Placeholder (Some 2))) NoExpressions
+    NoExpression NoItems (PageBy None None) Unlocked
 
 longer : bare_tokens ≡ r.query Pg select_where [] → ⊥
 unfolding bare_tokens select_where r.query r.page r.lock

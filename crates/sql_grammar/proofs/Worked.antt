@@ -18,7 +18,9 @@ unfoldable pub computed : Dialect → List ℕ → Option (List Token)
 unfolding lex.tokens_from lex.from_extended lex.from_begun lex.put lex.ending lex.extended lex.begun lex.begun_name lex.begun_placeholder spell.quote spell.is_letter spell.is_digit spell.word_of spell.word_among spell.same_bytes spell.spelling spell.value_after spell.is_placeholder_number
 computed d text = tokens d text
 
-pub spaces : tokens Pg (codes "SELECT   ( \"a\".\"x\"=$7 )") ≡ Some (Word SELECT ∷ Open ∷ Quoted (codes "a") ∷ Dot ∷ Quoted (codes "x") ∷ Sign Equal ∷ Mark (Some 7) ∷ Close ∷ [])
+pub spaces : tokens Pg (codes "SELECT   ( \"a\".\"x\"=$7 )")
+    ≡ Some (Word SELECT ∷ Open ∷ Quoted (codes "a") ∷ Dot ∷ Quoted (codes "x") ∷ Sign Equal ∷ Mark (Some 7) ∷ Close
+    ∷ [])
 unfolding computed
 spaces = refl
 
@@ -42,7 +44,8 @@ pub lower : tokens Pg (codes "select") ≡ Some (Unknown (codes "select") ∷ []
 unfolding computed
 lower = refl
 
-pub digits : tokens Mysql (codes "x007<=1") ≡ Some (Unknown (codes "x") ∷ Number (codes "007") ∷ Sign LessOrEqual ∷ Number (codes "1") ∷ [])
+pub digits : tokens Mysql (codes "x007<=1")
+    ≡ Some (Unknown (codes "x") ∷ Number (codes "007") ∷ Sign LessOrEqual ∷ Number (codes "1") ∷ [])
 unfolding computed
 digits = refl
 

@@ -7,7 +7,8 @@ use Rattle.sql_grammar.specs.MarkTree.{Descending, LeftOuter, System, Union, Exc
 abbrev pub pg_text : List ℕ
 pg_text =
     codes "SELECT DISTINCT ON ( \"u\".\"id\" ) \"u\".\"id\",COUNT( * ) FROM (\"users\" AS \"u\""
-    ++ (codes " LEFT OUTER JOIN ONLY \"blog\".\"posts\" TABLESAMPLE SYSTEM($1) ON (\"u\".\"id\"=\"blog\".\"posts\".\"user_id\"))"
+    ++ (codes
+    " LEFT OUTER JOIN ONLY \"blog\".\"posts\" TABLESAMPLE SYSTEM($1) ON (\"u\".\"id\"=\"blog\".\"posts\".\"user_id\"))"
     ++ codes " WHERE(\"u\".\"id\"=ANY($2))ORDER BY \"u\".\"id\" DESC LIMIT $3 FOR UPDATE SKIP LOCKED")
 
 abbrev pub user_id : Expression
@@ -25,7 +26,8 @@ posts = Table (codes "blog") (codes "posts" ∷ []) true (Sampled System (Some 1
 abbrev pub pg_query : Query
 pg_query =
     Select (DistinctOn (OnlyExpression user_id)) (MoreExpression user_id (OnlyExpression CountAll))
-    (SomeSource (Join LeftOuter users posts (Compared Equal user_id author))) (SomeExpression (InList false user_id (Some 2) [])) NoExpressions NoExpression
+    (SomeSource (Join LeftOuter users posts (Compared Equal user_id author)))
+    (SomeExpression (InList false user_id (Some 2) [])) NoExpressions NoExpression
     (SomeItems (OnlyItem user_id Descending)) (PageBy (Some (Some 3)) None) (Locks ForUpdate SkipLocked)
 
 -- On Mysql: a union of two selections, one with a list and one with an offset alone, in the order of its first column.
@@ -43,9 +45,11 @@ table_a = SomeSource (Table (codes "a") [] false Whole)
 abbrev pub mysql_query : Query
 mysql_query =
     Combined
-    (Select Every (OnlyExpression column_x) table_a (SomeExpression (InList true column_x None (None ∷ []))) NoExpressions NoExpression NoItems (PageBy None None) Unlocked)
+    (Select Every (OnlyExpression column_x) table_a (SomeExpression (InList true column_x None (None ∷ [])))
+    NoExpressions NoExpression NoItems (PageBy None None) Unlocked)
     Union true
-    (Select Every (OnlyExpression column_x) table_a NoExpression NoExpressions NoExpression NoItems (PageBy None (Some None)) Unlocked)
+    (Select Every (OnlyExpression column_x) table_a NoExpression NoExpressions NoExpression NoItems
+    (PageBy None (Some None)) Unlocked)
     (SomePlaces (OnlyPlace (codes "1") Descending)) (PageBy None None)
 
 -- On Sqlite: groups, without what a selection gives whose condition is false whatever the row.
@@ -60,5 +64,6 @@ sqlite_query =
     (Select Every (OnlyExpression column_x) table_a NoExpression (SomeExpressions (OnlyExpression column_x))
     (SomeExpression (Compared Greater CountAll (Placeholder None))) NoItems (PageBy None None) Unlocked)
     Except false
-    (Select Every (OnlyExpression (Placeholder None)) NoSource (SomeExpression (Constant false)) NoExpressions NoExpression NoItems (PageBy None None) Unlocked)
+    (Select Every (OnlyExpression (Placeholder None)) NoSource (SomeExpression (Constant false)) NoExpressions
+    NoExpression NoItems (PageBy None None) Unlocked)
     NoPlaces (PageBy None (Some None))

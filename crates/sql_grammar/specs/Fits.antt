@@ -176,7 +176,9 @@ unfoldable mutual
 
   pub FitsQuery : Dialect → Query → Type 0
   FitsQuery d (Select distinctness selection source filter group having order page lock) =
-      FitsDistinctness d distinctness × FitsExpressions d selection × FitsMaybeSource d source × FitsMaybeExpression d filter
-      × FitsMaybeExpressions d group × FitsMaybeExpression d having × FitsMaybeItems d order × FitsPage d page × FitsLock d lock
+      FitsDistinctness d distinctness × FitsExpressions d selection × FitsMaybeSource d source
+      × FitsMaybeExpression d filter
+      × FitsMaybeExpressions d group × FitsMaybeExpression d having × FitsMaybeItems d order × FitsPage d page
+      × FitsLock d lock
   FitsQuery d (Combined a by all b order page) =
       FitsQuery d a × FitsOperator d by all × FitsQuery d b × FitsMaybePlaces order × FitsOuterPage d page

@@ -179,8 +179,10 @@ unfoldable mutual
   expression d (NullTest negated a) rest = Open ∷ expression d a (null_test negated (Close ∷ rest))
   expression d CountAll rest = Word COUNT ∷ Open ∷ Star ∷ Close ∷ rest
   expression d (Count a) rest = Word COUNT ∷ Open ∷ expression d a (Close ∷ rest)
-  expression d (InList negated a m ms) rest = Open ∷ expression d a (among d negated (Open ∷ marks m ms (Close ∷ Close ∷ rest)))
-  expression d (InQuery negated a q) rest = Open ∷ expression d a (among d negated (Open ∷ query d q (Close ∷ Close ∷ rest)))
+  expression d (InList negated a m ms) rest =
+      Open ∷ expression d a (among d negated (Open ∷ marks m ms (Close ∷ Close ∷ rest)))
+  expression d (InQuery negated a q) rest =
+      Open ∷ expression d a (among d negated (Open ∷ query d q (Close ∷ Close ∷ rest)))
   expression d (Constant b) rest = Open ∷ Number (codes "1") ∷ Sign Equal ∷ Number (constant b) ∷ Close ∷ rest
 
   -- Expression..
@@ -241,9 +243,13 @@ unfoldable mutual
   pub query : Dialect → Query → Front
   query d (Select u list f w g h o p l) rest =
       Word SELECT
-      ∷ distinct d u (expressions d list (from d f (where_by d w (group_by d g (having_by d h (order_by d o (page d p (lock l rest))))))))
+      ∷ distinct d u
+      (expressions d list
+      (from d f (where_by d w (group_by d g (having_by d h (order_by d o (page d p (lock l rest))))))))
   query d (Combined a by all b o p) rest =
-      side_open d (query d a (Close ∷ operator by ∷ all_word all (side_open d (query d b (Close ∷ by_places o (page d p rest))))))
+      side_open d
+      (query d a
+      (Close ∷ operator by ∷ all_word all (side_open d (query d b (Close ∷ by_places o (page d p rest))))))
 
 -- ## Readings of token lists
 

@@ -98,19 +98,23 @@ abbrev mutual
   each_expression f n (Placeholder m) = Placeholder (f n m)
   each_expression f n (SingleValue q) = SingleValue (each_query f n q)
   each_expression f n (Exists q) = Exists (each_query f n q)
-  each_expression f n (Compared by a b) = Compared by (each_expression f n a) (each_expression f (after_expression n a) b)
-  each_expression f n (Connected by a b) = Connected by (each_expression f n a) (each_expression f (after_expression n a) b)
+  each_expression f n (Compared by a b) =
+      Compared by (each_expression f n a) (each_expression f (after_expression n a) b)
+  each_expression f n (Connected by a b) =
+      Connected by (each_expression f n a) (each_expression f (after_expression n a) b)
   each_expression f n (Not a) = Not (each_expression f n a)
   each_expression f n (NullTest b a) = NullTest b (each_expression f n a)
   each_expression f n CountAll = CountAll
   each_expression f n (Count a) = Count (each_expression f n a)
-  each_expression f n (InList b a m ms) = InList b (each_expression f n a) (f (after_expression n a) m) (each_marks f (suc (after_expression n a)) ms)
+  each_expression f n (InList b a m ms) =
+      InList b (each_expression f n a) (f (after_expression n a) m) (each_marks f (suc (after_expression n a)) ms)
   each_expression f n (InQuery b a q) = InQuery b (each_expression f n a) (each_query f (after_expression n a) q)
   each_expression f n (Constant b) = Constant b
 
   pub each_expressions : {M N : Type 0} → (ℕ → M → N) → ℕ → Expressions M → Expressions N
   each_expressions f n (OnlyExpression a) = OnlyExpression (each_expression f n a)
-  each_expressions f n (MoreExpression a more) = MoreExpression (each_expression f n a) (each_expressions f (after_expression n a) more)
+  each_expressions f n (MoreExpression a more) =
+      MoreExpression (each_expression f n a) (each_expressions f (after_expression n a) more)
 
   pub each_items : {M N : Type 0} → (ℕ → M → N) → ℕ → Items M → Items N
   each_items f n (OnlyItem a by) = OnlyItem (each_expression f n a) by
@@ -120,7 +124,8 @@ abbrev mutual
   each_source f n (Table a ns o s) = Table a ns o (each_sample f n s)
   each_source f n (Alias a ns b) = Alias a ns b
   each_source f n (Join k a b e) =
-      Join k (each_source f n a) (each_source f (after_source n a) b) (each_expression f (after_source (after_source n a) b) e)
+      Join k (each_source f n a) (each_source f (after_source n a) b)
+      (each_expression f (after_source (after_source n a) b) e)
 
   pub each_maybe : {M N : Type 0} → (ℕ → M → N) → ℕ → MaybeExpression M → MaybeExpression N
   each_maybe f n NoExpression = NoExpression
@@ -155,7 +160,8 @@ abbrev mutual
       Select (each_distinct f n u) (each_expressions f n1 es) (each_maybe_source f n2 s) (each_maybe f n3 w)
       (each_maybe_expressions f n4 g) (each_maybe f n5 h) (each_maybe_items f n6 o) (each_page f n7 p) l
   each_query f n (Combined a by all b o p) =
-      Combined (each_query f n a) by all (each_query f (after_query n a) b) o (each_page f (after_query (after_query n a) b) p)
+      Combined (each_query f n a) by all (each_query f (after_query n a) b) o
+      (each_page f (after_query (after_query n a) b) p)
 
 -- ## Normal trees and filled trees
 

@@ -61,7 +61,11 @@ spelling ANY = codes "ANY"
 spelling IN = codes "IN"
 
 abbrev pub keywords : List Keyword
-keywords = SELECT ∷ DISTINCT ∷ ON ∷ FROM ∷ WHERE ∷ GROUP ∷ BY ∷ HAVING ∷ ORDER ∷ ASC ∷ DESC ∷ LIMIT ∷ OFFSET ∷ FOR ∷ UPDATE ∷ SHARE ∷ NO ∷ KEY ∷ SKIP ∷ LOCKED ∷ NOWAIT ∷ UNION ∷ INTERSECT ∷ EXCEPT ∷ ALL ∷ AS ∷ ONLY ∷ TABLESAMPLE ∷ BERNOULLI ∷ SYSTEM ∷ REPEATABLE ∷ INNER ∷ LEFT ∷ OUTER ∷ JOIN ∷ EXISTS ∷ AND ∷ OR ∷ NOT ∷ IS ∷ NULL ∷ COUNT ∷ ANY ∷ IN ∷ []
+keywords =
+    SELECT ∷ DISTINCT ∷ ON ∷ FROM ∷ WHERE ∷ GROUP ∷ BY ∷ HAVING ∷ ORDER ∷ ASC ∷ DESC ∷ LIMIT ∷ OFFSET ∷ FOR ∷ UPDATE
+    ∷ SHARE ∷ NO ∷ KEY ∷ SKIP ∷ LOCKED ∷ NOWAIT ∷ UNION ∷ INTERSECT ∷ EXCEPT ∷ ALL ∷ AS ∷ ONLY ∷ TABLESAMPLE
+    ∷ BERNOULLI ∷ SYSTEM ∷ REPEATABLE ∷ INNER ∷ LEFT ∷ OUTER ∷ JOIN ∷ EXISTS ∷ AND ∷ OR ∷ NOT ∷ IS ∷ NULL ∷ COUNT
+    ∷ ANY ∷ IN ∷ []
 
 unfoldable pub same_bytes : List ℕ → List ℕ → Bool
 same_bytes [] [] = true

@@ -132,14 +132,17 @@ unfoldable mutual
   expression d (Placeholder p) rest = mark p rest
   expression d (SingleValue q) rest = codes "(" ++ query d q (codes ")" ++ rest)
   expression d (Exists q) rest = codes "EXISTS (" ++ query d q (codes ")" ++ rest)
-  expression d (Compared by a b) rest = codes "(" ++ expression d a (codes " " ++ sign_text by (codes " " ++ expression d b (codes ")" ++ rest)))
+  expression d (Compared by a b) rest =
+      codes "(" ++ expression d a (codes " " ++ sign_text by (codes " " ++ expression d b (codes ")" ++ rest)))
   expression d (Connected by a b) rest = codes "(" ++ expression d a (logic by (expression d b (codes ")" ++ rest)))
   expression d (Not a) rest = codes "NOT (" ++ expression d a (codes ")" ++ rest)
   expression d (NullTest negated a) rest = codes "(" ++ expression d a (null_test negated rest)
   expression d CountAll rest = codes "COUNT(*)" ++ rest
   expression d (Count a) rest = codes "COUNT(" ++ expression d a (codes ")" ++ rest)
-  expression d (InList negated a p ps) rest = codes "(" ++ expression d a (among d negated (marks p ps (codes "))" ++ rest)))
-  expression d (InQuery negated a q) rest = codes "(" ++ expression d a (among d negated (query d q (codes "))" ++ rest)))
+  expression d (InList negated a p ps) rest =
+      codes "(" ++ expression d a (among d negated (marks p ps (codes "))" ++ rest)))
+  expression d (InQuery negated a q) rest =
+      codes "(" ++ expression d a (among d negated (query d q (codes "))" ++ rest)))
   expression d (Constant b) rest = constant b rest
 
   pub expressions : Dialect → Expressions → Text → Text
@@ -153,7 +156,8 @@ unfoldable mutual
   pub source : Dialect → Source → Text → Text
   source d (Table a ns o s) rest = only o (names d a ns (sample s rest))
   source d (Alias a ns b) rest = names d a ns (codes " AS " ++ (quoted d b ++ rest))
-  source d (Join k a b e) rest = codes "(" ++ source d a (kind k (source d b (codes " ON " ++ expression d e (codes ")" ++ rest))))
+  source d (Join k a b e) rest =
+      codes "(" ++ source d a (kind k (source d b (codes " ON " ++ expression d e (codes ")" ++ rest))))
 
   pub from : Dialect → MaybeSource → Text → Text
   from d NoSource rest = rest
@@ -183,9 +187,14 @@ unfoldable mutual
   pub query : Dialect → Query → Text → Text
   query d (Select u es f w g h o p l) rest =
       codes "SELECT "
-      ++ distinct d u (expressions d es (from d f (where_by d w (group_by d g (having_by d h (order_by d o (page d p (lock l rest))))))))
+      ++ distinct d u
+      (expressions d es
+      (from d f (where_by d w (group_by d g (having_by d h (order_by d o (page d p (lock l rest))))))))
   query d (Combined a by all b o p) rest =
-      side_open d (query d a (codes ")" ++ operator by (all_word all (side_open d (query d b (codes ")" ++ by_places o (page d p rest)))))))
+      side_open d
+      (query d a
+      (codes ")"
+      ++ operator by (all_word all (side_open d (query d b (codes ")" ++ by_places o (page d p rest)))))))
 
 -- the whole text of a query
 unfoldable pub text : Dialect → Query → Text

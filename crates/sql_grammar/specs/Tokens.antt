@@ -103,7 +103,8 @@ unfoldable pub from_begun : Option State → (State → Option (List Token)) →
 from_begun (Some s) go = go s
 from_begun None go = None
 
-unfoldable pub from_extended : Option State → Ending → Option State → (State → Option (List Token)) → Option (List Token)
+unfoldable pub from_extended : Option State → Ending → Option State → (State → Option (List Token))
+    → Option (List Token)
 from_extended (Some s) e b go = go s
 from_extended None e b go = put e (from_begun b go)
 

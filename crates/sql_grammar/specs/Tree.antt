@@ -134,7 +134,8 @@ mutual
   pub data Query (P : Type 0) : Type 0 where
     -- the distinctness and list of the selection, FROM, WHERE, GROUP BY, HAVING, ORDER BY, the page and the lock
     Select :
-        Distinctness P → Expressions P → (source : MaybeSource P) → (filter : MaybeExpression P) → (group : MaybeExpressions P)
+        Distinctness P → Expressions P → (source : MaybeSource P) → (filter : MaybeExpression P)
+        → (group : MaybeExpressions P)
         → (having : MaybeExpression P) → (order : MaybeItems P) → Page P → Lock → Query P
     -- a combination of two queries, with ALL where the flag is true
     Combined : Query P → SetOperator → Bool → Query P → MaybePlaces → Page P → Query P

@@ -69,5 +69,8 @@ abbrev mutual
   pub values_query : {M : Type 0} → Query M → List M
   values_query (Select u es s w gb hv o p l) =
       values_distinct u
-      ++ (values_expressions es ++ (values_maybe_source s ++ (values_maybe w ++ (values_maybe_expressions gb ++ (values_maybe hv ++ (values_maybe_items o ++ values_page p))))))
+      ++ (values_expressions es
+      ++ (values_maybe_source s
+      ++ (values_maybe w
+      ++ (values_maybe_expressions gb ++ (values_maybe hv ++ (values_maybe_items o ++ values_page p))))))
   values_query (Combined a by all b o p) = values_query a ++ (values_query b ++ values_page p)

@@ -61,7 +61,8 @@ pub fn token_rules()
     ensures numbered { (digits rest : List ℕ) →
         0 < length digits → IsTrue (all_digits digits) → NotAt is_digit rest →
         IsTrue (is_placeholder_number digits) →
-        tokens Pg (codes "$" ++ (digits ++ rest)) ≡ in_front (Mark (Some (value_of digits))) (tokens Pg rest) }
+        tokens Pg (codes "$" ++ (digits ++ rest))
+        ≡ in_front (Mark (Some (value_of digits))) (tokens Pg rest) }
     ensures misnumbered { (digits rest : List ℕ) →
         0 < length digits → IsTrue (all_digits digits) → NotAt is_digit rest →
         IsFalse (is_placeholder_number digits) →
@@ -105,7 +106,8 @@ pub fn token_rules()
 /// with no token before it, as a space, a bracket, a comma or a dot.
 pub fn joined_texts()
     ensures { (d : Dialect) (a : List ℕ) (c : ℕ) (b : List ℕ) (xs ys : List Token) → Breaks c →
-        tokens d a ≡ Some xs → tokens d (c ∷ b) ≡ Some ys → tokens d (a ++ c ∷ b) ≡ Some (xs ++ ys) }
+        tokens d a ≡ Some xs → tokens d (c ∷ b) ≡ Some ys
+        → tokens d (a ++ c ∷ b) ≡ Some (xs ++ ys) }
 {}
 
 /// What the program writes for a tree that the dialect has is read as that tree, and as no other. The placeholder of a value
@@ -127,7 +129,9 @@ pub fn filled_by_values<V>()
 /// The tokens of some texts, computed.
 pub fn worked_tokens()
     ensures spaces { tokens Pg (codes "SELECT   ( \"a\".\"x\"=$7 )") ≡
-        Some (Word SELECT ∷ Open ∷ Quoted (codes "a") ∷ Dot ∷ Quoted (codes "x") ∷ Sign Equal ∷ Mark (Some 7) ∷ Close ∷ []) }
+        Some
+        (Word SELECT ∷ Open ∷ Quoted (codes "a") ∷ Dot ∷ Quoted (codes "x") ∷ Sign Equal
+        ∷ Mark (Some 7) ∷ Close ∷ []) }
 
     // Each quote inside a name is doubled. Another dialect's quote is a byte of the name.
     ensures doubled { tokens Pg (codes "\"a\"\"b`\"") ≡ Some (Quoted (codes "a\"b`") ∷ []) }
@@ -139,7 +143,9 @@ pub fn worked_tokens()
     // Words are spelled in capital letters, digits are kept, and of two signs the longer one is taken.
     ensures lower { tokens Pg (codes "select") ≡ Some (Unknown (codes "select") ∷ []) }
     ensures digits { tokens Mysql (codes "x007<=1") ≡
-        Some (Unknown (codes "x") ∷ Number (codes "007") ∷ Sign LessOrEqual ∷ Number (codes "1") ∷ []) }
+        Some
+        (Unknown (codes "x") ∷ Number (codes "007") ∷ Sign LessOrEqual ∷ Number (codes "1")
+        ∷ []) }
 
     // Placeholders have a number from 1 to 4294967295 on Pg, and none elsewhere.
     ensures last { tokens Pg (codes "$4294967295") ≡ Some (Mark (Some 4294967295) ∷ []) }

@@ -10,6 +10,8 @@ use Rattle.sql_rules.specs.Scope.{Part, parts}
 use Rattle.sql_rules.specs.declared.rule.Rule.{Rule}
 use Rattle.sql_rules.specs.declared.rule.Rule.TheVariants as R
 
-pub broken-inside : (r : Rule) → ¬ (r ≡ R.TooManyBinds) → (schema : Declarations) (d : Dialect) (s : Statement) (ps : List Part) → ps ≡ parts [] s → (b : Bool) → Decides b (AnyOf (PartBreaks r schema d) ps) → Decides b (Broken r schema d s)
+pub broken-inside : (r : Rule) → ¬ (r ≡ R.TooManyBinds)
+    → (schema : Declarations) (d : Dialect) (s : Statement) (ps : List Part) → ps ≡ parts [] s → (b : Bool)
+    → Decides b (AnyOf (PartBreaks r schema d) ps) → Decides b (Broken r schema d s)
 broken-inside R.TooManyBinds n schema d s ps e b h = absurd (n refl)
 broken-inside r n schema d s ps e b h = subst (λ qs. Decides b (AnyOf (PartBreaks r schema d) qs)) e h

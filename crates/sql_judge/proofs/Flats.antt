@@ -26,6 +26,8 @@ empty-map f xs e = ap (map f) e
 module _ {X Y : Type 0} (g : X → List Y) (L : List X → List Y) (more : (x : X) (xs : List X) → L (x ∷ xs) ≡ g x ++ L xs) (xs : List X) (i : ℕ) where
   pub here-some : (x : X) → i < length xs → x ≡ get_or xs i x → L xs ≡ L (drop i xs) → ¬ (g x ≡ []) → ¬ (L xs ≡ [])
   here-some x l is behind some e =
-      some (ap g is ∙ left-empty (g (get_or xs i x)) (L (drop (i + 1) xs)) (sym (ap L (drop_more xs i x l) ∙ more (get_or xs i x) (drop (i + 1) xs)) ∙ sym behind ∙ e))
+      some (ap g is
+      ∙ left-empty (g (get_or xs i x)) (L (drop (i + 1) xs))
+      (sym (ap L (drop_more xs i x l) ∙ more (get_or xs i x) (drop (i + 1) xs)) ∙ sym behind ∙ e))
 
 pub ruleset flats = (both-empty, left-empty, right-empty, map-empty, empty-map)

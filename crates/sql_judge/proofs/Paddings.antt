@@ -18,37 +18,72 @@ use Rattle.sql_rules.proofs.Lists.{any_left, any_right}
 abbrev pub LiesRight : Origin → Leaf → Type 0
 LiesRight o l = (l.origin ≡ o) × IsTrue (is_padded l)
 
-leaves-join_on : (j : JoinOn) → leaves (join_on_tree j) ≡ leaves (source_tree (out-Join (out-JoinOn j).join).left) ++ map (in_right_side (out-Join (out-JoinOn j).join).kind) (leaves (source_tree (out-Join (out-JoinOn j).join).right))
-leaves-join_on j = ap leaves (join_on-out j ∙ ap (λ (s : Sides). join s.2 s.0 s.1 (maybe_of (option_map expr_tree (out-JoinOn j).on))) (join-out (out-JoinOn j).join))
+leaves-join_on : (j : JoinOn)
+    → leaves (join_on_tree j)
+    ≡ leaves (source_tree (out-Join (out-JoinOn j).join).left)
+    ++ map (in_right_side (out-Join (out-JoinOn j).join).kind)
+    (leaves (source_tree (out-Join (out-JoinOn j).join).right))
+leaves-join_on j =
+    ap leaves
+    (join_on-out j
+    ∙ ap (λ (s : Sides). join s.2 s.0 s.1 (maybe_of (option_map expr_tree (out-JoinOn j).on)))
+    (join-out (out-JoinOn j).join))
 
-pub pads-left : (j : JoinOn) (o : Origin) → AnyOf (LiesRight o) (leaves (source_tree (out-Join (out-JoinOn j).join).left)) → AnyOf (LiesRight o) (leaves (join_on_tree j))
+pub pads-left : (j : JoinOn) (o : Origin)
+    → AnyOf (LiesRight o) (leaves (source_tree (out-Join (out-JoinOn j).join).left))
+    → AnyOf (LiesRight o) (leaves (join_on_tree j))
 pads-left j o h =
-    subst (AnyOf (LiesRight o)) (sym (leaves-join_on j)) (any_left (LiesRight o) (leaves (source_tree (out-Join (out-JoinOn j).join).left)) (map (in_right_side (out-Join (out-JoinOn j).join).kind) (leaves (source_tree (out-Join (out-JoinOn j).join).right))) h)
+    subst (AnyOf (LiesRight o)) (sym (leaves-join_on j))
+    (any_left (LiesRight o) (leaves (source_tree (out-Join (out-JoinOn j).join).left))
+    (map (in_right_side (out-Join (out-JoinOn j).join).kind)
+    (leaves (source_tree (out-Join (out-JoinOn j).join).right)))
+    h)
 
-pub pads-right : (j : JoinOn) (o : Origin) → AnyOf (LiesRight o) (map (in_right_side (out-Join (out-JoinOn j).join).kind) (leaves (source_tree (out-Join (out-JoinOn j).join).right))) → AnyOf (LiesRight o) (leaves (join_on_tree j))
+pub pads-right : (j : JoinOn) (o : Origin)
+    → AnyOf (LiesRight o)
+    (map (in_right_side (out-Join (out-JoinOn j).join).kind)
+    (leaves (source_tree (out-Join (out-JoinOn j).join).right)))
+    → AnyOf (LiesRight o) (leaves (join_on_tree j))
 pads-right j o h =
-    subst (AnyOf (LiesRight o)) (sym (leaves-join_on j)) (any_right (LiesRight o) (leaves (source_tree (out-Join (out-JoinOn j).join).left)) (map (in_right_side (out-Join (out-JoinOn j).join).kind) (leaves (source_tree (out-Join (out-JoinOn j).join).right))) h)
+    subst (AnyOf (LiesRight o)) (sym (leaves-join_on j))
+    (any_right (LiesRight o) (leaves (source_tree (out-Join (out-JoinOn j).join).left))
+    (map (in_right_side (out-Join (out-JoinOn j).join).kind)
+    (leaves (source_tree (out-Join (out-JoinOn j).join).right)))
+    h)
 
 pub pads-either : (j : JoinOn) (o : Origin) → AnyOf (LiesRight o) (leaves (join_on_tree j))
-    → AnyOf (LiesRight o) (leaves (source_tree (out-Join (out-JoinOn j).join).left)) ⊎ AnyOf (LiesRight o) (map (in_right_side (out-Join (out-JoinOn j).join).kind) (leaves (source_tree (out-Join (out-JoinOn j).join).right)))
+    → AnyOf (LiesRight o) (leaves (source_tree (out-Join (out-JoinOn j).join).left))
+    ⊎ AnyOf (LiesRight o)
+    (map (in_right_side (out-Join (out-JoinOn j).join).kind)
+    (leaves (source_tree (out-Join (out-JoinOn j).join).right)))
 pads-either j o h =
-    any_split (LiesRight o) (leaves (source_tree (out-Join (out-JoinOn j).join).left)) (map (in_right_side (out-Join (out-JoinOn j).join).kind) (leaves (source_tree (out-Join (out-JoinOn j).join).right))) (subst (AnyOf (LiesRight o)) (leaves-join_on j) h)
+    any_split (LiesRight o) (leaves (source_tree (out-Join (out-JoinOn j).join).left))
+    (map (in_right_side (out-Join (out-JoinOn j).join).kind)
+    (leaves (source_tree (out-Join (out-JoinOn j).join).right)))
+    (subst (AnyOf (LiesRight o)) (leaves-join_on j) h)
 
-pub inner-into : (o : Origin) (ls : List Leaf) → AnyOf (LiesRight o) ls → AnyOf (LiesRight o) (map (in_right_side Inner) ls)
+pub inner-into : (o : Origin) (ls : List Leaf) → AnyOf (LiesRight o) ls
+    → AnyOf (LiesRight o) (map (in_right_side Inner) ls)
 inner-into o ls h = map_any (LiesRight o) (in_right_side Inner) ls h
 
-pub inner-out : (o : Origin) (ls : List Leaf) → AnyOf (LiesRight o) (map (in_right_side Inner) ls) → AnyOf (LiesRight o) ls
+pub inner-out : (o : Origin) (ls : List Leaf) → AnyOf (LiesRight o) (map (in_right_side Inner) ls)
+    → AnyOf (LiesRight o) ls
 inner-out o ls h = any_map (LiesRight o) (in_right_side Inner) ls h
 
 lies : (n : ℕ) → IsTrue (nat_lt 0 (suc n))
 lies n = (Decides-ltb 0 (suc n)).1 (omega arith)
 
-pub outer-into : (o : Origin) (s : Source) → IsSeen (origins s) o → AnyOf (LiesRight o) (map (in_right_side LeftOuter) (leaves s))
+pub outer-into : (o : Origin) (s : Source) → IsSeen (origins s) o
+    → AnyOf (LiesRight o) (map (in_right_side LeftOuter) (leaves s))
 outer-into o s h =
-    map_any (LiesRight o) (in_right_side LeftOuter) (leaves s) (any_each (λ l. l.origin ≡ o) (λ l. LiesRight o (in_right_side LeftOuter l)) (λ l e. (e, lies l.paddings)) (leaves s)
+    map_any (LiesRight o) (in_right_side LeftOuter) (leaves s)
+    (any_each (λ l. l.origin ≡ o) (λ l. LiesRight o (in_right_side LeftOuter l)) (λ l e. (e, lies l.paddings))
+    (leaves s)
     (any_map (λ v. v ≡ o) (λ l. l.origin) (leaves s) h))
 
-pub outer-out : (o : Origin) (s : Source) → AnyOf (LiesRight o) (map (in_right_side LeftOuter) (leaves s)) → IsSeen (origins s) o
+pub outer-out : (o : Origin) (s : Source) → AnyOf (LiesRight o) (map (in_right_side LeftOuter) (leaves s))
+    → IsSeen (origins s) o
 outer-out o s h =
-    map_any (λ v. v ≡ o) (λ l. l.origin) (leaves s) (any_each (λ l. LiesRight o (in_right_side LeftOuter l)) (λ l. l.origin ≡ o) (λ l e. e.0) (leaves s)
+    map_any (λ v. v ≡ o) (λ l. l.origin) (leaves s)
+    (any_each (λ l. LiesRight o (in_right_side LeftOuter l)) (λ l. l.origin ≡ o) (λ l e. e.0) (leaves s)
     (any_map (LiesRight o) (in_right_side LeftOuter) (leaves s) h))

@@ -18,5 +18,9 @@ itself (Some t) = laws-law.refl t
 one-type : (a b : Option SqlType) → Decides (option_eq same_type a b) (a ≡ b)
 one-type a b = (exact-option exact-type a b, λ e. subst (λ t. option_eq same_type a t ≡ true) e (itself a))
 
-pub types-differ : (r : Bool) (xs ys : List (Option SqlType)) → r ≡ not (pointwise (option_eq same_type) xs ys) → Decides r (xs ≡ ys → ⊥)
-types-differ r xs ys e = Decides-at r (not (pointwise (option_eq same_type) xs ys)) e (Decides-not (pointwise (option_eq same_type) xs ys) (slice_eq-Decides one-type xs ys (pointwise (option_eq same_type) xs ys) refl))
+pub types-differ : (r : Bool) (xs ys : List (Option SqlType)) → r ≡ not (pointwise (option_eq same_type) xs ys)
+    → Decides r (xs ≡ ys → ⊥)
+types-differ r xs ys e =
+    Decides-at r (not (pointwise (option_eq same_type) xs ys)) e
+    (Decides-not (pointwise (option_eq same_type) xs ys)
+    (slice_eq-Decides one-type xs ys (pointwise (option_eq same_type) xs ys) refl))

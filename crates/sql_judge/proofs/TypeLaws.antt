@@ -48,7 +48,8 @@ ill-decides (among_rows n e q) = untyped _
 
 -- ---- what has no type leaves what stands around it without one
 
-up : (f : Option SqlType → Option SqlType) → f None ≡ None → (t : Option SqlType) → is_none t ≡ true → is_none (f t) ≡ true
+up : (f : Option SqlType → Option SqlType) → f None ≡ None → (t : Option SqlType) → is_none t ≡ true
+    → is_none (f t) ≡ true
 up f e None h = ap is_none e
 up f e (Some t) h = absurd (false≢true h)
 
@@ -79,7 +80,8 @@ absorb true n m h = refl
 absorb false true m h = absurd (false≢true (h refl))
 absorb false false m h = refl
 
-absorb_both : (top n m k l : Bool) → (n ≡ true → top ≡ true) → (k ≡ true → top ≡ true) → (top || ((n || m) || (k || l))) ≡ (top || (m || l))
+absorb_both : (top n m k l : Bool) → (n ≡ true → top ≡ true) → (k ≡ true → top ≡ true)
+    → (top || ((n || m) || (k || l))) ≡ (top || (m || l))
 absorb_both true n m k l h i = refl
 absorb_both false true m k l h i = absurd (false≢true (h refl))
 absorb_both false false m true l h i = absurd (false≢true (i refl))
@@ -92,14 +94,18 @@ ill_typed e = is_none (type_of e) || list_any misfit (nodes e)
 abbrev any_ill : Expr → Bool
 any_ill e = list_any ill (nodes e)
 
-below : (top : Bool) (e : Expr) → any_ill e ≡ ill_typed e → (is_none (type_of e) ≡ true → top ≡ true) → (top || any_ill e) ≡ (top || list_any misfit (nodes e))
+below : (top : Bool) (e : Expr) → any_ill e ≡ ill_typed e → (is_none (type_of e) ≡ true → top ≡ true)
+    → (top || any_ill e) ≡ (top || list_any misfit (nodes e))
 below top e h up = ap (λ b. top || b) h ∙ absorb top (is_none (type_of e)) (list_any misfit (nodes e)) up
 
-below_both : (top : Bool) (a b : Expr) → any_ill a ≡ ill_typed a → any_ill b ≡ ill_typed b → (is_none (type_of a) ≡ true → top ≡ true) → (is_none (type_of b) ≡ true → top ≡ true)
+below_both : (top : Bool) (a b : Expr) → any_ill a ≡ ill_typed a → any_ill b ≡ ill_typed b
+    → (is_none (type_of a) ≡ true → top ≡ true) → (is_none (type_of b) ≡ true → top ≡ true)
     → (top || list_any ill (nodes a ++ nodes b)) ≡ (top || list_any misfit (nodes a ++ nodes b))
 below_both top a b h k up other =
-    ap (λ x. top || x) (list_any-append ill (nodes a) (nodes b) ∙ ap (λ x. x || any_ill b) h ∙ ap (λ x. ill_typed a || x) k)
-    ∙ absorb_both top (is_none (type_of a)) (list_any misfit (nodes a)) (is_none (type_of b)) (list_any misfit (nodes b)) up other
+    ap (λ x. top || x)
+    (list_any-append ill (nodes a) (nodes b) ∙ ap (λ x. x || any_ill b) h ∙ ap (λ x. ill_typed a || x) k)
+    ∙ absorb_both top (is_none (type_of a)) (list_any misfit (nodes a)) (is_none (type_of b))
+    (list_any misfit (nodes b)) up other
     ∙ ap (λ x. top || x) (sym (list_any-append misfit (nodes a) (nodes b)))
 
 same_test : (e : Expr) → any_ill e ≡ ill_typed e
@@ -107,19 +113,26 @@ same_test (column o c) = refl
 same_test (value t x) = refl
 same_test (list es) = refl
 same_test count_star = refl
-same_test (nullable e) = below _ e (same_test e) (λ h. ap is_none (nullable-type (given e)) ∙ as_nullable-none (type_of e) ∙ h)
+same_test (nullable e) =
+    below _ e (same_test e) (λ h. ap is_none (nullable-type (given e)) ∙ as_nullable-none (type_of e) ∙ h)
 same_test (not_of e) = below _ e (same_test e) (up not_type refl (type_of e))
 same_test (null_test n e) = below _ e (same_test e) (up (λ t. if_typed t (bool_type false)) refl (type_of e))
 same_test (count e) = below _ e (same_test e) (up (λ t. if_typed t big_type) refl (type_of e))
-same_test (compared by a b) = below_both _ a b (same_test a) (same_test b) (up (λ t. compared_type t (type_of b)) refl (type_of a)) (up (λ t. compared_type (type_of a) t) (compared-right (type_of a)) (type_of b))
-same_test (joined by a b) = below_both _ a b (same_test a) (same_test b) (up (λ t. joined_type t (type_of b)) refl (type_of a)) (up (λ t. joined_type (type_of a) t) (joined-right (type_of a)) (type_of b))
+same_test (compared by a b) =
+    below_both _ a b (same_test a) (same_test b) (up (λ t. compared_type t (type_of b)) refl (type_of a))
+    (up (λ t. compared_type (type_of a) t) (compared-right (type_of a)) (type_of b))
+same_test (joined by a b) =
+    below_both _ a b (same_test a) (same_test b) (up (λ t. joined_type t (type_of b)) refl (type_of a))
+    (up (λ t. joined_type (type_of a) t) (joined-right (type_of a)) (type_of b))
 same_test (exists q) = refl
 same_test (single q) = or-false _
   where
     or-false : (b : Bool) → (b || false) ≡ (b || (false || false))
     or-false b = refl
-same_test (among_values n e t xs) = below _ e (same_test e) (up (λ x. among_type x t xs) (either (all_fit t xs) None) (type_of e))
-same_test (among_rows n e q) = below _ e (same_test e) (up (λ x. compared_type x (single_type (columns q))) refl (type_of e))
+same_test (among_values n e t xs) =
+    below _ e (same_test e) (up (λ x. among_type x t xs) (either (all_fit t xs) None) (type_of e))
+same_test (among_rows n e q) =
+    below _ e (same_test e) (up (λ x. compared_type x (single_type (columns q))) refl (type_of e))
 
 pub none-test : {X : Type 0} (t : Option X) (r : Bool) → is_some t ≡ not r → is_none t ≡ r
 none-test None true h = refl
@@ -127,17 +140,20 @@ none-test None false h = absurd (false≢true h)
 none-test (Some x) true h = absurd (true≢false h)
 none-test (Some x) false h = refl
 
-pub any-mapped : {X Y : Type 0} (t : Y → Bool) (f : X → Y) (xs : List X) → list_any (λ x. t (f x)) xs ≡ list_any t (map f xs)
+pub any-mapped : {X Y : Type 0} (t : Y → Bool) (f : X → Y) (xs : List X)
+    → list_any (λ x. t (f x)) xs ≡ list_any t (map f xs)
 any-mapped t f [] = refl
 any-mapped t f (x ∷ xs) = ap (λ b. t (f x) || b) (any-mapped t f xs)
 
 pub ill_typed-decides : (e : Expr) → Decides (ill_typed e) (AnyOf IsIllTyped (nodes e))
-ill_typed-decides e = Decides-at (ill_typed e) (any_ill e) (sym (same_test e)) (any-decides IsIllTyped ill ill-decides (nodes e))
+ill_typed-decides e =
+    Decides-at (ill_typed e) (any_ill e) (sym (same_test e)) (any-decides IsIllTyped ill ill-decides (nodes e))
 
 -- ---- under nullables
 
 nullable-test : (e : Expr) → ill_typed (nullable e) ≡ ill_typed e
-nullable-test e = ap (λ b. b || list_any misfit (nodes e)) (ap is_none (nullable-type (given e)) ∙ as_nullable-none (type_of e))
+nullable-test e =
+    ap (λ b. b || list_any misfit (nodes e)) (ap is_none (nullable-type (given e)) ∙ as_nullable-none (type_of e))
 
 abbrev IllInside : Expr → Type 0
 IllInside e = AnyOf IsIllTyped (nodes e)
@@ -148,7 +164,9 @@ out_of e h = (ill_typed-decides e).0 (sym (nullable-test e) ∙ (ill_typed-decid
 into : (e : Expr) → IllInside e → IllInside (nullable e)
 into e h = (ill_typed-decides (nullable e)).0 (nullable-test e ∙ (ill_typed-decides e).1 h)
 
-pub flat-nullable : {b : Bool} (e : Expr) → Decides b (AnyOf (λ x. AnyOf IsIllTyped (nodes x)) (flat e)) → Decides b (AnyOf (λ x. AnyOf IsIllTyped (nodes x)) (flat (nullable e)))
+pub flat-nullable : {b : Bool} (e : Expr) → Decides b (AnyOf (λ x. AnyOf IsIllTyped (nodes x)) (flat e))
+    → Decides b (AnyOf (λ x. AnyOf IsIllTyped (nodes x)) (flat (nullable e)))
 flat-nullable {b} e d =
-    Decides-like b (λ h. map_any IllInside nullable (flat e) (any_each IllInside (λ x. IllInside (nullable x)) into (flat e) h))
+    Decides-like b (λ h. map_any IllInside nullable (flat e)
+    (any_each IllInside (λ x. IllInside (nullable x)) into (flat e) h))
     (λ h. any_each (λ x. IllInside (nullable x)) IllInside out_of (flat e) (any_map IllInside nullable (flat e) h)) d

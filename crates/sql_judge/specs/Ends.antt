@@ -23,7 +23,9 @@ last_under None t = t.sql_name
 last_under (Some a) t = a
 
 abbrev pub leaf_ends : Origin → Origin → Bool
-leaf_ends a b = path_ends (front_under a.alias a.table) (last_under a.alias a.table) (front_under b.alias b.table) (last_under b.alias b.table)
+leaf_ends a b =
+    path_ends (front_under a.alias a.table) (last_under a.alias a.table) (front_under b.alias b.table)
+    (last_under b.alias b.table)
 
 abbrev pub leaves_clash : Origin → Origin → Bool
 leaves_clash a b = not (same_origin a b) && (leaf_ends a b || leaf_ends b a)

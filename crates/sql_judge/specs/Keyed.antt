@@ -1,7 +1,7 @@
 -- The keys of expressions under so many nullables.
 use Rattle.std.specs.Prelude.{ℕ, List, map}
-use Rattle.sql_node.specs.Tree.{Expr}
-use Rattle.sql_key.specs.Expressions.{expr_key, under}
+use Rattle.sql_node.specs.Tree.{Expr, under}
+use Rattle.sql_key.specs.Expressions.{expr_key}
 use Rattle.sql_key.specs.declared.kind.KeyNode.{KeyNode}
 
 abbrev pub keyed : ℕ → List Expr → List (List KeyNode)

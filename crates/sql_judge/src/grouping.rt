@@ -12,8 +12,8 @@ ghost use Rattle.sql_rules.specs.Verdicts.{column_verdict as column_gives, field
 ghost use Rattle.sql_places.specs.Lent.{order_of, select_of};
 ghost use Rattle.sql_judge.specs.Grouped.{count_gives, verdict_tree};
 
-use crate::clash::is_unboxed;
 use crate::test::NodeTest;
+use crate::unsupported::is_unboxed;
 use sql_node::{DistinctClause, Expr, OrderItem};
 use sql_places::Selection;
 use sql_schema::Column;
@@ -83,7 +83,9 @@ fn has_aggregate(expr: &Expr) -> bool
 
 #[cycle(holds)]
 fn any_holds(exprs: &[Expr], origin: Origin<'_>, name: &str) -> bool
-    ensures { result ≡ holds_column (fields_of (exprs_of (map expr_tree exprs.now))) (origin_of origin.entry) name.now }
+    ensures { result
+        ≡ holds_column (fields_of (exprs_of (map expr_tree exprs.now))) (origin_of origin.entry)
+        name.now }
 {
     for expr in exprs {
         if holds(expr, origin, name) {
@@ -96,7 +98,8 @@ fn any_holds(exprs: &[Expr], origin: Origin<'_>, name: &str) -> bool
 /// Whether a group by list has the column of that name.
 #[cycle(holds)]
 fn holds(group: &Expr, origin: Origin<'_>, name: &str) -> bool
-    ensures { result ≡ holds_column (fields (expr_tree group.now)) (origin_of origin.entry) name.now }
+    ensures { result
+        ≡ holds_column (fields (expr_tree group.now)) (origin_of origin.entry) name.now }
 {
     match group {
         Expr::Column(column) => {
@@ -118,7 +121,9 @@ fn holds_key(group: &Expr, origin: Origin<'_>) -> bool
 }
 
 fn column_verdict(group: Option<&Expr>, origin: Origin<'_>, column: &Column) -> Verdict
-    ensures { verdict_tree result ≡ column_gives (maybe_of (option_map (λ e. expr_tree e.now) group.entry)) (origin_of origin.entry) column.now.decl }
+    ensures { verdict_tree result
+        ≡ column_gives (maybe_of (option_map (λ e. expr_tree e.now) group.entry))
+        (origin_of origin.entry) column.now.decl }
 {
     match group {
         None => Verdict::No,
@@ -134,7 +139,9 @@ fn column_verdict(group: Option<&Expr>, origin: Origin<'_>, column: &Column) -> 
 
 #[cycle(verdict)]
 fn verdict_of_each(exprs: &[Expr], group: Option<&Expr>) -> Verdict
-    ensures { verdict_tree result ≡ verdict_of (maybe_of (option_map (λ e. expr_tree e.now) group.entry)) (exprs_of (map expr_tree exprs.now)) }
+    ensures { verdict_tree result
+        ≡ verdict_of (maybe_of (option_map (λ e. expr_tree e.now) group.entry))
+        (exprs_of (map expr_tree exprs.now)) }
 {
     let mut all = Verdict::Never;
     for expr in exprs {
@@ -155,7 +162,8 @@ fn count_verdict(counted: &Expr) -> Verdict
 
 #[cycle(verdict)]
 fn expr_verdict(expr: &Expr, group: Option<&Expr>) -> Verdict
-    ensures { verdict_tree result ≡ gives (maybe_of (option_map (λ e. expr_tree e.now) group.entry)) (expr_tree expr.now) }
+    ensures { verdict_tree result
+        ≡ gives (maybe_of (option_map (λ e. expr_tree e.now) group.entry)) (expr_tree expr.now) }
 {
     match expr {
         Expr::Column(column) => column_verdict(group, Origin::of_table(column.table()), column),
@@ -180,7 +188,9 @@ fn expr_verdict(expr: &Expr, group: Option<&Expr>) -> Verdict
 }
 
 fn order_verdict(order: Option<&[OrderItem]>, group: Option<&Expr>) -> Verdict
-    ensures { verdict_tree result ≡ order_gives (maybe_of (option_map (λ e. expr_tree e.now) group.entry)) (order_of (option_map (λ is. map order_item_tree is.now) order.entry)) }
+    ensures { verdict_tree result
+        ≡ order_gives (maybe_of (option_map (λ e. expr_tree e.now) group.entry))
+        (order_of (option_map (λ is. map order_item_tree is.now) order.entry)) }
 {
     match order {
         None => Verdict::Never,
@@ -189,13 +199,17 @@ fn order_verdict(order: Option<&[OrderItem]>, group: Option<&Expr>) -> Verdict
 }
 
 fn item_verdict(item: &OrderItem, group: Option<&Expr>) -> Verdict
-    ensures { verdict_tree result ≡ gives (maybe_of (option_map (λ e. expr_tree e.now) group.entry)) (order_item_tree item.now).0 }
+    ensures { verdict_tree result
+        ≡ gives (maybe_of (option_map (λ e. expr_tree e.now) group.entry))
+        (order_item_tree item.now).0 }
 {
     expr_verdict(&item.expr, group)
 }
 
 fn items_verdict(items: &[OrderItem], group: Option<&Expr>) -> Verdict
-    ensures { verdict_tree result ≡ items_give (maybe_of (option_map (λ e. expr_tree e.now) group.entry)) (items_of (map order_item_tree items.now)) }
+    ensures { verdict_tree result
+        ≡ items_give (maybe_of (option_map (λ e. expr_tree e.now) group.entry))
+        (items_of (map order_item_tree items.now)) }
 {
     let mut all = Verdict::Never;
     for item in items {
@@ -205,7 +219,9 @@ fn items_verdict(items: &[OrderItem], group: Option<&Expr>) -> Verdict
 }
 
 fn distinct_verdict(distinct: &DistinctClause, group: Option<&Expr>) -> Verdict
-    ensures { verdict_tree result ≡ distinct_gives (maybe_of (option_map (λ e. expr_tree e.now) group.entry)) (distinct_clause_tree distinct.now) }
+    ensures { verdict_tree result
+        ≡ distinct_gives (maybe_of (option_map (λ e. expr_tree e.now) group.entry))
+        (distinct_clause_tree distinct.now) }
 {
     match distinct {
         DistinctClause::NoDistinctClause => Verdict::Never,
@@ -215,7 +231,8 @@ fn distinct_verdict(distinct: &DistinctClause, group: Option<&Expr>) -> Verdict
 }
 
 fn clause_has_aggregate(clause: Option<&Expr>) -> bool
-    ensures { Decides result (HasAggregate (maybe_of (option_map (λ e. expr_tree e.now) clause.entry))) }
+    ensures { Decides result
+        (HasAggregate (maybe_of (option_map (λ e. expr_tree e.now) clause.entry))) }
 {
     match clause {
         None => false,

@@ -11,16 +11,18 @@ ghost use Rattle.sql_rules.specs.Types.{columns as columns_of};
 ghost use Rattle.sql_places.specs.Lent.{combined_of};
 ghost use Rattle.sql_judge.specs.Seen.{IsLook, IsWhole, look_part, seen_outer, seen_select};
 
-use crate::clash::{combination_unsupported, from_lacks_on, is_incompatible, select_unsupported};
 use crate::grouping::{Counted, is_misgrouped};
+use crate::incompatible::is_incompatible;
 use crate::leaves::{Alike, Apart, Clash};
 use crate::lists::{EmptyClause, has_no_positions, is_empty_order};
 use crate::names::{OutOfScope, UnknownColumn, any_unknown};
 use crate::nullable::BarePadded;
 use crate::order::order_differs;
+use crate::relation::from_lacks_on;
 use crate::seen::{Look, Seen, look_at_each};
 use crate::test::{ClauseTest, InNodes, PairTest, any_clause, any_pair};
 use crate::typing::IllTyped;
+use crate::unsupported::{combination_unsupported, select_unsupported};
 use sql_dialect::Backend;
 use sql_node::Statement;
 use sql_places::{Combined, parts};
@@ -31,14 +33,16 @@ use std::alloc::Global;
 
 fn any_two<T: PairTest>(test: &T, seen: &Seen<'_>) -> bool
     requires { IsWhole seen.now }
-    ensures { Decides result (AnyTwoLeaves (T.holds test.now) (seen_outer seen.now) (seen_select seen.now)) }
+    ensures { Decides result
+        (AnyTwoLeaves (T.holds test.now) (seen_outer seen.now) (seen_select seen.now)) }
 {
     any_pair(test, seen.widest.as_slice())
 }
 
 fn has_unknown_name(alloc: Global, schema: &Schema, seen: &Seen<'_>) -> Result<bool, NoMemory>
     requires { IsWhole seen.now }
-    ensures { IfOk result (λ b. Decides b (HasUnknownName schema.now (seen_outer seen.now) (seen_select seen.now))) }
+    ensures { IfOk result (λ b. Decides b
+        (HasUnknownName schema.now (seen_outer seen.now) (seen_select seen.now))) }
 {
     let column = any_in(&InNodes(UnknownColumn { schema }), alloc, seen)?;
     let table = any_unknown(schema, seen.own.as_slice());
@@ -48,14 +52,17 @@ fn has_unknown_name(alloc: Global, schema: &Schema, seen: &Seen<'_>) -> Result<b
 /// Whether the test holds of a clause.
 fn any_in<T: ClauseTest>(test: &T, alloc: Global, seen: &Seen<'_>) -> Result<bool, NoMemory>
     requires { IsWhole seen.now }
-    ensures { IfOk result (λ b. Decides b (AnyClause (T.holds test.now) (seen_outer seen.now) (seen_select seen.now))) }
+    ensures { IfOk result (λ b. Decides b
+        (AnyClause (T.holds test.now) (seen_outer seen.now) (seen_select seen.now))) }
 {
     any_clause(test, alloc, seen.clauses.as_slice())
 }
 
 fn has_empty_list(alloc: Global, seen: &Seen<'_>) -> Result<bool, NoMemory>
     requires { IsWhole seen.now }
-    ensures { IfOk result (λ b. Decides b (AnyClause IsEmptyList (seen_outer seen.now) (seen_select seen.now) ⊎ IsEmptyOrder (seen_select seen.now).order)) }
+    ensures { IfOk result (λ b. Decides b
+        (AnyClause IsEmptyList (seen_outer seen.now) (seen_select seen.now)
+        ⊎ IsEmptyOrder (seen_select seen.now).order)) }
 {
     let clause = any_in(&EmptyClause, alloc, seen)?;
     Ok(clause || is_empty_order(seen.select.order))
@@ -63,7 +70,9 @@ fn has_empty_list(alloc: Global, seen: &Seen<'_>) -> Result<bool, NoMemory>
 
 fn has_type_mismatch(alloc: Global, seen: &Seen<'_>) -> Result<bool, NoMemory>
     requires { IsWhole seen.now }
-    ensures { IfOk result (λ b. Decides b (AnyClause IsIllTypedClause (seen_outer seen.now) (seen_select seen.now) ⊎ IsTrue (seen_select seen.now).marks.key_count)) }
+    ensures { IfOk result (λ b. Decides b
+        (AnyClause IsIllTypedClause (seen_outer seen.now) (seen_select seen.now)
+        ⊎ IsTrue (seen_select seen.now).marks.key_count)) }
 {
     let clause = any_in(&IllTyped, alloc, seen)?;
     Ok(clause || seen.select.marks.key_count)
@@ -71,7 +80,9 @@ fn has_type_mismatch(alloc: Global, seen: &Seen<'_>) -> Result<bool, NoMemory>
 
 fn breaks_grouping(alloc: Global, seen: &Seen<'_>) -> Result<bool, NoMemory>
     requires { IsWhole seen.now }
-    ensures { IfOk result (λ b. Decides b (AnyExpr (λ v. CountsAggregate) (seen_outer seen.now) (seen_select seen.now) ⊎ IsMisgrouped (seen_select seen.now))) }
+    ensures { IfOk result (λ b. Decides b
+        (AnyExpr (λ v. CountsAggregate) (seen_outer seen.now) (seen_select seen.now)
+        ⊎ IsMisgrouped (seen_select seen.now))) }
 {
     let counted = any_in(&InNodes(Counted), alloc, seen)?;
     Ok(counted || is_misgrouped(seen.select))
@@ -86,7 +97,8 @@ fn select_breaks<DB: Backend>(
     seen: &Seen<'_>,
 ) -> Result<bool, NoMemory>
     requires { IsWhole seen.now }
-    ensures { IfOk result (λ b. Decides b (SelectBreaks rule schema.now DB.speaks (seen_outer seen.now) (seen_select seen.now))) }
+    ensures { IfOk result (λ b. Decides b
+        (SelectBreaks rule schema.now DB.speaks (seen_outer seen.now) (seen_select seen.now))) }
 {
     let select = seen.select;
     match rule {
@@ -108,7 +120,8 @@ fn select_breaks<DB: Backend>(
 }
 
 fn sides_differ(alloc: Global, both: Combined<'_>) -> Result<bool, NoMemory>
-    ensures { IfOk result (λ b. Decides b (columns_of (combined_of both.entry).left ≢ columns_of (combined_of both.entry).right)) }
+    ensures { IfOk result (λ b. Decides b
+        (columns_of (combined_of both.entry).left ≢ columns_of (combined_of both.entry).right)) }
 {
     let left = columns(alloc, both.left)?;
     let right = columns(alloc, both.right)?;
@@ -122,7 +135,8 @@ fn combination_breaks<DB: Backend>(
     backend: &DB,
     both: Combined<'_>,
 ) -> Result<bool, NoMemory>
-    ensures { IfOk result (λ b. Decides b (CombinationBreaks rule DB.speaks (combined_of both.entry))) }
+    ensures { IfOk result (λ b. Decides b
+        (CombinationBreaks rule DB.speaks (combined_of both.entry))) }
 {
     match rule {
         Rule::EmptyList => Ok(has_no_positions(both)),
@@ -140,7 +154,8 @@ fn part_breaks<DB: Backend>(
     part: &Look<'_>,
 ) -> Result<bool, NoMemory>
     requires { IsLook part.now }
-    ensures { IfOk result (λ b. Decides b (PartBreaks rule schema.now DB.speaks (look_part part.now))) }
+    ensures { IfOk result (λ b. Decides b
+        (PartBreaks rule schema.now DB.speaks (look_part part.now))) }
 {
     match part {
         Look::Select(seen) => select_breaks(alloc, rule, backend, schema, seen),
@@ -156,7 +171,8 @@ fn any_breaks<DB: Backend>(
     parts: &[Look<'_>],
 ) -> Result<bool, NoMemory>
     requires { Each IsLook parts.now }
-    ensures { IfOk result (λ b. Decides b (AnyOf (PartBreaks rule schema.now DB.speaks) (map look_part parts.now))) }
+    ensures { IfOk result (λ b. Decides b
+        (AnyOf (PartBreaks rule schema.now DB.speaks) (map look_part parts.now))) }
 {
     for part in parts {
         if part_breaks(alloc, rule, backend, schema, part)? {
@@ -177,7 +193,8 @@ fn breaks<DB: Backend>(
 ) -> Result<bool, NoMemory>
     requires whole { Each IsLook parts.now }
     requires parts { map look_part parts.now ≡ parts_in [] (statement_tree statement.now) }
-    ensures { IfOk result (λ b. Decides b (Broken rule schema.now DB.speaks (statement_tree statement.now))) }
+    ensures { IfOk result (λ b. Decides b
+        (Broken rule schema.now DB.speaks (statement_tree statement.now))) }
 {
     match rule {
         Rule::TooManyBinds => Ok(has_too_many_binds(backend, statement)),
@@ -193,7 +210,8 @@ fn broken_among<DB: Backend>(
     schema: &Schema,
     statement: &Statement,
 ) -> Result<Vec<Rule>, NoMemory>
-    ensures { IfOk result (λ v. Selects (λ r. Broken r schema.now DB.speaks (statement_tree statement.now)) rules.now v.items) }
+    ensures { IfOk result (λ v. Selects
+        (λ r. Broken r schema.now DB.speaks (statement_tree statement.now)) rules.now v.items) }
 {
     let parts = look_at_each(alloc, parts(alloc, statement)?)?;
     let mut broken = Vec::new(alloc);
@@ -212,7 +230,8 @@ pub fn broken<DB: Backend>(
     schema: &Schema,
     statement: &Statement,
 ) -> Result<Vec<Rule>, NoMemory>
-    ensures { IfOk result (λ v. Selects (λ r. Broken r schema.now DB.speaks (statement_tree statement.now)) all_rules v.items) }
+    ensures { IfOk result (λ v. Selects
+        (λ r. Broken r schema.now DB.speaks (statement_tree statement.now)) all_rules v.items) }
 {
     broken_among(alloc, &RULES, backend, schema, statement)
 }

@@ -45,8 +45,10 @@ impl PairTest for Apart<'_> {
 
 /// The names by which the rest of a statement knows a leaf: a schema, where there is one, and a name.
 fn exposed(origin: Origin<'_>) -> (Option<&str>, &str)
-    ensures front { option_map (λ s. s.now) result.0 ≡ front_under (origin_of origin.entry).alias (origin_of origin.entry).table }
-    ensures last { result.1.now ≡ last_under (origin_of origin.entry).alias (origin_of origin.entry).table }
+    ensures front { option_map (λ s. s.now) result.0
+        ≡ front_under (origin_of origin.entry).alias (origin_of origin.entry).table }
+    ensures last { result.1.now
+        ≡ last_under (origin_of origin.entry).alias (origin_of origin.entry).table }
 {
     match origin.alias {
         None => origin.table.path(),
@@ -56,7 +58,9 @@ fn exposed(origin: Origin<'_>) -> (Option<&str>, &str)
 
 /// Whether a path is the end of another.
 fn ends(schema: Option<&str>, name: &str, other_schema: Option<&str>, other_name: &str) -> bool
-    ensures { result ≡ path_ends (option_map (λ s. s.now) schema.entry) name.now (option_map (λ s. s.now) other_schema.entry) other_name.now }
+    ensures { result
+        ≡ path_ends (option_map (λ s. s.now) schema.entry) name.now
+        (option_map (λ s. s.now) other_schema.entry) other_name.now }
 {
     match schema {
         None => name == other_name,

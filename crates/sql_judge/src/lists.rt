@@ -84,7 +84,8 @@ fn are_empty_items(items: &[OrderItem]) -> bool
 
 /// Whether an order has no element.
 pub(crate) fn is_empty_order(order: Option<&[OrderItem]>) -> bool
-    ensures { Decides result (IsEmptyOrder (order_of (option_map (λ is. map order_item_tree is.now) order.entry))) }
+    ensures { Decides result
+        (IsEmptyOrder (order_of (option_map (λ is. map order_item_tree is.now) order.entry))) }
 {
     match order {
         None => false,

@@ -60,7 +60,8 @@ fn is_column(column: &Column) -> bool
 
 /// Whether the schema lacks a table of these.
 pub(crate) fn any_unknown(schema: &Schema, leaves: &[Origin<'_>]) -> bool
-    ensures { Decides result (AnyOf (λ o. ¬ IsTable schema.now o.table) (map origin_of leaves.now)) }
+    ensures { Decides result
+        (AnyOf (λ o. ¬ IsTable schema.now o.table) (map origin_of leaves.now)) }
 {
     for leaf in leaves {
         if !is_table(schema, leaf.table) {
@@ -89,7 +90,8 @@ pub(crate) struct UnknownColumn<'a> {
 }
 
 fn is_unknown(schema: &Schema, column: &Column) -> bool
-    ensures { Decides result (¬ (IsTable schema.now column.now.table × IsColumn column.now.table column.now.decl)) }
+    ensures { Decides result
+        (¬ (IsTable schema.now column.now.table × IsColumn column.now.table column.now.decl)) }
 {
     !(is_table(schema, column.table()) && is_column(column))
 }

@@ -68,7 +68,8 @@ fn gather<'e>(expr: &'e Expr, all: &mut Vec<Origin<'e>>) -> Result<(), NoMemory>
 
 #[cycle(bare)]
 fn gather_each<'e>(exprs: &'e [Expr], all: &mut Vec<Origin<'e>>) -> Result<(), NoMemory>
-    ensures { Gathers origin_of all.old.items (bare_of (exprs_of (map expr_tree exprs.now))) result all.new.items }
+    ensures { Gathers origin_of all.old.items (bare_of (exprs_of (map expr_tree exprs.now))) result
+        all.new.items }
 {
     for expr in exprs {
         gather(expr, all)?;
@@ -103,7 +104,9 @@ fn is_leaf(origin: Origin<'_>, leaf: Origin<'_>) -> bool
 /// Whether a leaf of that origin lies in the right side of a left outer join.
 #[cycle(pads)]
 fn pads(source: &Source, origin: Origin<'_>) -> bool
-    ensures { Decides result (AnyOf (λ l. (l.origin ≡ origin_of origin.entry) × IsTrue (lies_right l)) (leaves (source_tree source.now))) }
+    ensures { Decides result
+        (AnyOf (λ l. (l.origin ≡ origin_of origin.entry) × IsTrue (lies_right l))
+        (leaves (source_tree source.now))) }
 {
     match source {
         Source::Table(_) => false,
@@ -114,7 +117,9 @@ fn pads(source: &Source, origin: Origin<'_>) -> bool
 
 #[cycle(pads)]
 fn join_pads(join: &JoinOn, origin: Origin<'_>) -> bool
-    ensures { Decides result (AnyOf (λ l. (l.origin ≡ origin_of origin.entry) × IsTrue (lies_right l)) (leaves (join_on_tree join.now))) }
+    ensures { Decides result
+        (AnyOf (λ l. (l.origin ≡ origin_of origin.entry) × IsTrue (lies_right l))
+        (leaves (join_on_tree join.now))) }
 {
     let sides = &join.join;
     pads(&sides.left, origin) || pads_right(sides.kind, &sides.right, origin)
@@ -122,7 +127,9 @@ fn join_pads(join: &JoinOn, origin: Origin<'_>) -> bool
 
 #[cycle(pads)]
 fn pads_right(kind: JoinKind, source: &Source, origin: Origin<'_>) -> bool
-    ensures { Decides result (AnyOf (λ l. (l.origin ≡ origin_of origin.entry) × IsTrue (lies_right l)) (map (in_right_side kind) (leaves (source_tree source.now)))) }
+    ensures { Decides result
+        (AnyOf (λ l. (l.origin ≡ origin_of origin.entry) × IsTrue (lies_right l))
+        (map (in_right_side kind) (leaves (source_tree source.now)))) }
 {
     match kind {
         JoinKind::Inner => pads(source, origin),
@@ -131,7 +138,9 @@ fn pads_right(kind: JoinKind, source: &Source, origin: Origin<'_>) -> bool
 }
 
 fn from_pads(from: &FromClause, origin: Origin<'_>) -> bool
-    ensures { Decides result (AnyOf (λ l. (l.origin ≡ origin_of origin.entry) × IsTrue (lies_right l)) (leaves_of (from_clause_tree from.now))) }
+    ensures { Decides result
+        (AnyOf (λ l. (l.origin ≡ origin_of origin.entry) × IsTrue (lies_right l))
+        (leaves_of (from_clause_tree from.now))) }
 {
     match from {
         FromClause::NoFromClause => false,
@@ -140,7 +149,9 @@ fn from_pads(from: &FromClause, origin: Origin<'_>) -> bool
 }
 
 fn are_both(left: Origin<'_>, right: Origin<'_>, origin: Origin<'_>) -> bool
-    ensures { result ≡ (same_origin (origin_of left.entry) (origin_of origin.entry) && same_origin (origin_of right.entry) (origin_of origin.entry)) }
+    ensures { result
+        ≡ (same_origin (origin_of left.entry) (origin_of origin.entry)
+        && same_origin (origin_of right.entry) (origin_of origin.entry)) }
 {
     left.is_same(origin) && right.is_same(origin)
 }
@@ -166,7 +177,8 @@ fn is_padded(select: Selection<'_>, own: &[Origin<'_>], origin: Origin<'_>) -> b
 
 fn any_padded(select: Selection<'_>, own: &[Origin<'_>], origins: &[Origin<'_>]) -> bool
     requires { map origin_of own.now ≡ own_in (select_of select) }
-    ensures { Decides result (AnyOf (IsPadded (select_of select.entry)) (map origin_of origins.now)) }
+    ensures { Decides result
+        (AnyOf (IsPadded (select_of select.entry)) (map origin_of origins.now)) }
 {
     for origin in origins {
         if is_padded(select, own, *origin) {

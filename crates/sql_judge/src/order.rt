@@ -27,7 +27,8 @@ fn push_keys(
     expr: &Expr,
     keys: &mut Vec<QueryKey>,
 ) -> Result<(), NoMemory>
-    ensures { Gathers (λ k. k) keys.old.items (keyed nullables (flat (expr_tree expr.now))) result keys.new.items }
+    ensures { Gathers (λ k. k) keys.old.items (keyed nullables (flat (expr_tree expr.now))) result
+        keys.new.items }
 {
     match expr {
         Expr::List(exprs) => push_each(alloc, nullables, exprs.as_slice(), keys),
@@ -45,7 +46,8 @@ fn push_key(
     expr: &Expr,
     keys: &mut Vec<QueryKey>,
 ) -> Result<(), NoMemory>
-    ensures { Gathers (λ k. k) keys.old.items (keyed nullables (expr_tree expr.now ∷ [])) result keys.new.items }
+    ensures { Gathers (λ k. k) keys.old.items (keyed nullables (expr_tree expr.now ∷ [])) result
+        keys.new.items }
 {
     let key = expression_key(alloc, nullables, expr)?;
     keys.push(key)?;
@@ -59,7 +61,8 @@ fn push_each(
     exprs: &[Expr],
     keys: &mut Vec<QueryKey>,
 ) -> Result<(), NoMemory>
-    ensures { Gathers (λ k. k) keys.old.items (keyed nullables (flat_of (exprs_of (map expr_tree exprs.now)))) result keys.new.items }
+    ensures { Gathers (λ k. k) keys.old.items
+        (keyed nullables (flat_of (exprs_of (map expr_tree exprs.now)))) result keys.new.items }
 {
     for expr in exprs {
         push_keys(alloc, nullables, expr, keys)?;
@@ -69,14 +72,16 @@ fn push_each(
 
 #[tactic(auto, using(sql_node::proofs::Trees::opens_order_item))]
 fn push_item(alloc: Global, item: &OrderItem, keys: &mut Vec<QueryKey>) -> Result<(), NoMemory>
-    ensures { Gathers (λ k. k) keys.old.items (keyed 0 (flat (order_item_tree item.now).0)) result keys.new.items }
+    ensures { Gathers (λ k. k) keys.old.items (keyed 0 (flat (order_item_tree item.now).0)) result
+        keys.new.items }
 {
     push_keys(alloc, 0, &item.expr, keys)
 }
 
 /// The keys of an order's elements.
 fn order_keys(alloc: Global, items: &[OrderItem]) -> Result<Vec<QueryKey>, NoMemory>
-    ensures { IfOk result (λ v. v.items ≡ keyed 0 (flat_items (items_of (map order_item_tree items.now)))) }
+    ensures { IfOk result (λ v. v.items
+        ≡ keyed 0 (flat_items (items_of (map order_item_tree items.now)))) }
 {
     let mut keys = Vec::new(alloc);
     for item in items {
@@ -101,7 +106,9 @@ fn keys_differ(keys: &[QueryKey], others: &[QueryKey]) -> bool
 
 /// Whether the lists differ in shape at a place that both have.
 fn shapes_differ(alloc: Global, exprs: &Expr, items: &[OrderItem]) -> Result<bool, NoMemory>
-    ensures { IfOk result (λ b. Decides b (Differ (λ x y. expr_shape x ≢ expr_shape y) (flat (expr_tree exprs.now)) (flat_items (items_of (map order_item_tree items.now))))) }
+    ensures { IfOk result (λ b. Decides b
+        (Differ (λ x y. expr_shape x ≢ expr_shape y) (flat (expr_tree exprs.now))
+        (flat_items (items_of (map order_item_tree items.now))))) }
 {
     let mut keys = Vec::new(alloc);
     push_keys(alloc, 0, exprs, &mut keys)?;
@@ -111,7 +118,9 @@ fn shapes_differ(alloc: Global, exprs: &Expr, items: &[OrderItem]) -> Result<boo
 
 /// Whether an item of the order is not the expression of `DISTINCT ON` at its place.
 pub(crate) fn order_differs(alloc: Global, select: Selection<'_>) -> Result<bool, NoMemory>
-    ensures { IfOk result (λ b. Decides b (OrderDiffers (select_of select.entry).form (select_of select.entry).distinctness (select_of select.entry).order)) }
+    ensures { IfOk result (λ b. Decides b
+        (OrderDiffers (select_of select.entry).form (select_of select.entry).distinctness
+        (select_of select.entry).order)) }
 {
     match select.form {
         Form::Boxed(_, _) => Ok(false),

@@ -71,7 +71,8 @@ pub(crate) fn any_clause<T: ClauseTest>(
 }
 
 fn any_node<T: NodeTest>(test: &T, view: &[Origin<'_>], exprs: &[&Expr]) -> bool
-    ensures { Decides result (AnyOf (T.holds test.now (map origin_of view.now)) (map (λ e. expr_tree e.now) exprs.now)) }
+    ensures { Decides result
+        (AnyOf (T.holds test.now (map origin_of view.now)) (map (λ e. expr_tree e.now) exprs.now)) }
 {
     for expr in exprs {
         if test.test(view, expr) {
@@ -94,7 +95,8 @@ pub(crate) fn any_pair<T: PairTest>(test: &T, leaves: &[Origin<'_>]) -> bool
 }
 
 fn any_right<T: PairTest>(test: &T, left: Origin<'_>, leaves: &[Origin<'_>]) -> bool
-    ensures { Decides result (AnyOf (T.holds test.now (origin_of left.entry)) (map origin_of leaves.now)) }
+    ensures { Decides result
+        (AnyOf (T.holds test.now (origin_of left.entry)) (map origin_of leaves.now)) }
 {
     for leaf in leaves {
         if test.test(left, *leaf) {

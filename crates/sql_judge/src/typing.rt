@@ -47,7 +47,9 @@ fn is_ill_typed(alloc: Global, expr: &Expr) -> Result<bool, NoMemory>
 
 #[cycle(elements)]
 fn any_ill_typed(alloc: Global, exprs: &[Expr]) -> Result<bool, NoMemory>
-    ensures { IfOk result (λ b. Decides b (AnyOf (λ e. AnyOf IsIllTyped (nodes_in e)) (flat_of (exprs_of (map expr_tree exprs.now))))) }
+    ensures { IfOk result (λ b. Decides b
+        (AnyOf (λ e. AnyOf IsIllTyped (nodes_in e))
+        (flat_of (exprs_of (map expr_tree exprs.now))))) }
 {
     for expr in exprs {
         if has_ill_typed(alloc, expr)? {
@@ -60,7 +62,8 @@ fn any_ill_typed(alloc: Global, exprs: &[Expr]) -> Result<bool, NoMemory>
 /// Whether an element of a list is ill-typed.
 #[cycle(elements)]
 fn has_ill_typed(alloc: Global, expr: &Expr) -> Result<bool, NoMemory>
-    ensures { IfOk result (λ b. Decides b (AnyOf (λ e. AnyOf IsIllTyped (nodes_in e)) (flat (expr_tree expr.now)))) }
+    ensures { IfOk result (λ b. Decides b
+        (AnyOf (λ e. AnyOf IsIllTyped (nodes_in e)) (flat (expr_tree expr.now)))) }
 {
     match expr {
         Expr::List(exprs) => any_ill_typed(alloc, exprs.as_slice()),

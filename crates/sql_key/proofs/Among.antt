@@ -5,7 +5,8 @@ use Rattle.sql_node.specs.View.{Among, among_list, among_query, among_of}
 use Rattle.sql_rose.specs.Rose.{node, two}
 use Rattle.sql_key.specs.Shape.{among_kind, among_rose, expr_rose, plain}
 
-pub membership-nodes : (n : Bool) (e : Expr) (a : Among) → expr_rose (among_of n e a) ≡ node (plain (among_kind n)) (two (expr_rose e) (among_rose a))
+pub membership-nodes : (n : Bool) (e : Expr) (a : Among)
+    → expr_rose (among_of n e a) ≡ node (plain (among_kind n)) (two (expr_rose e) (among_rose a))
 membership-nodes n e (among_list t xs) = refl
 membership-nodes n e (among_query q) = refl
 

@@ -17,7 +17,8 @@ abbrev IsStrict : {A : Type 0} → (A → A → Ordering) → Type 0
 IsStrict R = IsExact (eq_by_cmp R)
 
 -- both of two orders tie where one after the other does
-ties : (r s : Ordering) {P Q : Type 0} → (is_eq r ≡ true → P) → (is_eq s ≡ true → Q) → is_eq (ordering_then r s) ≡ true → P × Q
+ties : (r s : Ordering) {P Q : Type 0} → (is_eq r ≡ true → P) → (is_eq s ≡ true → Q) → is_eq (ordering_then r s) ≡ true
+    → P × Q
 ties r s p q h = let k = tied_then r s ∙ h in (p (first_so (is_eq r) (is_eq s) k), q (second_so (is_eq r) (is_eq s) k))
 
 strict-text : IsStrict text_cmp
@@ -40,10 +41,26 @@ strict-type a b h = exact-type a b (matches_eq-law a b ∙ h)
 
 strict-column : IsStrict column_cmp
 strict-column a b h =
-    let r = ties _ _ (ties _ _ (ties _ _ (strict-text a.name b.name) (strict-text a.sql_name b.sql_name)) (strict-type a.ty b.ty)) (strict-option _ strict-length a.max_length b.max_length) h in
+    let r =
+    ties _ _
+    (ties _ _ (ties _ _ (strict-text a.name b.name) (strict-text a.sql_name b.sql_name))
+    (strict-type a.ty b.ty))
+    (strict-option _ strict-length a.max_length b.max_length) h in
     λ i. record { name = r.0.0.0 i; sql_name = r.0.0.1 i; ty = r.0.1 i; max_length = r.1 i }
 
 pub exact-table : IsExact (eq_by_cmp table_cmp)
 exact-table a b h =
-    let r = ties _ _ (ties _ _ (ties _ _ (ties _ _ (strict-text a.name b.name) (strict-option _ strict-text a.schema b.schema)) (strict-text a.sql_name b.sql_name)) (strict-list _ strict-column a.columns b.columns)) (strict-list _ strict-text a.primary_key b.primary_key) h in
-    λ i. record { name = r.0.0.0.0 i; schema = r.0.0.0.1 i; sql_name = r.0.0.1 i; columns = r.0.1 i; primary_key = r.1 i }
+    let r =
+    ties _ _
+    (ties _ _
+    (ties _ _ (ties _ _ (strict-text a.name b.name) (strict-option _ strict-text a.schema b.schema))
+    (strict-text a.sql_name b.sql_name))
+    (strict-list _ strict-column a.columns b.columns))
+    (strict-list _ strict-text a.primary_key b.primary_key) h in
+    λ i. record {
+      name = r.0.0.0.0 i;
+      schema = r.0.0.0.1 i;
+      sql_name = r.0.0.1 i;
+      columns = r.0.1 i;
+      primary_key = r.1 i;
+    }

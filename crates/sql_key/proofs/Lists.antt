@@ -21,7 +21,8 @@ pub exprs-nodes : (es : List Expr) → all_blanked (exprs_roses (exprs_of (map e
 exprs-nodes [] = refl
 exprs-nodes (e ∷ es) = ap (more (of_expr e)) (exprs-nodes es)
 
-pub items-nodes : (es : List OrderItem) → all_blanked (items_roses (items_of (map order_item_tree es))) ≡ roses_of of_item es
+pub items-nodes : (es : List OrderItem)
+    → all_blanked (items_roses (items_of (map order_item_tree es))) ≡ roses_of of_item es
 items-nodes [] = refl
 items-nodes (e ∷ es) = ap (more (of_item e)) (items-nodes es)
 

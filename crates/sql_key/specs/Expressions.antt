@@ -1,6 +1,6 @@
 -- Shapes and keys of expressions, where lists of values are alike whatever their lengths.
-use Rattle.std.specs.Prelude.{ℕ, zero, suc, List, []}
-use Rattle.sql_node.specs.Tree.{Expr, nullable}
+use Rattle.std.specs.Prelude.{List, []}
+use Rattle.sql_node.specs.Tree.{Expr}
 use Rattle.sql_rose.specs.Rose.{Rose, flat, rose_map}
 use Rattle.sql_key.specs.Keys.{key_node}
 use Rattle.sql_key.specs.Shape.{blanked, expr_rose}
@@ -18,8 +18,3 @@ expr_shape e = rose_map without_length (blanked (expr_rose e))
 
 abbrev pub expr_key : Expr → List KeyNode
 expr_key e = flat key_node 0 (expr_shape e) []
-
--- an expression under so many nullables
-abbrev pub under : ℕ → Expr → Expr
-under zero e = e
-under (suc n) e = nullable (under n e)

@@ -2,13 +2,12 @@
 -- type and length. All else stays.
 use Rattle.std.specs.Prelude.{ℤ, Bool, true, false, Option, None, Some, List, length}
 use Rattle.sql_schema.specs.declared.declaration.ColumnDecl.{ColumnDecl}
+use Rattle.sql_dialect.specs.Supports.{is_all}
 use Rattle.sql_dialect.specs.declared.combination.Combinator.{Combinator}
 use Rattle.sql_dialect.specs.declared.combination.Combinator.TheVariants.{Union, Intersect, Except}
-use Rattle.sql_dialect.specs.declared.combination.DuplicateRule.{DuplicateRule}
-use Rattle.sql_dialect.specs.declared.combination.DuplicateRule.TheVariants.{Distinct as DistinctRows, All}
 use Rattle.sql_pass.specs.declared.value.Bound.{Bound}
 use Rattle.sql_pass.specs.declared.value.Bound.TheVariants.{Value as OneValue, List as ManyValues}
-use Rattle.sql_leaf.specs.Numbers.{small, integer, big}
+use Rattle.sql_pass.specs.Bounds.{of_i16, of_i32, of_i64}
 use Rattle.sql_leaf.specs.declared.locking.LockMode.{LockMode}
 use Rattle.sql_leaf.specs.declared.locking.LockMode.TheVariants as mode
 use Rattle.sql_leaf.specs.declared.locking.LockingClause.{LockingClause}
@@ -59,7 +58,15 @@ abbrev pub key_column : ColumnDecl → KeyColumn
 key_column c = record { name = c.name; sql_name = c.sql_name; ty = c.ty; max_length = c.max_length }
 
 abbrev pub key_marks : Marks → KeyMarks
-key_marks m = record { no_source = m.no_source; find_source = m.find_source; key_count = m.key_count; second_lock = m.second_lock; no_lock = m.no_lock; boxed_lock = m.boxed_lock }
+key_marks m =
+    record {
+      no_source = m.no_source;
+      find_source = m.find_source;
+      key_count = m.key_count;
+      second_lock = m.second_lock;
+      no_lock = m.no_lock;
+      boxed_lock = m.boxed_lock;
+    }
 
 abbrev pub comparison_kind : Comparison → KeyKind
 comparison_kind Eq = K.Eq
@@ -105,10 +112,6 @@ modifier_kind modifier.NoModifier = K.Absent
 modifier_kind modifier.SkipLocked = K.SkipLocked
 modifier_kind modifier.NoWait = K.NoWait
 
-abbrev pub all_rows : DuplicateRule → Bool
-all_rows DistinctRows = false
-all_rows All = true
-
 abbrev pub combination_kind : Combinator → Bool → KeyKind
 combination_kind Union all = K.Union all
 combination_kind Intersect all = K.Intersect all
@@ -116,7 +119,8 @@ combination_kind Except all = K.Except all
 
 abbrev pub sample_rose : Option Tablesample → Rose NodeKind
 sample_rose None = absent
-sample_rose (Some s) = of_kind (method_kind s.method) (two (leaf (bound (small s.portion))) (number_rose integer s.seed))
+sample_rose (Some s) =
+    of_kind (method_kind s.method) (two (leaf (bound (of_i16 s.portion))) (number_rose of_i32 s.seed))
 
 abbrev pub lock_rose : LockingClause → Rose NodeKind
 lock_rose lock.NoLockingClause = absent
@@ -183,9 +187,21 @@ abbrev mutual
 
   pub rose : Statement → Rose NodeKind
   rose (select default e f u w o rows g h form marks) =
-      of_kind (K.Select default (key_marks marks)) (more (form_rose form) (more (expr_rose e) (more (from_rose f) (more (distinct_rose u) (more (maybe_rose w) (more (order_rose o) (more (number_rose big rows.limit_clause) (more (number_rose big rows.offset_clause) (two (maybe_rose g) (maybe_rose h))))))))))
+      of_kind (K.Select default (key_marks marks))
+      (more (form_rose form)
+      (more (expr_rose e)
+      (more (from_rose f)
+      (more (distinct_rose u)
+      (more (maybe_rose w)
+      (more (order_rose o)
+      (more (number_rose of_i64 rows.limit_clause)
+      (more (number_rose of_i64 rows.offset_clause) (two (maybe_rose g) (maybe_rose h))))))))))
   rose (combination by all a b o rows) =
-      of_kind (combination_kind by (all_rows all)) (more (rose a) (more (rose b) (more (positional_rose o) (two (number_rose big rows.limit_clause) (number_rose big rows.offset_clause)))))
+      of_kind (combination_kind by (is_all all))
+      (more (rose a)
+      (more (rose b)
+      (more (positional_rose o)
+      (two (number_rose of_i64 rows.limit_clause) (number_rose of_i64 rows.offset_clause)))))
 
 -- what a membership looks in
 abbrev pub among_rose : Among → Rose NodeKind

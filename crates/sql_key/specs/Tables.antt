@@ -16,7 +16,11 @@ abbrev pub text_cmp : List ℕ → List ℕ → Ordering
 text_cmp = slice_cmp nat_cmp
 
 abbrev pub column_cmp : ColumnDecl → ColumnDecl → Ordering
-column_cmp = then_cmp (then_cmp (then_cmp (on (λ c. c.name) text_cmp) (on (λ c. c.sql_name) text_cmp)) (on (λ c. c.ty) (type_ord.ghosts).cmp)) (on (λ c. c.max_length) (option_cmp nat_cmp))
+column_cmp =
+    then_cmp
+    (then_cmp (then_cmp (on (λ c. c.name) text_cmp) (on (λ c. c.sql_name) text_cmp))
+    (on (λ c. c.ty) (type_ord.ghosts).cmp))
+    (on (λ c. c.max_length) (option_cmp nat_cmp))
 
 abbrev by_name : TableDecl → TableDecl → Ordering
 by_name = on (λ t. t.name) text_cmp
@@ -40,12 +44,23 @@ table_hash t = str t.name
 -- ---- the laws of the comparisons
 
 columns_total : IsTotalOrder column_cmp
-columns_total = then_total (then_total (then_total (on_texts (λ c. c.name)) (on_texts (λ c. c.sql_name))) (on_total (λ c. c.ty) total-law)) (on_total (λ c. c.max_length) (options_total nat_cmp_total))
+columns_total =
+    then_total
+    (then_total (then_total (on_texts (λ c. c.name)) (on_texts (λ c. c.sql_name))) (on_total (λ c. c.ty) total-law))
+    (on_total (λ c. c.max_length) (options_total nat_cmp_total))
 
 pub tables_total : IsTotalOrder table_cmp
-tables_total = then_total (then_total (then_total (then_total (on_texts (λ t. t.name)) (on_total (λ t. t.schema) (options_total nat_list_cmp_total))) (on_texts (λ t. t.sql_name))) (on_total (λ t. t.columns) (lists_total columns_total))) (on_total (λ t. t.primary_key) (lists_total nat_list_cmp_total))
+tables_total =
+    then_total
+    (then_total
+    (then_total
+    (then_total (on_texts (λ t. t.name)) (on_total (λ t. t.schema) (options_total nat_list_cmp_total)))
+    (on_texts (λ t. t.sql_name)))
+    (on_total (λ t. t.columns) (lists_total columns_total)))
+    (on_total (λ t. t.primary_key) (lists_total nat_list_cmp_total))
 
-first_tied : (R S : TableDecl → TableDecl → Ordering) (a b : TableDecl) → eq_by_cmp (then_cmp R S) a b ≡ true → eq_by_cmp R a b ≡ true
+first_tied : (R S : TableDecl → TableDecl → Ordering) (a b : TableDecl) → eq_by_cmp (then_cmp R S) a b ≡ true
+    → eq_by_cmp R a b ≡ true
 first_tied R S a b h = first_so (is_eq (R a b)) (is_eq (S a b)) (tied_then (R a b) (S a b) ∙ h)
 
 pub same_hash : (a b : TableDecl) → eq_by_cmp table_cmp a b ≡ true → table_hash a ≡ table_hash b

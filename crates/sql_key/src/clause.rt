@@ -27,7 +27,9 @@ pub(crate) fn push_selection(
     clause: &SelectClause,
     nodes: &mut Vec<KeyNode>,
 ) -> Result<(), NoMemory>
-    ensures { OnOk result (Adds key_node nodes.old.items (one (blanked (expr_rose (select_clause_tree clause.now).1))) nodes.new.items) }
+    ensures { OnOk result
+        (Adds key_node nodes.old.items (one (blanked (expr_rose (select_clause_tree clause.now).1)))
+        nodes.new.items) }
 {
     match clause {
         SelectClause::DefaultSelectClause(selection) => push_expr(alloc, selection, nodes),
@@ -42,7 +44,9 @@ pub(crate) fn push_from(
     clause: &FromClause,
     nodes: &mut Vec<KeyNode>,
 ) -> Result<(), NoMemory>
-    ensures { OnOk result (Adds key_node nodes.old.items (one (blanked (from_rose (from_clause_tree clause.now)))) nodes.new.items) }
+    ensures { OnOk result
+        (Adds key_node nodes.old.items (one (blanked (from_rose (from_clause_tree clause.now))))
+        nodes.new.items) }
 {
     match clause {
         FromClause::NoFromClause => push_leaf(nodes, KeyKind::Absent),
@@ -57,7 +61,9 @@ pub(crate) fn push_distinct(
     clause: &DistinctClause,
     nodes: &mut Vec<KeyNode>,
 ) -> Result<(), NoMemory>
-    ensures { OnOk result (Adds key_node nodes.old.items (one (blanked (distinct_rose (distinct_clause_tree clause.now)))) nodes.new.items) }
+    ensures { OnOk result
+        (Adds key_node nodes.old.items
+        (one (blanked (distinct_rose (distinct_clause_tree clause.now)))) nodes.new.items) }
 {
     match clause {
         DistinctClause::NoDistinctClause => push_leaf(nodes, KeyKind::Absent),
@@ -75,7 +81,9 @@ pub(crate) fn push_where(
     clause: &WhereClause,
     nodes: &mut Vec<KeyNode>,
 ) -> Result<(), NoMemory>
-    ensures { OnOk result (Adds key_node nodes.old.items (one (blanked (maybe_rose (where_clause_tree clause.now)))) nodes.new.items) }
+    ensures { OnOk result
+        (Adds key_node nodes.old.items (one (blanked (maybe_rose (where_clause_tree clause.now))))
+        nodes.new.items) }
 {
     match clause {
         WhereClause::NoWhereClause => push_leaf(nodes, KeyKind::Absent),
@@ -90,7 +98,9 @@ pub(crate) fn push_group_by(
     clause: &GroupByClause,
     nodes: &mut Vec<KeyNode>,
 ) -> Result<(), NoMemory>
-    ensures { OnOk result (Adds key_node nodes.old.items (one (blanked (maybe_rose (group_by_clause_tree clause.now)))) nodes.new.items) }
+    ensures { OnOk result
+        (Adds key_node nodes.old.items
+        (one (blanked (maybe_rose (group_by_clause_tree clause.now)))) nodes.new.items) }
 {
     match clause {
         GroupByClause::NoGroupByClause => push_leaf(nodes, KeyKind::Absent),
@@ -105,7 +115,9 @@ pub(crate) fn push_having(
     clause: &HavingClause,
     nodes: &mut Vec<KeyNode>,
 ) -> Result<(), NoMemory>
-    ensures { OnOk result (Adds key_node nodes.old.items (one (blanked (maybe_rose (having_clause_tree clause.now)))) nodes.new.items) }
+    ensures { OnOk result
+        (Adds key_node nodes.old.items (one (blanked (maybe_rose (having_clause_tree clause.now))))
+        nodes.new.items) }
 {
     match clause {
         HavingClause::NoHavingClause => push_leaf(nodes, KeyKind::Absent),
@@ -116,14 +128,19 @@ pub(crate) fn push_having(
 #[tactic(auto, using(sql_node::proofs::Trees::opens_order_item))]
 #[cycle(walk)]
 fn push_item(alloc: Global, item: &OrderItem, nodes: &mut Vec<KeyNode>) -> Result<(), NoMemory>
-    ensures { OnOk result (Adds key_node nodes.old.items (one (blanked (item_rose (order_item_tree item.now)))) nodes.new.items) }
+    ensures { OnOk result
+        (Adds key_node nodes.old.items (one (blanked (item_rose (order_item_tree item.now))))
+        nodes.new.items) }
 {
     push_over(alloc, item_kind_of(item.direction), &item.expr, nodes)
 }
 
 #[cycle(walk)]
 fn push_items(alloc: Global, items: &[OrderItem], nodes: &mut Vec<KeyNode>) -> Result<(), NoMemory>
-    ensures { OnOk result (Adds key_node nodes.old.items (all_blanked (items_roses (items_of (map order_item_tree items.now)))) nodes.new.items) }
+    ensures { OnOk result
+        (Adds key_node nodes.old.items
+        (all_blanked (items_roses (items_of (map order_item_tree items.now))))
+        nodes.new.items) }
 {
     for item in items {
         push_item(alloc, item, nodes)?;
@@ -138,7 +155,9 @@ pub(crate) fn push_order(
     clause: &OrderClause,
     nodes: &mut Vec<KeyNode>,
 ) -> Result<(), NoMemory>
-    ensures { OnOk result (Adds key_node nodes.old.items (one (blanked (order_rose (order_clause_tree clause.now)))) nodes.new.items) }
+    ensures { OnOk result
+        (Adds key_node nodes.old.items (one (blanked (order_rose (order_clause_tree clause.now))))
+        nodes.new.items) }
 {
     match clause {
         OrderClause::NoOrderClause => push_leaf(nodes, KeyKind::Absent),

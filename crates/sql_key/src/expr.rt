@@ -24,7 +24,9 @@ pub(crate) fn push_over(
     a: &Expr,
     nodes: &mut Vec<KeyNode>,
 ) -> Result<(), NoMemory>
-    ensures { OnOk result (Adds key_node nodes.old.items (one (node kind (one (blanked (expr_rose (expr_tree a.now)))))) nodes.new.items) }
+    ensures { OnOk result
+        (Adds key_node nodes.old.items
+        (one (node kind (one (blanked (expr_rose (expr_tree a.now)))))) nodes.new.items) }
 {
     let at = open(nodes, kind)?;
     push_expr(alloc, a, nodes)?;
@@ -40,7 +42,8 @@ fn push_first(
     a: &Expr,
     nodes: &mut Vec<KeyNode>,
 ) -> Result<usize, NoMemory>
-    ensures { IfOk result (λ at. Opens key_node nodes.old.items kind (one (blanked (expr_rose (expr_tree a.now)))) at nodes.new.items) }
+    ensures { IfOk result (λ at. Opens key_node nodes.old.items kind
+        (one (blanked (expr_rose (expr_tree a.now)))) at nodes.new.items) }
 {
     let at = open(nodes, kind)?;
     push_expr(alloc, a, nodes)?;
@@ -50,7 +53,9 @@ fn push_first(
 /// Pushes the last expression under the node at that place.
 #[cycle(walk)]
 fn push_last(alloc: Global, at: usize, b: &Expr, nodes: &mut Vec<KeyNode>) -> Result<(), NoMemory>
-    ensures { OnOk result (Finishes key_node nodes.old.items at (one (blanked (expr_rose (expr_tree b.now)))) nodes.new.items) }
+    ensures { OnOk result
+        (Finishes key_node nodes.old.items at (one (blanked (expr_rose (expr_tree b.now))))
+        nodes.new.items) }
 {
     push_expr(alloc, b, nodes)?;
     close(nodes, at);
@@ -65,7 +70,9 @@ fn push_over_query(
     query: &Statement,
     nodes: &mut Vec<KeyNode>,
 ) -> Result<(), NoMemory>
-    ensures { OnOk result (Adds key_node nodes.old.items (one (node kind (one (shape (statement_tree query.now))))) nodes.new.items) }
+    ensures { OnOk result
+        (Adds key_node nodes.old.items (one (node kind (one (shape (statement_tree query.now)))))
+        nodes.new.items) }
 {
     let at = open(nodes, kind)?;
     push_statement(alloc, query, nodes)?;
@@ -77,7 +84,9 @@ fn push_over_query(
 #[tactic(auto, using(sql_rose::proofs::Adding::adding, sql_node::proofs::Trees::opens_in_values))]
 #[cycle(walk)]
 fn push_sought(alloc: Global, among: &InValues, nodes: &mut Vec<KeyNode>) -> Result<(), NoMemory>
-    ensures { OnOk result (Adds key_node nodes.old.items (one (blanked (among_rose (in_values_tree among.now)))) nodes.new.items) }
+    ensures { OnOk result
+        (Adds key_node nodes.old.items (one (blanked (among_rose (in_values_tree among.now))))
+        nodes.new.items) }
 {
     match among {
         InValues::List(ty, values) => {
@@ -95,7 +104,9 @@ fn push_among(
     among: &InValues,
     nodes: &mut Vec<KeyNode>,
 ) -> Result<(), NoMemory>
-    ensures { OnOk result (Finishes key_node nodes.old.items at (one (blanked (among_rose (in_values_tree among.now)))) nodes.new.items) }
+    ensures { OnOk result
+        (Finishes key_node nodes.old.items at
+        (one (blanked (among_rose (in_values_tree among.now)))) nodes.new.items) }
 {
     push_sought(alloc, among, nodes)?;
     close(nodes, at);
@@ -104,7 +115,9 @@ fn push_among(
 
 #[cycle(walk)]
 fn push_exprs(alloc: Global, exprs: &[Expr], nodes: &mut Vec<KeyNode>) -> Result<(), NoMemory>
-    ensures { OnOk result (Adds key_node nodes.old.items (all_blanked (exprs_roses (exprs_of (map expr_tree exprs.now)))) nodes.new.items) }
+    ensures { OnOk result
+        (Adds key_node nodes.old.items
+        (all_blanked (exprs_roses (exprs_of (map expr_tree exprs.now)))) nodes.new.items) }
 {
     for expr in exprs {
         push_expr(alloc, expr, nodes)?;
@@ -114,7 +127,10 @@ fn push_exprs(alloc: Global, exprs: &[Expr], nodes: &mut Vec<KeyNode>) -> Result
 
 #[cycle(walk)]
 fn push_list(alloc: Global, exprs: &[Expr], nodes: &mut Vec<KeyNode>) -> Result<(), NoMemory>
-    ensures { OnOk result (Adds key_node nodes.old.items (one (node K.List (all_blanked (exprs_roses (exprs_of (map expr_tree exprs.now)))))) nodes.new.items) }
+    ensures { OnOk result
+        (Adds key_node nodes.old.items
+        (one (node K.List (all_blanked (exprs_roses (exprs_of (map expr_tree exprs.now))))))
+        nodes.new.items) }
 {
     let at = open(nodes, KeyKind::List)?;
     push_exprs(alloc, exprs, nodes)?;
@@ -130,7 +146,9 @@ pub(crate) fn push_expr(
     expr: &Expr,
     nodes: &mut Vec<KeyNode>,
 ) -> Result<(), NoMemory>
-    ensures { OnOk result (Adds key_node nodes.old.items (one (blanked (expr_rose (expr_tree expr.now)))) nodes.new.items) }
+    ensures { OnOk result
+        (Adds key_node nodes.old.items (one (blanked (expr_rose (expr_tree expr.now))))
+        nodes.new.items) }
 {
     match expr {
         Expr::Column(column) => push_column(alloc, None, column, nodes),

@@ -2,10 +2,11 @@
 #![tactic(auto, using(sql_rose::proofs::Adding::adding))]
 
 ghost use Rattle.std.specs.Prelude.{◌≡◌, IfOk, OnOk, map};
+ghost use Rattle.sql_node.specs.Tree.{under};
 ghost use Rattle.sql_node.specs.View.{expr_tree};
 ghost use Rattle.sql_rose.specs.Building.{Adds};
 ghost use Rattle.sql_rose.specs.Rose.{one};
-ghost use Rattle.sql_key.specs.Expressions.{expr_key, under, without_length};
+ghost use Rattle.sql_key.specs.Expressions.{expr_key, without_length};
 ghost use Rattle.sql_key.specs.Keys.{key_node};
 ghost use Rattle.sql_key.specs.Shape.{blanked, expr_rose};
 
@@ -26,7 +27,8 @@ fn kind_without_length(kind: KeyKind) -> KeyKind
 }
 
 fn without_lengths(alloc: Global, nodes: Vec<KeyNode>) -> Result<Vec<KeyNode>, NoMemory>
-    ensures { IfOk result (λ v. v.items ≡ map (λ n. key_node (without_length n.kind) n.end) nodes.items) }
+    ensures { IfOk result (λ v. v.items
+        ≡ map (λ n. key_node (without_length n.kind) n.end) nodes.items) }
 {
     let mut all = Vec::new(alloc);
     for node in nodes {
@@ -45,7 +47,9 @@ fn push_under(
     expr: &Expr,
     nodes: &mut Vec<KeyNode>,
 ) -> Result<(), NoMemory>
-    ensures { OnOk result (Adds key_node nodes.old.items (one (blanked (expr_rose (under nullables (expr_tree expr.now))))) nodes.new.items) }
+    ensures { OnOk result
+        (Adds key_node nodes.old.items
+        (one (blanked (expr_rose (under nullables (expr_tree expr.now))))) nodes.new.items) }
 {
     if nullables == 0 {
         return push_expr(alloc, expr, nodes);

@@ -18,12 +18,14 @@ pub fn equal_keys_are_equal_shapes()
 /// `==` holds of two keys, and `cmp` answers Equal, exactly where they are one.
 pub fn compared_keys_are_equal_keys()
     ensures equal { (a b : List KeyNode) → (⟦<QueryKey as PartialEq>⟧.eq a b ≡ true) ↔ (a ≡ b) }
-    ensures ordered { (a b : List KeyNode) → (⟦<QueryKey as Ord>⟧.cmp a b ≡ Ordering.Equal) ↔ (a ≡ b) }
+    ensures ordered { (a b : List KeyNode)
+        → (⟦<QueryKey as Ord>⟧.cmp a b ≡ Ordering.Equal) ↔ (a ≡ b) }
 {}
 
 /// Keys of which `==` holds feed a hash alike.
 pub fn equal_keys_hash_alike()
-    ensures { (a b : List KeyNode) → ⟦<QueryKey as PartialEq>⟧.eq a b ≡ true → ⟦<QueryKey as Hash>⟧.hash_input a ≡ ⟦<QueryKey as Hash>⟧.hash_input b }
+    ensures { (a b : List KeyNode) → ⟦<QueryKey as PartialEq>⟧.eq a b ≡ true
+        → ⟦<QueryKey as Hash>⟧.hash_input a ≡ ⟦<QueryKey as Hash>⟧.hash_input b }
 {}
 
 /// Statements of one shape have an id, or none of them has.

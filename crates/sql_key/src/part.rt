@@ -2,12 +2,13 @@
 #![tactic(auto, using(sql_rose::proofs::Adding::adding))]
 
 ghost use Rattle.std.specs.Prelude.{◌≡◌, IfOk, OnOk, map};
-ghost use Rattle.sql_leaf.specs.Numbers.{big, integer};
+ghost use Rattle.sql_dialect.specs.Supports.{is_all};
+ghost use Rattle.sql_pass.specs.Bounds.{of_i64, of_i32};
 ghost use Rattle.sql_rose.specs.Building.{Adds};
 ghost use Rattle.sql_rose.specs.Rose.{leaf, one, roses_of};
 ghost use Rattle.sql_key.specs.Keys.{key_node};
 ghost use Rattle.sql_key.specs.declared.kind.KeyKind.TheVariants as K;
-ghost use Rattle.sql_key.specs.Shape.{all_rows, blanked, combination_kind, item_kind, join_kind, key_column, lock_rose, method_kind, mode_kind, modifier_kind, number_rose, position_rose, positional_rose, sample_rose};
+ghost use Rattle.sql_key.specs.Shape.{blanked, combination_kind, item_kind, join_kind, key_column, lock_rose, method_kind, mode_kind, modifier_kind, number_rose, position_rose, positional_rose, sample_rose};
 
 use crate::building::{close, open, push_leaf};
 use crate::{KeyColumn, KeyKind, KeyNode, KeyTable};
@@ -69,7 +70,7 @@ fn modifier_kind_of(modifier: Modifier) -> KeyKind
 }
 
 pub(crate) fn combination_kind_of(combinator: Combinator, rule: DuplicateRule) -> KeyKind
-    ensures { result ≡ combination_kind combinator (all_rows rule) }
+    ensures { result ≡ combination_kind combinator (is_all rule) }
 {
     let all = match rule {
         DuplicateRule::Distinct => false,
@@ -89,7 +90,10 @@ pub(crate) fn push_column(
     column: &Column,
     nodes: &mut Vec<KeyNode>,
 ) -> Result<(), NoMemory>
-    ensures { OnOk result (Adds key_node nodes.old.items (one (leaf (K.Column alias column.now.table (key_column column.now.decl)))) nodes.new.items) }
+    ensures { OnOk result
+        (Adds key_node nodes.old.items
+        (one (leaf (K.Column alias column.now.table (key_column column.now.decl))))
+        nodes.new.items) }
 {
     let table = KeyTable::from(column.table().try_clone(alloc)?);
     let column = KeyColumn::new(alloc, column)?;
@@ -98,7 +102,8 @@ pub(crate) fn push_column(
 
 /// Pushes a limit or an offset, by its type alone.
 pub(crate) fn push_rows(rows: Option<i64>, nodes: &mut Vec<KeyNode>) -> Result<(), NoMemory>
-    ensures { OnOk result (Adds key_node nodes.old.items (one (blanked (number_rose big rows))) nodes.new.items) }
+    ensures { OnOk result
+        (Adds key_node nodes.old.items (one (blanked (number_rose of_i64 rows))) nodes.new.items) }
 {
     let ty = SqlType {
         base: Base::BigInt,
@@ -111,7 +116,8 @@ pub(crate) fn push_rows(rows: Option<i64>, nodes: &mut Vec<KeyNode>) -> Result<(
 }
 
 fn push_seed(seed: Option<i32>, nodes: &mut Vec<KeyNode>) -> Result<(), NoMemory>
-    ensures { OnOk result (Adds key_node nodes.old.items (one (blanked (number_rose integer seed))) nodes.new.items) }
+    ensures { OnOk result
+        (Adds key_node nodes.old.items (one (blanked (number_rose of_i32 seed))) nodes.new.items) }
 {
     let ty = SqlType {
         base: Base::Integer,
@@ -127,7 +133,8 @@ pub(crate) fn push_sample(
     sample: Option<Tablesample>,
     nodes: &mut Vec<KeyNode>,
 ) -> Result<(), NoMemory>
-    ensures { OnOk result (Adds key_node nodes.old.items (one (blanked (sample_rose sample))) nodes.new.items) }
+    ensures { OnOk result
+        (Adds key_node nodes.old.items (one (blanked (sample_rose sample))) nodes.new.items) }
 {
     let portion = SqlType {
         base: Base::SmallInt,
@@ -146,7 +153,8 @@ pub(crate) fn push_sample(
 }
 
 pub(crate) fn push_lock(locking: LockingClause, nodes: &mut Vec<KeyNode>) -> Result<(), NoMemory>
-    ensures { OnOk result (Adds key_node nodes.old.items (one (blanked (lock_rose locking))) nodes.new.items) }
+    ensures { OnOk result
+        (Adds key_node nodes.old.items (one (blanked (lock_rose locking))) nodes.new.items) }
 {
     match locking {
         LockingClause::NoLockingClause => push_leaf(nodes, KeyKind::Absent),
@@ -160,7 +168,8 @@ pub(crate) fn push_lock(locking: LockingClause, nodes: &mut Vec<KeyNode>) -> Res
 }
 
 fn push_position(item: PositionalItem, nodes: &mut Vec<KeyNode>) -> Result<(), NoMemory>
-    ensures { OnOk result (Adds key_node nodes.old.items (one (blanked (position_rose item))) nodes.new.items) }
+    ensures { OnOk result
+        (Adds key_node nodes.old.items (one (blanked (position_rose item))) nodes.new.items) }
 {
     let at = open(nodes, item_kind_of(item.direction))?;
     push_leaf(nodes, KeyKind::OrderColumn(item.column.0))?;
@@ -169,7 +178,9 @@ fn push_position(item: PositionalItem, nodes: &mut Vec<KeyNode>) -> Result<(), N
 }
 
 fn push_positions(items: &[PositionalItem], nodes: &mut Vec<KeyNode>) -> Result<(), NoMemory>
-    ensures { OnOk result (Adds key_node nodes.old.items (roses_of (λ p. blanked (position_rose p)) items.now) nodes.new.items) }
+    ensures { OnOk result
+        (Adds key_node nodes.old.items (roses_of (λ p. blanked (position_rose p)) items.now)
+        nodes.new.items) }
 {
     for item in items {
         push_position(*item, nodes)?;
@@ -182,7 +193,9 @@ pub(crate) fn push_positional_order(
     order: &Option<SqlList<PositionalItem>>,
     nodes: &mut Vec<KeyNode>,
 ) -> Result<(), NoMemory>
-    ensures { OnOk result (Adds key_node nodes.old.items (one (blanked (positional_rose order.now))) nodes.new.items) }
+    ensures { OnOk result
+        (Adds key_node nodes.old.items (one (blanked (positional_rose order.now)))
+        nodes.new.items) }
 {
     match order {
         None => push_leaf(nodes, KeyKind::Absent),

@@ -42,7 +42,8 @@ fn expr_leaves_id(expr: &Expr) -> bool
 
 #[cycle(plain)]
 fn exprs_leave_id(exprs: &[Expr]) -> bool
-    ensures { result ≡ roses_all leaves_id (all_blanked (exprs_roses (exprs_of (map expr_tree exprs.now)))) }
+    ensures { result
+        ≡ roses_all leaves_id (all_blanked (exprs_roses (exprs_of (map expr_tree exprs.now)))) }
 {
     for expr in exprs {
         if !expr_leaves_id(expr) {
@@ -172,7 +173,9 @@ fn item_leaves_id(item: &OrderItem) -> bool
 
 #[cycle(plain)]
 fn items_leave_id(items: &[OrderItem]) -> bool
-    ensures { result ≡ roses_all leaves_id (all_blanked (items_roses (items_of (map order_item_tree items.now)))) }
+    ensures { result
+        ≡ roses_all leaves_id
+        (all_blanked (items_roses (items_of (map order_item_tree items.now)))) }
 {
     for item in items {
         if !item_leaves_id(item) {

@@ -21,7 +21,11 @@ use sql_schema::NoMemory;
 use std::alloc::Global;
 
 fn push_table(alloc: Global, source: &TableSource, nodes: &mut Vec<KeyNode>) -> Result<(), NoMemory>
-    ensures { OnOk result (Adds key_node nodes.old.items (one (blanked (source_rose (of_table source.now.table source.now.only source.now.sample)))) nodes.new.items) }
+    ensures { OnOk result
+        (Adds key_node nodes.old.items
+        (one (blanked (source_rose (of_table source.now.table source.now.only
+        source.now.sample))))
+        nodes.new.items) }
 {
     let table = KeyTable::from(source.table.try_clone(alloc)?);
     let at = open(nodes, KeyKind::Table(table, source.only))?;
@@ -31,7 +35,9 @@ fn push_table(alloc: Global, source: &TableSource, nodes: &mut Vec<KeyNode>) -> 
 }
 
 fn push_alias(alloc: Global, alias: &Alias, nodes: &mut Vec<KeyNode>) -> Result<(), NoMemory>
-    ensures { OnOk result (Adds key_node nodes.old.items (one (leaf (K.Alias alias.now.name alias.now.table))) nodes.new.items) }
+    ensures { OnOk result
+        (Adds key_node nodes.old.items (one (leaf (K.Alias alias.now.name alias.now.table)))
+        nodes.new.items) }
 {
     let name = alias.name.try_clone(alloc)?;
     let table = KeyTable::from(alias.table.try_clone(alloc)?);
@@ -40,7 +46,9 @@ fn push_alias(alloc: Global, alias: &Alias, nodes: &mut Vec<KeyNode>) -> Result<
 
 #[cycle(walk)]
 fn push_on(alloc: Global, on: &Option<Expr>, nodes: &mut Vec<KeyNode>) -> Result<(), NoMemory>
-    ensures { OnOk result (Adds key_node nodes.old.items (one (blanked (maybe_rose (maybe_of (option_map expr_tree on.now))))) nodes.new.items) }
+    ensures { OnOk result
+        (Adds key_node nodes.old.items
+        (one (blanked (maybe_rose (maybe_of (option_map expr_tree on.now))))) nodes.new.items) }
 {
     match on {
         None => push_leaf(nodes, KeyKind::Absent),
@@ -51,7 +59,9 @@ fn push_on(alloc: Global, on: &Option<Expr>, nodes: &mut Vec<KeyNode>) -> Result
 #[tactic(auto, using(sql_rose::proofs::Adding::adding, sql_node::proofs::Trees::opens_join_on, sql_node::proofs::Trees::opens_join))]
 #[cycle(walk)]
 fn push_join(alloc: Global, join: &JoinOn, nodes: &mut Vec<KeyNode>) -> Result<(), NoMemory>
-    ensures { OnOk result (Adds key_node nodes.old.items (one (blanked (source_rose (join_on_tree join.now)))) nodes.new.items) }
+    ensures { OnOk result
+        (Adds key_node nodes.old.items (one (blanked (source_rose (join_on_tree join.now))))
+        nodes.new.items) }
 {
     let at = open(nodes, join_kind_of(join.join.kind))?;
     push_source(alloc, &join.join.left, nodes)?;
@@ -68,7 +78,9 @@ pub(crate) fn push_source(
     source: &Source,
     nodes: &mut Vec<KeyNode>,
 ) -> Result<(), NoMemory>
-    ensures { OnOk result (Adds key_node nodes.old.items (one (blanked (source_rose (source_tree source.now)))) nodes.new.items) }
+    ensures { OnOk result
+        (Adds key_node nodes.old.items (one (blanked (source_rose (source_tree source.now))))
+        nodes.new.items) }
 {
     match source {
         Source::Table(source) => push_table(alloc, source, nodes),

@@ -35,7 +35,9 @@ fn push_select(
     statement: &SelectStatement,
     nodes: &mut Vec<KeyNode>,
 ) -> Result<(), NoMemory>
-    ensures { OnOk result (Adds key_node nodes.old.items (one (shape (select_statement_tree statement.now))) nodes.new.items) }
+    ensures { OnOk result
+        (Adds key_node nodes.old.items (one (shape (select_statement_tree statement.now)))
+        nodes.new.items) }
 {
     let default = is_default(&statement.select);
     let at = open(
@@ -63,7 +65,9 @@ fn push_boxed(
     statement: &BoxedSelectStatement,
     nodes: &mut Vec<KeyNode>,
 ) -> Result<(), NoMemory>
-    ensures { OnOk result (Adds key_node nodes.old.items (one (shape (boxed_select_statement_tree statement.now))) nodes.new.items) }
+    ensures { OnOk result
+        (Adds key_node nodes.old.items (one (shape (boxed_select_statement_tree statement.now)))
+        nodes.new.items) }
 {
     let default = is_default(&statement.select);
     let at = open(
@@ -91,7 +95,9 @@ fn push_combination(
     clause: &CombinationClause,
     nodes: &mut Vec<KeyNode>,
 ) -> Result<(), NoMemory>
-    ensures { OnOk result (Adds key_node nodes.old.items (one (shape (combination_clause_tree clause.now))) nodes.new.items) }
+    ensures { OnOk result
+        (Adds key_node nodes.old.items (one (shape (combination_clause_tree clause.now)))
+        nodes.new.items) }
 {
     let at = open(
         nodes,
@@ -114,7 +120,9 @@ pub(crate) fn push_statement(
     statement: &Statement,
     nodes: &mut Vec<KeyNode>,
 ) -> Result<(), NoMemory>
-    ensures { OnOk result (Adds key_node nodes.old.items (one (shape (statement_tree statement.now))) nodes.new.items) }
+    ensures { OnOk result
+        (Adds key_node nodes.old.items (one (shape (statement_tree statement.now)))
+        nodes.new.items) }
 {
     match statement {
         Statement::Select(select) => push_select(alloc, select, nodes),

@@ -18,7 +18,12 @@ blank-append [] qs = refl
 blank-append (p ∷ ps) qs = ap (λ l. blank_piece p ∷ l) (blank-append ps qs)
 
 pub alike-append : {a b c e : List Piece} → Alike a c → Alike b e → Alike (a ++ b) (c ++ e)
-alike-append {a} {b} {c} {e} h k = record { says = blank-append a b ∙ ap (λ x. x ++ blank_pieces b) h.says ∙ ap (λ y. blank_pieces c ++ y) k.says ∙ sym (blank-append c e) }
+alike-append {a} {b} {c} {e} h k =
+    record {
+      says =
+          blank-append a b ∙ ap (λ x. x ++ blank_pieces b) h.says ∙ ap (λ y. blank_pieces c ++ y) k.says
+          ∙ sym (blank-append c e);
+    }
 
 pub alike-bind : (b c : Bound) → blank_bound b ≡ blank_bound c → Alike (one (Bind b)) (one (Bind c))
 unfolding one
@@ -31,7 +36,8 @@ alike-behind t h = alike-append (alike-same (one (Text t))) h
 pub alike-before : {x y : List Piece} (t : List ℕ) → Alike x y → Alike (x ++ one (Text t)) (y ++ one (Text t))
 alike-before t h = alike-append h (alike-same (one (Text t)))
 
-pub alike-around : {x y : List Piece} (before behind : List ℕ) → Alike x y → Alike (around before x behind) (around before y behind)
+pub alike-around : {x y : List Piece} (before behind : List ℕ) → Alike x y
+    → Alike (around before x behind) (around before y behind)
 alike-around before behind h = alike-behind before (alike-before behind h)
 
 -- ## Lists
@@ -52,7 +58,8 @@ next-alike : (first : Bool) {x y : List Piece} → Alike x y → Alike (next_of 
 next-alike true h = h
 next-alike false h = alike-behind _ h
 
-pub commas-alike : (first : Bool) (xs ys : List (List Piece)) → AlikeLists xs ys → Alike (commas first xs) (commas first ys)
+pub commas-alike : (first : Bool) (xs ys : List (List Piece)) → AlikeLists xs ys
+    → Alike (commas first xs) (commas first ys)
 commas-alike first [] [] h = alike-same []
 commas-alike first [] (y ∷ ys) h = absurd h
 commas-alike first (x ∷ xs) [] h = absurd h
@@ -102,11 +109,13 @@ values-blank (Bind b ∷ ps) = ap (λ l. blank_bound b ∷ l) (values-blank ps)
 values-blank (ValueOnly b ∷ ps) = ap (λ l. blank_bound b ∷ l) (values-blank ps)
 values-blank (Unsafe ∷ ps) = values-blank ps
 
-pub one_text : (d : Dialect) (n : ℕ) (ps qs : List Piece) → blank_pieces ps ≡ blank_pieces qs → text_of d n ps ≡ text_of d n qs
+pub one_text : (d : Dialect) (n : ℕ) (ps qs : List Piece) → blank_pieces ps ≡ blank_pieces qs
+    → text_of d n ps ≡ text_of d n qs
 one_text d n ps qs h = sym (text-blank d n ps) ∙ ap (text_of d n) h ∙ text-blank d n qs
 
 pub one_safety : (ps qs : List Piece) → blank_pieces ps ≡ blank_pieces qs → is_safe ps ≡ is_safe qs
 one_safety ps qs h = sym (safe-blank ps) ∙ ap is_safe h ∙ safe-blank qs
 
-pub like_values : (ps qs : List Piece) → blank_pieces ps ≡ blank_pieces qs → map blank_bound (values_of ps) ≡ map blank_bound (values_of qs)
+pub like_values : (ps qs : List Piece) → blank_pieces ps ≡ blank_pieces qs
+    → map blank_bound (values_of ps) ≡ map blank_bound (values_of qs)
 like_values ps qs h = sym (values-blank ps) ∙ ap values_of h ∙ values-blank qs

@@ -23,7 +23,8 @@ some_none x e = cc
 -- ## Pages
 
 -- an offset that the dialect has a form for
-has_page : (d : Dialect) (k : Form) (l o : Option ℤ) → (IsMysql d → IsUnboxed k → (l ≡ None) → (o ≢ None) → ⊥) → PageHasText d (is_boxed k) l o
+has_page : (d : Dialect) (k : Form) (l o : Option ℤ) → (IsMysql d → IsUnboxed k → (l ≡ None) → (o ≢ None) → ⊥)
+    → PageHasText d (is_boxed k) l o
 has_page d k l None h = tt
 has_page Pg k l (Some o) h = tt
 has_page Mysql (unboxed x) None (Some o) h = h tt tt refl (λ e. some_none o e)
@@ -31,7 +32,8 @@ has_page Mysql (unboxed x) (Some l) (Some o) h = tt
 has_page Mysql (boxed d n) l (Some o) h = tt
 has_page Sqlite k l (Some o) h = tt
 
-pub page_has_text : (d : Dialect) (k : Form) (c : LimitOffsetClause) → ¬ (IsMysql d × (IsUnboxed k × IsOffsetAlone c)) → PageHasText d (is_boxed k) c.limit_clause c.offset_clause
+pub page_has_text : (d : Dialect) (k : Form) (c : LimitOffsetClause) → ¬ (IsMysql d × (IsUnboxed k × IsOffsetAlone c))
+    → PageHasText d (is_boxed k) c.limit_clause c.offset_clause
 page_has_text d k c h = has_page d k c.limit_clause c.offset_clause (λ m u l o. h (m, (u, (l, o))))
 
 -- ## Locks
@@ -66,7 +68,8 @@ sample_fits Pg (Some s) h = tt
 sample_fits Mysql (Some s) h = h tt (λ e. some_none s e)
 sample_fits Sqlite (Some s) h = h tt (λ e. some_none s e)
 
-pub table_has_text : (d : Dialect) (t : TableDecl) (only : Bool) (s : Option Tablesample) → (IsNotPg d → ¬ HasTableMarks (of_table t only s)) → FitsOnly d only × SampleHasText d s
+pub table_has_text : (d : Dialect) (t : TableDecl) (only : Bool) (s : Option Tablesample)
+    → (IsNotPg d → ¬ HasTableMarks (of_table t only s)) → FitsOnly d only × SampleHasText d s
 table_has_text d t only s h = (only_fits d only (λ n o. h n (inl o)), sample_fits d s (λ n o. h n (inr o)))
 
 -- DISTINCT ON

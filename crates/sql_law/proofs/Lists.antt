@@ -9,7 +9,8 @@ pub each_not : {X : Type 0} (P : X → Type 0) (xs : List X) → ¬ AnyOf P xs �
 each_not P [] h = tt
 each_not P (x ∷ xs) h = ((λ p. h (inl p)), each_not P xs (λ p. h (inr p)))
 
-pub each_both : {X : Type 0} (P Q R : X → Type 0) → ((x : X) → P x → Q x → R x) → (xs : List X) → Each P xs → Each Q xs → Each R xs
+pub each_both : {X : Type 0} (P Q R : X → Type 0) → ((x : X) → P x → Q x → R x) → (xs : List X) → Each P xs → Each Q xs
+    → Each R xs
 each_both P Q R f [] p q = tt
 each_both P Q R f (x ∷ xs) p q = (f x p.0 q.0, each_both P Q R f xs p.1 q.1)
 
@@ -49,11 +50,13 @@ any_at P [] k b e p = absurd (none_some b e)
 any_at P (x ∷ xs) zero b e p = inl (subst P (sym (ap (some_inverse x) e)) p)
 any_at P (x ∷ xs) (suc k) b e p = inr (any_at P xs k b e p)
 
-pub pair_at : {X : Type 0} (R : X → X → Type 0) (xs : List X) (j k : ℕ) (a b : X) → j < k → slice_get xs j ≡ Some a → slice_get xs k ≡ Some b → R a b → AnyPair R xs
+pub pair_at : {X : Type 0} (R : X → X → Type 0) (xs : List X) (j k : ℕ) (a b : X) → j < k → slice_get xs j ≡ Some a
+    → slice_get xs k ≡ Some b → R a b → AnyPair R xs
 unfolding some_inverse
 pair_at R [] j k a b l e f r = absurd (none_some a e)
 pair_at R (x ∷ xs) zero zero a b l e f r = absurd (omega arith)
-pair_at R (x ∷ xs) zero (suc k) a b l e f r = inl (any_at (R x) xs k b f (subst (λ y. R y b) (sym (ap (some_inverse x) e)) r))
+pair_at R (x ∷ xs) zero (suc k) a b l e f r =
+    inl (any_at (R x) xs k b f (subst (λ y. R y b) (sym (ap (some_inverse x) e)) r))
 pair_at R (x ∷ xs) (suc j) zero a b l e f r = absurd (omega arith)
 pair_at R (x ∷ xs) (suc j) (suc k) a b l e f r = inr (pair_at R xs j k a b (omega arith) e f r)
 

@@ -12,7 +12,7 @@ use Rattle.sql_pass.specs.declared.value.Value.{Value}
 use Rattle.sql_pass.specs.declared.value.Value.TheVariants.{Null}
 use Rattle.sql_leaf.specs.Limits.{limit_offset_pieces, no_limit_pieces}
 use Rattle.sql_leaf.specs.Locks.{locking_pieces}
-use Rattle.sql_leaf.specs.Numbers.{small, integer, big}
+use Rattle.sql_pass.specs.Bounds.{of_i16, of_i32, of_i64}
 use Rattle.sql_leaf.specs.Positions.{direction_pieces}
 use Rattle.sql_leaf.specs.Sources.{alias_pieces, only_pieces, method_open, repeatable, seed_pieces, sample_pieces}
 use Rattle.sql_leaf.specs.declared.limit_offset.LimitOffsetClause.{LimitOffsetClause}
@@ -24,51 +24,69 @@ use Rattle.sql_law.proofs.Alike.{Alike, alike-same, alike-append, alike-bind, al
 
 -- ## Values
 
-blank-twice : (vs : List Value) → map (λ (v : Value). Null) (map (λ (v : Value). Null) vs) ≡ map (λ (v : Value). Null) vs
+blank-twice : (vs : List Value)
+    → map (λ (v : Value). Null) (map (λ (v : Value). Null) vs) ≡ map (λ (v : Value). Null) vs
 blank-twice [] = refl
 blank-twice (v ∷ vs) = ap (λ l. Null ∷ l) (blank-twice vs)
 
 one-alike : (t : SqlType) (v : Value) → Alike (one (Bind (OneValue t Null))) (one (Bind (OneValue t v)))
 one-alike t v = alike-bind (OneValue t Null) (OneValue t v) refl
 
-values-alike : (t : SqlType) (vs : List Value) → AlikeLists (map (λ v. one (Bind (OneValue t v))) (map (λ (v : Value). Null) vs)) (map (λ v. one (Bind (OneValue t v))) vs)
+values-alike : (t : SqlType) (vs : List Value)
+    → AlikeLists (map (λ v. one (Bind (OneValue t v))) (map (λ (v : Value). Null) vs))
+    (map (λ v. one (Bind (OneValue t v))) vs)
 values-alike t [] = tt
 values-alike t (v ∷ vs) = (one-alike t v, values-alike t vs)
 
-one_by_one-alike : (d : Dialect) (n : Bool) (x y : List Piece) → Alike x y → (t : SqlType) (vs : List Value) → Alike (one_by_one d n x t (map (λ (v : Value). Null) vs)) (one_by_one d n y t vs)
+one_by_one-alike : (d : Dialect) (n : Bool) (x y : List Piece) → Alike x y → (t : SqlType) (vs : List Value)
+    → Alike (one_by_one d n x t (map (λ (v : Value). Null) vs)) (one_by_one d n y t vs)
 one_by_one-alike d n x y h t [] = alike-same _
 one_by_one-alike d n x y h t (v ∷ vs) =
     rw (eqb-suc-zero (length (map (λ (x : Value). Null) vs)), eqb-suc-zero (length vs))
     (alike-append (alike-same (one Unsafe)) (alike-append (alike-around (codes "(") (among_sql d n) h)
-    (alike-before (codes "))") (commas-alike true (map (λ v. one (Bind (OneValue t v))) (map (λ (x : Value). Null) (v ∷ vs))) (map (λ v. one (Bind (OneValue t v))) (v ∷ vs)) (values-alike t (v ∷ vs))))))
+    (alike-before (codes "))")
+    (commas-alike true (map (λ v. one (Bind (OneValue t v))) (map (λ (x : Value). Null) (v ∷ vs)))
+    (map (λ v. one (Bind (OneValue t v))) (v ∷ vs)) (values-alike t (v ∷ vs))))))
 
-among-alike : (d : Dialect) (n : Bool) (x y : List Piece) → Alike x y → (t : SqlType) (vs : List Value) → Alike (among_pieces d n x t (blank_values vs)) (among_pieces d n y t vs)
+among-alike : (d : Dialect) (n : Bool) (x y : List Piece) → Alike x y → (t : SqlType) (vs : List Value)
+    → Alike (among_pieces d n x t (blank_values vs)) (among_pieces d n y t vs)
 among-alike Pg n x y h t vs =
-    alike-append (alike-around (codes "(") (among_sql Pg n) h) (alike-before (codes "))") (alike-bind (ManyValues t (map (λ (v : Value). Null) vs)) (ManyValues t vs) (ap (ManyValues t) (blank-twice vs))))
+    alike-append (alike-around (codes "(") (among_sql Pg n) h)
+    (alike-before (codes "))")
+    (alike-bind (ManyValues t (map (λ (v : Value). Null) vs)) (ManyValues t vs)
+    (ap (ManyValues t) (blank-twice vs))))
 among-alike Mysql n x y h t vs = one_by_one-alike Mysql n x y h t vs
 among-alike Sqlite n x y h t vs = one_by_one-alike Sqlite n x y h t vs
 
 -- ## Numbers
 
-big-alike : (n : ℤ) → Alike (one (Bind (big (blank n)))) (one (Bind (big n)))
-big-alike n = alike-bind (big (blank n)) (big n) refl
+big-alike : (n : ℤ) → Alike (one (Bind (of_i64 (blank n)))) (one (Bind (of_i64 n)))
+big-alike n = alike-bind (of_i64 (blank n)) (of_i64 n) refl
 
-page-alike : (d : Dialect) (b : Bool) (l o : Option ℤ) → Alike (limit_offset_pieces d b (option_map blank l) (option_map blank o)) (limit_offset_pieces d b l o)
+page-alike : (d : Dialect) (b : Bool) (l o : Option ℤ)
+    → Alike (limit_offset_pieces d b (option_map blank l) (option_map blank o)) (limit_offset_pieces d b l o)
 page-alike d b None None = alike-same []
-page-alike d b None (Some o) = alike-append (alike-same (no_limit_pieces d b)) (alike-behind (codes " OFFSET ") (big-alike o))
+page-alike d b None (Some o) =
+    alike-append (alike-same (no_limit_pieces d b)) (alike-behind (codes " OFFSET ") (big-alike o))
 page-alike d b (Some l) None = alike-behind (codes " LIMIT ") (big-alike l)
-page-alike d b (Some l) (Some o) = alike-append (alike-behind (codes " LIMIT ") (big-alike l)) (alike-behind (codes " OFFSET ") (big-alike o))
+page-alike d b (Some l) (Some o) =
+    alike-append (alike-behind (codes " LIMIT ") (big-alike l)) (alike-behind (codes " OFFSET ") (big-alike o))
 
 seed-alike : (s : Option ℤ) → Alike (seed_pieces (option_map blank s)) (seed_pieces s)
 seed-alike None = alike-same []
-seed-alike (Some n) = alike-behind repeatable (alike-before (codes ")") (alike-bind (integer (blank n)) (integer n) refl))
+seed-alike (Some n) = alike-behind repeatable (alike-before (codes ")") (alike-bind (of_i32 (blank n)) (of_i32 n) refl))
 
-sample-alike : (s : Option Tablesample) → Alike (pieces_of_option sample_pieces (option_map blank_sample s)) (pieces_of_option sample_pieces s)
+sample-alike : (s : Option Tablesample)
+    → Alike (pieces_of_option sample_pieces (option_map blank_sample s)) (pieces_of_option sample_pieces s)
 sample-alike None = alike-same []
-sample-alike (Some s) = alike-behind (method_open s.method) (alike-append (alike-bind (small (blank s.portion)) (small s.portion) refl) (alike-behind (codes ")") (seed-alike s.seed)))
+sample-alike (Some s) =
+    alike-behind (method_open s.method)
+    (alike-append (alike-bind (of_i16 (blank s.portion)) (of_i16 s.portion) refl)
+    (alike-behind (codes ")") (seed-alike s.seed)))
 
 end-alike : (d : Dialect) (r : LimitOffsetClause) (k : Form) → Alike (end_pieces d (blank_rows r) k) (end_pieces d r k)
-end-alike d r (unboxed l) = alike-append (page-alike d false r.limit_clause r.offset_clause) (alike-same (locking_pieces l))
+end-alike d r (unboxed l) =
+    alike-append (page-alike d false r.limit_clause r.offset_clause) (alike-same (locking_pieces l))
 end-alike d r (boxed e n) = page-alike d true r.limit_clause r.offset_clause
 
 -- ## Nodes
@@ -81,42 +99,71 @@ module _ (d : Dialect) where
     expr-alike (list es) = exprs-alike es
     expr-alike count_star = alike-same _
     expr-alike (nullable e) = expr-alike e
-    expr-alike (not_of e) = alike-around (codes "NOT (") (codes ")") (spread-alike (expr_parts d (shape_expr e)) (expr_parts d e) (expr-alike e))
-    expr-alike (null_test n e) = alike-around (codes "(") (null_test_sql n) (spread-alike (expr_parts d (shape_expr e)) (expr_parts d e) (expr-alike e))
-    expr-alike (count e) = alike-around (codes "COUNT(") (codes ")") (spread-alike (expr_parts d (shape_expr e)) (expr_parts d e) (expr-alike e))
+    expr-alike (not_of e) =
+        alike-around (codes "NOT (") (codes ")")
+        (spread-alike (expr_parts d (shape_expr e)) (expr_parts d e) (expr-alike e))
+    expr-alike (null_test n e) =
+        alike-around (codes "(") (null_test_sql n)
+        (spread-alike (expr_parts d (shape_expr e)) (expr_parts d e) (expr-alike e))
+    expr-alike (count e) =
+        alike-around (codes "COUNT(") (codes ")")
+        (spread-alike (expr_parts d (shape_expr e)) (expr_parts d e) (expr-alike e))
     expr-alike (compared by a b) =
-        alike-append (alike-around (codes "(") (comparison_sql by) (spread-alike (expr_parts d (shape_expr a)) (expr_parts d a) (expr-alike a))) (alike-before (codes ")") (spread-alike (expr_parts d (shape_expr b)) (expr_parts d b) (expr-alike b)))
+        alike-append
+        (alike-around (codes "(") (comparison_sql by)
+        (spread-alike (expr_parts d (shape_expr a)) (expr_parts d a) (expr-alike a)))
+        (alike-before (codes ")") (spread-alike (expr_parts d (shape_expr b)) (expr_parts d b) (expr-alike b)))
     expr-alike (joined by a b) =
-        alike-append (alike-around (codes "(") (logic_sql by) (spread-alike (expr_parts d (shape_expr a)) (expr_parts d a) (expr-alike a))) (alike-before (codes ")") (spread-alike (expr_parts d (shape_expr b)) (expr_parts d b) (expr-alike b)))
+        alike-append
+        (alike-around (codes "(") (logic_sql by)
+        (spread-alike (expr_parts d (shape_expr a)) (expr_parts d a) (expr-alike a)))
+        (alike-before (codes ")") (spread-alike (expr_parts d (shape_expr b)) (expr_parts d b) (expr-alike b)))
     expr-alike (exists q) = alike-around (codes "EXISTS (") (codes ")") (pieces-alike q)
     expr-alike (single q) = alike-around (codes "(") (codes ")") (pieces-alike q)
-    expr-alike (among_values n e t xs) = among-alike d n _ _ (spread-alike (expr_parts d (shape_expr e)) (expr_parts d e) (expr-alike e)) t xs
+    expr-alike (among_values n e t xs) =
+        among-alike d n _ _ (spread-alike (expr_parts d (shape_expr e)) (expr_parts d e) (expr-alike e)) t xs
     expr-alike (among_rows n e q) =
-        alike-append (alike-around (codes "(") (among_sql d n) (spread-alike (expr_parts d (shape_expr e)) (expr_parts d e) (expr-alike e))) (alike-before (codes "))") (pieces-alike q))
+        alike-append
+        (alike-around (codes "(") (among_sql d n)
+        (spread-alike (expr_parts d (shape_expr e)) (expr_parts d e) (expr-alike e)))
+        (alike-before (codes "))") (pieces-alike q))
 
     exprs-alike : (es : Exprs) → AlikeLists (exprs_parts d (shape_exprs es)) (exprs_parts d es)
     exprs-alike no_exprs = tt
     exprs-alike (more_exprs e es) =
-        lists-append (each (expr_parts d (shape_expr e))) (exprs_parts d (shape_exprs es)) (each (expr_parts d e)) (exprs_parts d es)
+        lists-append (each (expr_parts d (shape_expr e))) (exprs_parts d (shape_exprs es)) (each (expr_parts d e))
+        (exprs_parts d es)
         (each-alike (expr_parts d (shape_expr e)) (expr_parts d e) (expr-alike e)) (exprs-alike es)
 
     items-alike : (is : Items) → AlikeLists (items_pieces d (shape_items is)) (items_pieces d is)
     items-alike no_items = tt
-    items-alike (more_items e by is) = (alike-append (spread-alike (expr_parts d (shape_expr e)) (expr_parts d e) (expr-alike e)) (alike-same (direction_pieces by)), items-alike is)
+    items-alike (more_items e by is) = (
+      alike-append (spread-alike (expr_parts d (shape_expr e)) (expr_parts d e) (expr-alike e))
+          (alike-same (direction_pieces by)),
+      items-alike is,
+    )
 
-    maybe-alike : (before : List ℕ) (e : MaybeExpr) → Alike (maybe_pieces d before (shape_maybe e)) (maybe_pieces d before e)
+    maybe-alike : (before : List ℕ) (e : MaybeExpr)
+        → Alike (maybe_pieces d before (shape_maybe e)) (maybe_pieces d before e)
     maybe-alike before no_expr = alike-same []
-    maybe-alike before (an_expr e) = alike-behind before (spread-alike (expr_parts d (shape_expr e)) (expr_parts d e) (expr-alike e))
+    maybe-alike before (an_expr e) =
+        alike-behind before (spread-alike (expr_parts d (shape_expr e)) (expr_parts d e) (expr-alike e))
 
     on-alike : (e : MaybeExpr) (x y : List Piece) → Alike x y → Alike (on_pieces d x (shape_maybe e)) (on_pieces d y e)
     on-alike no_expr x y h = h
-    on-alike (an_expr e) x y h = alike-behind (codes "(") (alike-append h (alike-around (codes " ON ") (codes ")") (spread-alike (expr_parts d (shape_expr e)) (expr_parts d e) (expr-alike e))))
+    on-alike (an_expr e) x y h =
+        alike-behind (codes "(")
+        (alike-append h
+        (alike-around (codes " ON ") (codes ")")
+        (spread-alike (expr_parts d (shape_expr e)) (expr_parts d e) (expr-alike e))))
 
     source-alike : (s : Source) → Alike (source_pieces d (shape_source s)) (source_pieces d s)
-    source-alike (of_table t only sample) = alike-append (alike-same (only_pieces only)) (alike-append (alike-same (table_pieces t)) (sample-alike sample))
+    source-alike (of_table t only sample) =
+        alike-append (alike-same (only_pieces only)) (alike-append (alike-same (table_pieces t)) (sample-alike sample))
     source-alike (of_alias a t) = alike-same (alias_pieces a t)
     source-alike (join k l r on) =
-        on-alike on (joined_by (source_pieces d (shape_source l)) k (source_pieces d (shape_source r))) (joined_by (source_pieces d l) k (source_pieces d r))
+        on-alike on (joined_by (source_pieces d (shape_source l)) k (source_pieces d (shape_source r)))
+        (joined_by (source_pieces d l) k (source_pieces d r))
         (alike-append (source-alike l) (alike-behind (join_sql k) (source-alike r)))
 
     from-alike : (f : From) → Alike (from_pieces d (shape_from f)) (from_pieces d f)
@@ -126,16 +173,29 @@ module _ (d : Dialect) where
     distinct-alike : (u : Distinct) → Alike (distinct_pieces d (shape_distinct u)) (distinct_pieces d u)
     distinct-alike every = alike-same []
     distinct-alike distinct = alike-same _
-    distinct-alike (distinct_on e) = alike-around distinct_on_open (codes ") ") (spread-alike (expr_parts d (shape_expr e)) (expr_parts d e) (expr-alike e))
+    distinct-alike (distinct_on e) =
+        alike-around distinct_on_open (codes ") ")
+        (spread-alike (expr_parts d (shape_expr e)) (expr_parts d e) (expr-alike e))
 
     order-alike : (o : Order) → Alike (order_pieces d (shape_order o)) (order_pieces d o)
     order-alike no_order = alike-same []
-    order-alike (order_by is) = alike-behind order_by_sql (commas-alike true (items_pieces d (shape_items is)) (items_pieces d is) (items-alike is))
+    order-alike (order_by is) =
+        alike-behind order_by_sql
+        (commas-alike true (items_pieces d (shape_items is)) (items_pieces d is) (items-alike is))
 
     pub pieces-alike : (s : Statement) → Alike (pieces d (shape s)) (pieces d s)
     pieces-alike (select default e f u w o rows g h form marks) =
-        alike-behind (codes "SELECT ") (alike-append (distinct-alike u) (alike-append (spread-alike (expr_parts d (shape_expr e)) (expr_parts d e) (expr-alike e)) (alike-append (from-alike f)
-        (alike-append (maybe-alike (codes " WHERE ") w) (alike-append (maybe-alike group_by g) (alike-append (maybe-alike (codes " HAVING ") h) (alike-append (order-alike o) (end-alike d rows form))))))))
+        alike-behind (codes "SELECT ")
+        (alike-append (distinct-alike u)
+        (alike-append (spread-alike (expr_parts d (shape_expr e)) (expr_parts d e) (expr-alike e))
+        (alike-append (from-alike f)
+        (alike-append (maybe-alike (codes " WHERE ") w)
+        (alike-append (maybe-alike group_by g)
+        (alike-append (maybe-alike (codes " HAVING ") h)
+        (alike-append (order-alike o) (end-alike d rows form))))))))
     pieces-alike (combination by all a b o rows) =
-        alike-append (alike-around (side_open d) (codes ")") (pieces-alike a)) (alike-behind (combinator_sql by) (alike-append (alike-same (all_pieces all))
-        (alike-append (alike-around (side_open d) (codes ")") (pieces-alike b)) (alike-append (alike-same (positions_pieces o)) (page-alike d false rows.limit_clause rows.offset_clause)))))
+        alike-append (alike-around (side_open d) (codes ")") (pieces-alike a))
+        (alike-behind (combinator_sql by) (alike-append (alike-same (all_pieces all))
+        (alike-append (alike-around (side_open d) (codes ")") (pieces-alike b))
+        (alike-append (alike-same (positions_pieces o))
+        (page-alike d false rows.limit_clause rows.offset_clause)))))

@@ -42,7 +42,9 @@ mutual
   in-source : (s : Source) → CountedSource s → AreCounted (in_source s)
   in-source (of_table t only sample) h = tt
   in-source (of_alias a t) h = tt
-  in-source (join k l r on) h = each_append _ (in_source l) _ (in-source l h.0) (each_append _ (in_source r) _ (in-source r h.1) (in-maybe on (origins l ++ origins r) h.2))
+  in-source (join k l r on) h =
+      each_append _ (in_source l) _ (in-source l h.0)
+      (each_append _ (in_source r) _ (in-source r h.1) (in-maybe on (origins l ++ origins r) h.2))
 
   in-from : (f : From) → CountedFrom f → AreCounted (in_from f)
   in-from no_source h = tt
@@ -69,7 +71,8 @@ mutual
             (each_append _ (in_maybe own g) _ (in-maybe g own k.4)
             (each_append _ (in_maybe own h) (in_order own o) (in-maybe h own k.5) (in-order o own k.6)))))),
       )
-  in-statement (combination by all a b o rows) outer k = (k.2, each_append _ (parts outer a) (parts outer b) (in-statement a outer k.0) (in-statement b outer k.1))
+  in-statement (combination by all a b o rows) outer k =
+      (k.2, each_append _ (parts outer a) (parts outer b) (in-statement a outer k.0) (in-statement b outer k.1))
 
 pub counted_in_parts : (s : Statement) → Counted s → PlacesAreCounted s
 counted_in_parts s h = in-statement s [] h

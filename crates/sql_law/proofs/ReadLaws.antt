@@ -17,13 +17,18 @@ use Rattle.sql_law.specs.Counted.{PlacesAreCounted}
 use Rattle.sql_law.proofs.TextLaws.{has_text, has_numbers}
 
 text : (schema : Declarations) (d : Dialect) (s : Statement) → PlacesAreCounted s → Accepted schema d s → HasText d s
-text schema d s counted h = has_text schema d s counted (h R.EmptyList) (h R.NoRelation) (h R.TypeMismatch) (h R.Unsupported)
+text schema d s counted h =
+    has_text schema d s counted (h R.EmptyList) (h R.NoRelation) (h R.TypeMismatch) (h R.Unsupported)
 
-pub only : (schema : Declarations) (d : Dialect) (s : Statement) → PlacesAreCounted s → Accepted schema d s → OnlyReading d (text_of d 0 (pieces d s)) (normal d s)
-only schema d s counted h = reading.only_reading d s (text schema d s counted h) (has_numbers schema d s (h R.TooManyBinds))
+pub only : (schema : Declarations) (d : Dialect) (s : Statement) → PlacesAreCounted s → Accepted schema d s
+    → OnlyReading d (text_of d 0 (pieces d s)) (normal d s)
+only schema d s counted h =
+    reading.only_reading d s (text schema d s counted h) (has_numbers schema d s (h R.TooManyBinds))
 
-pub fills : (schema : Declarations) (d : Dialect) (s : Statement) → PlacesAreCounted s → Accepted schema d s → Fills (normal d s) (values_of (pieces d s)) (filled d s)
+pub fills : (schema : Declarations) (d : Dialect) (s : Statement) → PlacesAreCounted s → Accepted schema d s
+    → Fills (normal d s) (values_of (pieces d s)) (filled d s)
 fills schema d s counted h = reading.fills d s (text schema d s counted h)
 
-pub as_many : (schema : Declarations) (d : Dialect) (s : Statement) → PlacesAreCounted s → Accepted schema d s → length (values_query (normal d s)) ≡ length (values_of (pieces d s))
+pub as_many : (schema : Declarations) (d : Dialect) (s : Statement) → PlacesAreCounted s → Accepted schema d s
+    → length (values_query (normal d s)) ≡ length (values_of (pieces d s))
 as_many schema d s counted h = reading.as_many d s (text schema d s counted h)

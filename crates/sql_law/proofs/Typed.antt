@@ -16,7 +16,8 @@ single_or_many : (e : Expr) → IsSingle e ⊎ ((ts : List (Option SqlType)) × 
 single_or_many (list es) = inr (_, refl)
 single_or_many (nullable e) = go (single_or_many e)
   where
-    go : IsSingle e ⊎ ((ts : List (Option SqlType)) × (given e ≡ many ts)) → IsSingle e ⊎ ((ts : List (Option SqlType)) × (all_nullable (given e) ≡ many ts))
+    go : IsSingle e ⊎ ((ts : List (Option SqlType)) × (given e ≡ many ts))
+        → IsSingle e ⊎ ((ts : List (Option SqlType)) × (all_nullable (given e) ≡ many ts))
     go (inl h) = inl h
     go (inr h) = inr (map as_nullable h.0, ap all_nullable h.1)
 single_or_many _ = inl tt
@@ -80,12 +81,14 @@ inside_one _ t = t.1
 mutual
   pub inside_list : (e : Expr) → Each (λ x. AreTyped (nodes x)) (flat e) → IsTypedInside e
   inside_list (list es) t = inside_lists es t
-  inside_list (nullable e) t = inside_list e (each_map _ _ (λ x h. h.1) (flat e) (each_under (λ x. AreTyped (nodes x)) nullable (flat e) t))
+  inside_list (nullable e) t =
+      inside_list e (each_map _ _ (λ x h. h.1) (flat e) (each_under (λ x. AreTyped (nodes x)) nullable (flat e) t))
   inside_list _ t = t.0.1
 
   inside_lists : (es : Exprs) → Each (λ x. AreTyped (nodes x)) (flat_of es) → AreTypedInside es
   inside_lists no_exprs t = tt
-  inside_lists (more_exprs e es) t = (inside_list e (each_front _ (flat e) (flat_of es) t), inside_lists es (each_back _ (flat e) (flat_of es) t))
+  inside_lists (more_exprs e es) t =
+      (inside_list e (each_front _ (flat e) (flat_of es) t), inside_lists es (each_back _ (flat e) (flat_of es) t))
 
 -- ## Elements
 
@@ -113,7 +116,8 @@ mutual
 
   elements : (es : Exprs) → IsSome (flat_of es) → SomeElement es
   elements no_exprs h = h
-  elements (more_exprs e es) h = elim (some_either (flat e) (flat_of es) h) [ inl k ↦ inl (element e k) | inr k ↦ inr (elements es k) ]
+  elements (more_exprs e es) h =
+      elim (some_either (flat e) (flat_of es) h) [ inl k ↦ inl (element e k) | inr k ↦ inr (elements es k) ]
 
 pub has_element : (e : Expr) → ¬ (flat e ≡ []) → HasElement e
 has_element e h = element e (some_list (flat e) h)

@@ -11,17 +11,21 @@ use Rattle.sql_law.proofs.Lists.{each_map, each_append, pair_left, pair_right}
 
 -- ## The leaves of a join, as far as names go
 
-origins-append : (xs ys : List Leaf) → map (λ (l : Leaf). l.origin) (xs ++ ys) ≡ map (λ (l : Leaf). l.origin) xs ++ map (λ (l : Leaf). l.origin) ys
+origins-append : (xs ys : List Leaf)
+    → map (λ (l : Leaf). l.origin) (xs ++ ys) ≡ map (λ (l : Leaf). l.origin) xs ++ map (λ (l : Leaf). l.origin) ys
 origins-append [] ys = refl
 origins-append (x ∷ xs) ys = ap (λ v. x.origin ∷ v) (origins-append xs ys)
 
-origins-padded : (k : JoinKind) (ls : List Leaf) → map (λ (l : Leaf). l.origin) (map (in_right_side k) ls) ≡ map (λ (l : Leaf). l.origin) ls
+origins-padded : (k : JoinKind) (ls : List Leaf)
+    → map (λ (l : Leaf). l.origin) (map (in_right_side k) ls) ≡ map (λ (l : Leaf). l.origin) ls
 origins-padded k [] = refl
 origins-padded Inner (l ∷ ls) = ap (λ v. l.origin ∷ v) (origins-padded Inner ls)
 origins-padded LeftOuter (l ∷ ls) = ap (λ v. l.origin ∷ v) (origins-padded LeftOuter ls)
 
 origins-join : (k : JoinKind) (l r : Source) (on : MaybeExpr) → origins (join k l r on) ≡ origins l ++ origins r
-origins-join k l r on = origins-append (leaves l) (map (in_right_side k) (leaves r)) ∙ ap (λ v. origins l ++ v) (origins-padded k (leaves r))
+origins-join k l r on =
+    origins-append (leaves l) (map (in_right_side k) (leaves r))
+    ∙ ap (λ v. origins l ++ v) (origins-padded k (leaves r))
 
 -- ## Parts of a view
 
@@ -32,7 +36,8 @@ part_self : (v : View) → IsPart v v
 part_self v = ([], [], sym (append-nil v))
 
 part_left : (v a b : View) → IsPart v a → IsPart v (a ++ b)
-part_left v a b h = (h.0, h.1 ++ b, ap (λ x. x ++ b) h.2 ∙ append_assoc h.0 (v ++ h.1) b ∙ ap (λ x. h.0 ++ x) (append_assoc v h.1 b))
+part_left v a b h =
+    (h.0, h.1 ++ b, ap (λ x. x ++ b) h.2 ∙ append_assoc h.0 (v ++ h.1) b ∙ ap (λ x. h.0 ++ x) (append_assoc v h.1 b))
 
 part_right : (v a b : View) → IsPart v b → IsPart v (a ++ b)
 part_right v a b h = (a ++ h.0, h.1, ap (λ x. a ++ x) h.2 ∙ sym (append_assoc a h.0 (v ++ h.1)))
@@ -75,17 +80,23 @@ order_part : (v : View) (o : Order) → Each (λ c. IsPart c.view v) (order_clau
 order_part v no_order = tt
 order_part v (order_by is) = items_part v is
 
-pub clauses_part : (outer : View) (s : Select) → Each (λ c. IsPart c.view (widest s.form s.source outer)) (clauses outer s)
+pub clauses_part : (outer : View) (s : Select)
+    → Each (λ c. IsPart c.view (widest s.form s.source outer)) (clauses outer s)
 clauses_part outer s =
     let wide : View = widest s.form s.source outer in
-    let wider : (c : Clause) → IsPart c.view (own s) → IsPart c.view wide = λ c h. own_part s.form s.source outer c.view h in
+    let wider : (c : Clause) → IsPart c.view (own s) → IsPart c.view wide =
+    λ c h. own_part s.form s.source outer c.view h in
     let own_in : IsPart (own s) wide = own_part s.form s.source outer (own s) (part_self (own s)) in
-    each_append _ (distinct_clause (own s) s.distinctness) _ (each_map _ _ wider _ (distinct_part (own s) s.distinctness)) (
+    each_append _ (distinct_clause (own s) s.distinctness) _
+    (each_map _ _ wider _ (distinct_part (own s) s.distinctness)) (
       own_in,
       each_append _ (ons_of s.source) _ (each_map _ _ wider _ (ons_of_part s.source))
-          (each_append _ (maybe_clause in_where wide s.where_by) _ (maybe_part in_where wide wide s.where_by (part_self wide))
-          (each_append _ (maybe_clause in_group_by (own s) s.group_by) _ (maybe_part in_group_by (own s) wide s.group_by own_in)
-          (each_append _ (maybe_clause in_having (own s) s.having_by) _ (maybe_part in_having (own s) wide s.having_by own_in)
+          (each_append _ (maybe_clause in_where wide s.where_by) _
+          (maybe_part in_where wide wide s.where_by (part_self wide))
+          (each_append _ (maybe_clause in_group_by (own s) s.group_by) _
+          (maybe_part in_group_by (own s) wide s.group_by own_in)
+          (each_append _ (maybe_clause in_having (own s) s.having_by) _
+          (maybe_part in_having (own s) wide s.having_by own_in)
           (each_map _ _ wider _ (order_part (own s) s.order))))),
     )
 

@@ -23,5 +23,6 @@ one_table = record { tables = users ∷ []; joinables = []; together = [] }
 -- `SELECT "users"."id" FROM "users" WHERE ("users"."id" IS NOT NULL) LIMIT $1`
 abbrev pub first_users : Statement
 first_users =
-    select false (list (more_exprs user_id no_exprs)) (from (of_table users false None)) every (an_expr (null_test true user_id)) no_order (rows (Some (pos 5)) None) no_expr no_expr
+    select false (list (more_exprs user_id no_exprs)) (from (of_table users false None)) every
+    (an_expr (null_test true user_id)) no_order (rows (Some (pos 5)) None) no_expr no_expr
     (unboxed NoLockingClause) unmarked

@@ -50,7 +50,8 @@ abbrev mutual
 
   pub Counted : Statement → Type 0
   Counted (select default e f u w o rows g h form marks) =
-      CountedDistinct u × CountedExpr e × CountedFrom f × CountedMaybe w × CountedMaybe g × CountedMaybe h × CountedOrder o
+      CountedDistinct u × CountedExpr e × CountedFrom f × CountedMaybe w × CountedMaybe g × CountedMaybe h
+      × CountedOrder o
   Counted (combination by all a b o rows) = Counted a × Counted b × OrderIsCounted o
 
 -- what a membership looks in

@@ -14,7 +14,8 @@ abbrev pub blank : ℤ → ℤ
 blank n = ℤ.pos 0
 
 abbrev pub blank_rows : LimitOffsetClause → LimitOffsetClause
-blank_rows r = record { limit_clause = option_map blank r.limit_clause; offset_clause = option_map blank r.offset_clause }
+blank_rows r =
+    record { limit_clause = option_map blank r.limit_clause; offset_clause = option_map blank r.offset_clause }
 
 abbrev pub blank_sample : Tablesample → Tablesample
 blank_sample s = record { method = s.method; portion = blank s.portion; seed = option_map blank s.seed }
@@ -68,5 +69,6 @@ abbrev mutual
 
   pub shape : Statement → Statement
   shape (select default e f u w o rows g h form marks) =
-      select default (shape_expr e) (shape_from f) (shape_distinct u) (shape_maybe w) (shape_order o) (blank_rows rows) (shape_maybe g) (shape_maybe h) form marks
+      select default (shape_expr e) (shape_from f) (shape_distinct u) (shape_maybe w) (shape_order o) (blank_rows rows)
+      (shape_maybe g) (shape_maybe h) form marks
   shape (combination by all a b o rows) = combination by all (shape a) (shape b) o (blank_rows rows)

@@ -1,6 +1,7 @@
 //! Laws on statements that break none of the rules.
 //!
-//! The functions here do nothing when they run: each carries laws about the definitions in `specs/` of the crates below.
+//! Each function carries laws about the definitions in `specs/` of the crates below. None does anything when it runs, but for
+//! `places_are_counted`, which looks at the places in the orders of a statement, and `accepted_is_read`, which calls it.
 #![tactic(auto)]
 
 mod places;
@@ -35,18 +36,22 @@ pub fn accepted_have_text()
         ¬ Broken EmptyList schema d s → ¬ Broken NoRelation schema d s →
         ¬ Broken TypeMismatch schema d s → ¬ Broken Unsupported schema d s →
         HasText d s }
-    ensures numbers { (schema : Declarations) (d : Dialect) (s : Statement) → ¬ Broken TooManyBinds schema d s →
+    ensures numbers { (schema : Declarations) (d : Dialect) (s : Statement)
+        → ¬ Broken TooManyBinds schema d s →
         HasNumbers d (length (values_of (pieces d s))) }
 {}
 
 /// The text of a statement that breaks no rule is read as the statement's normal tree alone, and its values fill that
 /// tree's placeholders, one by one.
 pub fn accepted_are_read()
-    ensures only { (schema : Declarations) (d : Dialect) (s : Statement) → PlacesAreCounted s → Accepted schema d s →
+    ensures only { (schema : Declarations) (d : Dialect) (s : Statement) → PlacesAreCounted s
+        → Accepted schema d s →
         OnlyReading d (text_of d 0 (pieces d s)) (normal d s) }
-    ensures fills { (schema : Declarations) (d : Dialect) (s : Statement) → PlacesAreCounted s → Accepted schema d s →
+    ensures fills { (schema : Declarations) (d : Dialect) (s : Statement) → PlacesAreCounted s
+        → Accepted schema d s →
         Fills (normal d s) (values_of (pieces d s)) (filled d s) }
-    ensures as_many { (schema : Declarations) (d : Dialect) (s : Statement) → PlacesAreCounted s → Accepted schema d s →
+    ensures as_many { (schema : Declarations) (d : Dialect) (s : Statement) → PlacesAreCounted s
+        → Accepted schema d s →
         length (values_query (normal d s)) ≡ length (values_of (pieces d s)) }
 {}
 

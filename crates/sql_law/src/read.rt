@@ -19,12 +19,19 @@ use sql_node::Statement;
 /// Where the statement breaks no rule, its text is read as its normal tree alone, and its values fill that tree's
 /// placeholders, one by one.
 pub fn accepted_is_read(statement: &Statement)
-    ensures only { (schema : Declarations) (d : Dialect) → Accepted schema d (statement_tree statement.now) →
-        OnlyReading d (text_of d 0 (pieces d (statement_tree statement.now))) (normal d (statement_tree statement.now)) }
-    ensures fills { (schema : Declarations) (d : Dialect) → Accepted schema d (statement_tree statement.now) →
-        Fills (normal d (statement_tree statement.now)) (values_of (pieces d (statement_tree statement.now))) (filled d (statement_tree statement.now)) }
-    ensures as_many { (schema : Declarations) (d : Dialect) → Accepted schema d (statement_tree statement.now) →
-        length (values_query (normal d (statement_tree statement.now))) ≡ length (values_of (pieces d (statement_tree statement.now))) }
+    ensures only { (schema : Declarations) (d : Dialect)
+        → Accepted schema d (statement_tree statement.now) →
+        OnlyReading d (text_of d 0 (pieces d (statement_tree statement.now)))
+        (normal d (statement_tree statement.now)) }
+    ensures fills { (schema : Declarations) (d : Dialect)
+        → Accepted schema d (statement_tree statement.now) →
+        Fills (normal d (statement_tree statement.now))
+        (values_of (pieces d (statement_tree statement.now)))
+        (filled d (statement_tree statement.now)) }
+    ensures as_many { (schema : Declarations) (d : Dialect)
+        → Accepted schema d (statement_tree statement.now) →
+        length (values_query (normal d (statement_tree statement.now)))
+        ≡ length (values_of (pieces d (statement_tree statement.now))) }
 {
     places_are_counted(statement);
 }

@@ -4,7 +4,7 @@ use Rattle.std.specs.Prelude.{ℕ, ℤ, Bool, true, false, List, [], ◌++◌, O
 use Rattle.sql_dialect.specs.declared.backend.Dialect.{Dialect}
 use Rattle.sql_dialect.specs.declared.backend.Dialect.TheVariants.{Pg, Mysql, Sqlite}
 use Rattle.sql_pass.specs.Pieces.{Piece, one, Text, Bind}
-use Rattle.sql_leaf.specs.Numbers.{big}
+use Rattle.sql_pass.specs.Bounds.{of_i64}
 
 unfoldable pub least_limit : List ℕ
 least_limit = codes " LIMIT -1 "
@@ -20,10 +20,10 @@ no_limit_pieces Mysql true = one (Text largest_limit)
 no_limit_pieces Sqlite boxed = one (Text least_limit)
 
 abbrev pub limit_pieces : ℤ → List Piece
-limit_pieces n = one (Text (codes " LIMIT ")) ++ one (Bind (big n))
+limit_pieces n = one (Text (codes " LIMIT ")) ++ one (Bind (of_i64 n))
 
 abbrev pub offset_pieces : ℤ → List Piece
-offset_pieces n = one (Text (codes " OFFSET ")) ++ one (Bind (big n))
+offset_pieces n = one (Text (codes " OFFSET ")) ++ one (Bind (of_i64 n))
 
 -- the limit and the offset, in a boxed statement or not
 abbrev pub limit_offset_pieces : Dialect → Bool → Option ℤ → Option ℤ → List Piece

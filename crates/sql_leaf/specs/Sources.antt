@@ -5,7 +5,7 @@ use Rattle.sql_schema.specs.declared.declaration.TableDecl.{TableDecl}
 use Rattle.sql_pass.specs.Parts.{pieces_of_option}
 use Rattle.sql_pass.specs.Paths.{dotted, table_pieces}
 use Rattle.sql_pass.specs.Pieces.{Piece, one, Text, Ident, Bind}
-use Rattle.sql_leaf.specs.Numbers.{small, integer}
+use Rattle.sql_pass.specs.Bounds.{of_i16, of_i32}
 use Rattle.sql_leaf.specs.declared.table_source.Tablesample.{Tablesample}
 use Rattle.sql_leaf.specs.declared.table_source.TablesampleMethod.{TablesampleMethod}
 use Rattle.sql_leaf.specs.declared.table_source.TablesampleMethod.TheVariants.{BernoulliMethod, SystemMethod}
@@ -36,11 +36,13 @@ repeatable = codes " REPEATABLE("
 
 abbrev pub seed_pieces : Option ℤ → List Piece
 seed_pieces None = []
-seed_pieces (Some n) = one (Text repeatable) ++ (one (Bind (integer n)) ++ one (Text (codes ")")))
+seed_pieces (Some n) = one (Text repeatable) ++ (one (Bind (of_i32 n)) ++ one (Text (codes ")")))
 
 -- ` TABLESAMPLE SYSTEM($1) REPEATABLE($2)`
 abbrev pub sample_pieces : Tablesample → List Piece
-sample_pieces s = one (Text (method_open s.method)) ++ (one (Bind (small s.portion)) ++ (one (Text (codes ")")) ++ seed_pieces s.seed))
+sample_pieces s =
+    one (Text (method_open s.method))
+    ++ (one (Bind (of_i16 s.portion)) ++ (one (Text (codes ")")) ++ seed_pieces s.seed))
 
 -- a table as it is read from, with or without the tables that inherit from it, whole or a sample of it
 abbrev pub table_source_pieces : TableDecl → Bool → Option Tablesample → List Piece

@@ -1,7 +1,7 @@
 //! The parts of a statement that hold no expression: tables as they are read from, aliases, aliased fields, samples, limits,
 //! locks, positions in an order, and the marks that calls leave.
 //!
-//! Each is copied by `try_clone` and written as a fragment.
+//! Each is written as a fragment. What holds a text is copied by `try_clone`; all else is `Copy`.
 #![tactic(auto)]
 
 mod alias;

@@ -23,21 +23,26 @@ pub struct BoxedLimitOffset(pub LimitOffsetClause);
 
 #[tactic(auto, unfolding(crate::specs::Limits::least_limit))]
 fn push_least_limit<DB: Backend>(pass: &mut AstPass<DB>) -> Result<(), PassError>
-    ensures { Walks DB.speaks (held DB.QueryBuilder.text DB.QueryBuilder.count pass.old) (one (Text least_limit)) result (held DB.QueryBuilder.text DB.QueryBuilder.count pass.new) }
+    ensures { Walks DB.speaks (held DB.QueryBuilder.text DB.QueryBuilder.count pass.old)
+        (one (Text least_limit)) result (held DB.QueryBuilder.text DB.QueryBuilder.count pass.new) }
 {
     pass.push_sql(" LIMIT -1 ")
 }
 
 #[tactic(auto, unfolding(crate::specs::Limits::largest_limit))]
 fn push_largest_limit<DB: Backend>(pass: &mut AstPass<DB>) -> Result<(), PassError>
-    ensures { Walks DB.speaks (held DB.QueryBuilder.text DB.QueryBuilder.count pass.old) (one (Text largest_limit)) result (held DB.QueryBuilder.text DB.QueryBuilder.count pass.new) }
+    ensures { Walks DB.speaks (held DB.QueryBuilder.text DB.QueryBuilder.count pass.old)
+        (one (Text largest_limit)) result
+        (held DB.QueryBuilder.text DB.QueryBuilder.count pass.new) }
 {
     pass.push_sql(" LIMIT 18446744073709551615 ")
 }
 
 /// What stands before an offset that has no limit.
 fn walk_no_limit<DB: Backend>(boxed: bool, pass: &mut AstPass<DB>) -> Result<(), PassError>
-    ensures { Walks DB.speaks (held DB.QueryBuilder.text DB.QueryBuilder.count pass.old) (no_limit_pieces DB.speaks boxed) result (held DB.QueryBuilder.text DB.QueryBuilder.count pass.new) }
+    ensures { Walks DB.speaks (held DB.QueryBuilder.text DB.QueryBuilder.count pass.old)
+        (no_limit_pieces DB.speaks boxed) result
+        (held DB.QueryBuilder.text DB.QueryBuilder.count pass.new) }
 {
     match pass.backend().dialect() {
         Dialect::Pg => Ok(()),
@@ -50,7 +55,8 @@ fn walk_no_limit<DB: Backend>(boxed: bool, pass: &mut AstPass<DB>) -> Result<(),
 }
 
 fn walk_limit<DB: Backend>(limit: i64, pass: &mut AstPass<DB>) -> Result<(), PassError>
-    ensures { Walks DB.speaks (held DB.QueryBuilder.text DB.QueryBuilder.count pass.old) (limit_pieces limit) result (held DB.QueryBuilder.text DB.QueryBuilder.count pass.new) }
+    ensures { Walks DB.speaks (held DB.QueryBuilder.text DB.QueryBuilder.count pass.old)
+        (limit_pieces limit) result (held DB.QueryBuilder.text DB.QueryBuilder.count pass.new) }
 {
     pass.push_sql(" LIMIT ")?;
     push_big(limit, pass)?;
@@ -58,7 +64,8 @@ fn walk_limit<DB: Backend>(limit: i64, pass: &mut AstPass<DB>) -> Result<(), Pas
 }
 
 fn walk_offset<DB: Backend>(offset: i64, pass: &mut AstPass<DB>) -> Result<(), PassError>
-    ensures { Walks DB.speaks (held DB.QueryBuilder.text DB.QueryBuilder.count pass.old) (offset_pieces offset) result (held DB.QueryBuilder.text DB.QueryBuilder.count pass.new) }
+    ensures { Walks DB.speaks (held DB.QueryBuilder.text DB.QueryBuilder.count pass.old)
+        (offset_pieces offset) result (held DB.QueryBuilder.text DB.QueryBuilder.count pass.new) }
 {
     pass.push_sql(" OFFSET ")?;
     push_big(offset, pass)?;
@@ -70,7 +77,9 @@ fn walk_both<DB: Backend>(
     rows: LimitOffsetClause,
     pass: &mut AstPass<DB>,
 ) -> Result<(), PassError>
-    ensures { Walks DB.speaks (held DB.QueryBuilder.text DB.QueryBuilder.count pass.old) (limit_offset_pieces DB.speaks boxed rows.limit_clause rows.offset_clause) result (held DB.QueryBuilder.text DB.QueryBuilder.count pass.new) }
+    ensures { Walks DB.speaks (held DB.QueryBuilder.text DB.QueryBuilder.count pass.old)
+        (limit_offset_pieces DB.speaks boxed rows.limit_clause rows.offset_clause) result
+        (held DB.QueryBuilder.text DB.QueryBuilder.count pass.new) }
 {
     match rows.limit_clause {
         None => match rows.offset_clause {

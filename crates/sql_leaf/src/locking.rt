@@ -46,7 +46,8 @@ fn mode_word(mode: LockMode) -> &'static str
 
 #[tactic(auto, unfolding(crate::specs::Locks::skip_locked))]
 fn push_skip_locked<DB: Backend>(pass: &mut AstPass<DB>) -> Result<(), PassError>
-    ensures { Walks DB.speaks (held DB.QueryBuilder.text DB.QueryBuilder.count pass.old) (one (Text skip_locked)) result (held DB.QueryBuilder.text DB.QueryBuilder.count pass.new) }
+    ensures { Walks DB.speaks (held DB.QueryBuilder.text DB.QueryBuilder.count pass.old)
+        (one (Text skip_locked)) result (held DB.QueryBuilder.text DB.QueryBuilder.count pass.new) }
 {
     pass.push_sql(" SKIP LOCKED")
 }

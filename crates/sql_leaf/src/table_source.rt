@@ -74,7 +74,8 @@ impl TableSource {
 }
 
 fn walk_only<DB: Backend>(only: bool, pass: &mut AstPass<DB>) -> Result<(), PassError>
-    ensures { Walks DB.speaks (held DB.QueryBuilder.text DB.QueryBuilder.count pass.old) (only_pieces only) result (held DB.QueryBuilder.text DB.QueryBuilder.count pass.new) }
+    ensures { Walks DB.speaks (held DB.QueryBuilder.text DB.QueryBuilder.count pass.old)
+        (only_pieces only) result (held DB.QueryBuilder.text DB.QueryBuilder.count pass.new) }
 {
     if only {
         pass.push_sql(" ONLY ")
@@ -85,7 +86,8 @@ fn walk_only<DB: Backend>(only: bool, pass: &mut AstPass<DB>) -> Result<(), Pass
 
 #[tactic(auto, unfolding(crate::specs::Sources::repeatable))]
 fn push_repeatable<DB: Backend>(pass: &mut AstPass<DB>) -> Result<(), PassError>
-    ensures { Walks DB.speaks (held DB.QueryBuilder.text DB.QueryBuilder.count pass.old) (one (Text repeatable)) result (held DB.QueryBuilder.text DB.QueryBuilder.count pass.new) }
+    ensures { Walks DB.speaks (held DB.QueryBuilder.text DB.QueryBuilder.count pass.old)
+        (one (Text repeatable)) result (held DB.QueryBuilder.text DB.QueryBuilder.count pass.new) }
 {
     pass.push_sql(" REPEATABLE(")
 }
@@ -100,7 +102,8 @@ fn method_word(method: TablesampleMethod) -> &'static str
 }
 
 fn walk_seed<DB: Backend>(seed: Option<i32>, pass: &mut AstPass<DB>) -> Result<(), PassError>
-    ensures { Walks DB.speaks (held DB.QueryBuilder.text DB.QueryBuilder.count pass.old) (seed_pieces seed) result (held DB.QueryBuilder.text DB.QueryBuilder.count pass.new) }
+    ensures { Walks DB.speaks (held DB.QueryBuilder.text DB.QueryBuilder.count pass.old)
+        (seed_pieces seed) result (held DB.QueryBuilder.text DB.QueryBuilder.count pass.new) }
 {
     match seed {
         None => Ok(()),

@@ -133,11 +133,13 @@ positions_pieces (Some ps) = one (Text order_by_sql) ++ commas true (map (λ p. 
 -- `(x IN (?, ?))`, and what stands for it where there is no value
 abbrev pub one_by_one : Dialect → Bool → List Piece → SqlType → List Value → List Piece
 one_by_one d n x t vs =
-    if nat_eq (length vs) 0 then (one Unsafe ++ one (Text (constant_sql n))) else (one Unsafe ++ (around (codes "(") x (among_sql d n) ++ (values_pieces t vs ++ one (Text (codes "))")))))
+    if nat_eq (length vs) 0 then (one Unsafe ++ one (Text (constant_sql n)))
+    else (one Unsafe ++ (around (codes "(") x (among_sql d n) ++ (values_pieces t vs ++ one (Text (codes "))")))))
 
 -- `(x = ANY($1))` over one list, or one by one
 abbrev pub among_pieces : Dialect → Bool → List Piece → SqlType → List Value → List Piece
-among_pieces Pg n x t vs = around (codes "(") x (among_sql Pg n) ++ (one (Bind (ManyValues t vs)) ++ one (Text (codes "))")))
+among_pieces Pg n x t vs =
+    around (codes "(") x (among_sql Pg n) ++ (one (Bind (ManyValues t vs)) ++ one (Text (codes "))")))
 among_pieces Mysql n x t vs = one_by_one Mysql n x t vs
 among_pieces Sqlite n x t vs = one_by_one Sqlite n x t vs
 
@@ -171,12 +173,16 @@ abbrev mutual
   expr_parts d (not_of e) = alone (around (codes "NOT (") (spread true (expr_parts d e)) (codes ")"))
   expr_parts d (null_test n e) = alone (around (codes "(") (spread true (expr_parts d e)) (null_test_sql n))
   expr_parts d (count e) = alone (around (codes "COUNT(") (spread true (expr_parts d e)) (codes ")"))
-  expr_parts d (compared by a b) = alone (infix_of (spread true (expr_parts d a)) (comparison_sql by) (spread true (expr_parts d b)))
-  expr_parts d (joined by a b) = alone (infix_of (spread true (expr_parts d a)) (logic_sql by) (spread true (expr_parts d b)))
+  expr_parts d (compared by a b) =
+      alone (infix_of (spread true (expr_parts d a)) (comparison_sql by) (spread true (expr_parts d b)))
+  expr_parts d (joined by a b) =
+      alone (infix_of (spread true (expr_parts d a)) (logic_sql by) (spread true (expr_parts d b)))
   expr_parts d (exists q) = alone (around (codes "EXISTS (") (pieces d q) (codes ")"))
   expr_parts d (single q) = alone (around (codes "(") (pieces d q) (codes ")"))
   expr_parts d (among_values n e t xs) = alone (among_pieces d n (spread true (expr_parts d e)) t xs)
-  expr_parts d (among_rows n e q) = alone (around (codes "(") (spread true (expr_parts d e)) (among_sql d n) ++ (pieces d q ++ one (Text (codes "))"))))
+  expr_parts d (among_rows n e q) =
+      alone (around (codes "(") (spread true (expr_parts d e)) (among_sql d n)
+      ++ (pieces d q ++ one (Text (codes "))"))))
 
   -- the elements of a list, those of lists inside it in their place
   pub exprs_parts : Dialect → Exprs → List (List Piece)
@@ -200,7 +206,8 @@ abbrev mutual
   -- the whole of a join, around its two sides; one without a condition is written without brackets
   pub on_pieces : Dialect → List Piece → MaybeExpr → List Piece
   on_pieces d x no_expr = x
-  on_pieces d x (an_expr e) = one (Text (codes "(")) ++ (x ++ around (codes " ON ") (spread true (expr_parts d e)) (codes ")"))
+  on_pieces d x (an_expr e) =
+      one (Text (codes "(")) ++ (x ++ around (codes " ON ") (spread true (expr_parts d e)) (codes ")"))
 
   pub from_pieces : Dialect → From → List Piece
   from_pieces d no_source = []
@@ -217,9 +224,19 @@ abbrev mutual
 
   pub pieces : Dialect → Statement → List Piece
   pieces d (select default e f u w o rows g h form marks) =
-      one (Text (codes "SELECT ")) ++ (distinct_pieces d u ++ (spread true (expr_parts d e) ++ (from_pieces d f ++ (maybe_pieces d (codes " WHERE ") w ++ (maybe_pieces d group_by g ++ (maybe_pieces d (codes " HAVING ") h ++ (order_pieces d o ++ end_pieces d rows form)))))))
+      one (Text (codes "SELECT "))
+      ++ (distinct_pieces d u
+      ++ (spread true (expr_parts d e)
+      ++ (from_pieces d f
+      ++ (maybe_pieces d (codes " WHERE ") w
+      ++ (maybe_pieces d group_by g
+      ++ (maybe_pieces d (codes " HAVING ") h ++ (order_pieces d o ++ end_pieces d rows form)))))))
   pieces d (combination by all a b o rows) =
-      side d (pieces d a) ++ (one (Text (combinator_sql by)) ++ (all_pieces all ++ (side d (pieces d b) ++ (positions_pieces o ++ limit_offset_pieces d false rows.limit_clause rows.offset_clause))))
+      side d (pieces d a)
+      ++ (one (Text (combinator_sql by))
+      ++ (all_pieces all
+      ++ (side d (pieces d b)
+      ++ (positions_pieces o ++ limit_offset_pieces d false rows.limit_clause rows.offset_clause))))
 
 abbrev pub expr_pieces : Dialect → Expr → List Piece
 expr_pieces d e = spread true (expr_parts d e)

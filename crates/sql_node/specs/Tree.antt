@@ -1,5 +1,5 @@
 -- Statements as plain trees: no pointer, no capacity, no allocator. All definitions on statements are made over them.
-use Rattle.std.specs.Prelude.{ℕ, List, Option, Bool}
+use Rattle.std.specs.Prelude.{ℕ, zero, suc, List, Option, Bool}
 use Rattle.sql_schema.specs.declared.declaration.ColumnDecl.{ColumnDecl}
 use Rattle.sql_schema.specs.declared.declaration.TableDecl.{TableDecl}
 use Rattle.sql_schema.specs.declared.types.SqlType.{SqlType}
@@ -78,5 +78,12 @@ mutual
 
   pub data Statement : Type 0 where
     -- whether the selection is the default, selection, source, distinct, WHERE, order, limit and offset, group by, HAVING
-    select : Bool → Expr → From → Distinct → MaybeExpr → Order → LimitOffsetClause → MaybeExpr → MaybeExpr → Form → Marks → Statement
-    combination : Combinator → DuplicateRule → Statement → Statement → Option (List PositionalItem) → LimitOffsetClause → Statement
+    select : Bool → Expr → From → Distinct → MaybeExpr → Order → LimitOffsetClause → MaybeExpr → MaybeExpr → Form
+        → Marks → Statement
+    combination : Combinator → DuplicateRule → Statement → Statement → Option (List PositionalItem) → LimitOffsetClause
+        → Statement
+
+-- an expression under so many nullables
+abbrev pub under : ℕ → Expr → Expr
+under zero e = e
+under (suc n) e = nullable (under n e)

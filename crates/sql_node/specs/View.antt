@@ -53,6 +53,10 @@ abbrev pub maybe_of : Option t.Expr → t.MaybeExpr
 maybe_of None = t.no_expr
 maybe_of (Some e) = t.an_expr e
 
+abbrev pub from_of : Option t.Source → t.From
+from_of None = t.no_source
+from_of (Some s) = t.from s
+
 -- whether it is negated, what is sought, and where
 abbrev pub among_of : Bool → t.Expr → Among → t.Expr
 among_of n e (among_list ty xs) = t.among_values n e ty xs
@@ -64,8 +68,12 @@ column_of c = t.column (record { alias = None; table = c.table }) c.decl
 abbrev pub field_of : AliasedField → t.Expr
 field_of f = t.column (record { alias = Some f.alias; table = f.column.table }) f.column.decl
 
-abbrev pub Level : (Type 0 → Type 0 → Type 0 → Type 0 → Type 0 → Type 0 → Type 0 → Type 0 → Type 0 → Type 0 → Type 0 → Type 0 → Type 0 → Type 0 → Type 0 → Type 0 → Type 0 → Type 0) → Type 0
-Level F = F t.Distinct t.From t.MaybeExpr t.MaybeExpr Selected t.MaybeExpr t.Expr Among t.Order t.Source t.Statement t.Statement t.Statement Item Sides t.Source t.Statement
+abbrev pub Level : (Type 0 → Type 0 → Type 0 → Type 0 → Type 0 → Type 0 → Type 0 → Type 0 → Type 0 → Type 0 → Type 0
+    → Type 0 → Type 0 → Type 0 → Type 0 → Type 0 → Type 0 → Type 0)
+    → Type 0
+Level F =
+    F t.Distinct t.From t.MaybeExpr t.MaybeExpr Selected t.MaybeExpr t.Expr Among t.Order t.Source t.Statement
+    t.Statement t.Statement Item Sides t.Source t.Statement
 
 abbrev pub expr_level : Level Expr-F → t.Expr
 expr_level (Expr-F.Column x) = column_of x
@@ -144,61 +152,151 @@ abbrev pub join_on_level : Level JoinOn-F → t.Source
 join_on_level j = t.join j.join.2 j.join.0 j.join.1 (maybe_of j.on)
 
 abbrev pub select_statement_level : Level SelectStatement-F → t.Statement
-select_statement_level s = t.select s.select.0 s.select.1 s.from s.distinct s.where_clause s.order s.limit_offset s.group_by s.having (t.unboxed s.locking) s.marks
+select_statement_level s =
+    t.select s.select.0 s.select.1 s.from s.distinct s.where_clause s.order s.limit_offset s.group_by s.having
+    (t.unboxed s.locking) s.marks
 
 abbrev pub boxed_select_statement_level : Level BoxedSelectStatement-F → t.Statement
-boxed_select_statement_level s = t.select s.select.0 s.select.1 s.from s.distinct s.where_clause s.order s.limit_offset s.group_by s.having (t.boxed s.dialect s.nullable) s.marks
+boxed_select_statement_level s =
+    t.select s.select.0 s.select.1 s.from s.distinct s.where_clause s.order s.limit_offset s.group_by s.having
+    (t.boxed s.dialect s.nullable) s.marks
 
 abbrev pub combination_clause_level : Level CombinationClause-F → t.Statement
-combination_clause_level s = t.combination s.combinator s.duplicate_rule s.source.value s.rhs.value s.order s.limit_offset
+combination_clause_level s =
+    t.combination s.combinator s.duplicate_rule s.source.value s.rhs.value s.order s.limit_offset
 
 abbrev pub distinct_clause_tree : DistinctClause → t.Distinct
-distinct_clause_tree = fold-DistinctClause t.Distinct t.From t.MaybeExpr t.MaybeExpr Selected t.MaybeExpr t.Expr Among t.Order t.Source t.Statement t.Statement t.Statement Item Sides t.Source t.Statement distinct_clause_level from_clause_level group_by_clause_level having_clause_level select_clause_level where_clause_level expr_level in_values_level order_clause_level source_level statement_level boxed_select_statement_level combination_clause_level order_item_level join_level join_on_level select_statement_level
+distinct_clause_tree =
+    fold-DistinctClause t.Distinct t.From t.MaybeExpr t.MaybeExpr Selected t.MaybeExpr t.Expr Among t.Order t.Source
+    t.Statement t.Statement t.Statement Item Sides t.Source t.Statement distinct_clause_level from_clause_level
+    group_by_clause_level having_clause_level select_clause_level where_clause_level expr_level in_values_level
+    order_clause_level source_level statement_level boxed_select_statement_level combination_clause_level
+    order_item_level join_level join_on_level select_statement_level
 
 abbrev pub from_clause_tree : FromClause → t.From
-from_clause_tree = fold-FromClause t.Distinct t.From t.MaybeExpr t.MaybeExpr Selected t.MaybeExpr t.Expr Among t.Order t.Source t.Statement t.Statement t.Statement Item Sides t.Source t.Statement distinct_clause_level from_clause_level group_by_clause_level having_clause_level select_clause_level where_clause_level expr_level in_values_level order_clause_level source_level statement_level boxed_select_statement_level combination_clause_level order_item_level join_level join_on_level select_statement_level
+from_clause_tree =
+    fold-FromClause t.Distinct t.From t.MaybeExpr t.MaybeExpr Selected t.MaybeExpr t.Expr Among t.Order t.Source
+    t.Statement t.Statement t.Statement Item Sides t.Source t.Statement distinct_clause_level from_clause_level
+    group_by_clause_level having_clause_level select_clause_level where_clause_level expr_level in_values_level
+    order_clause_level source_level statement_level boxed_select_statement_level combination_clause_level
+    order_item_level join_level join_on_level select_statement_level
 
 abbrev pub group_by_clause_tree : GroupByClause → t.MaybeExpr
-group_by_clause_tree = fold-GroupByClause t.Distinct t.From t.MaybeExpr t.MaybeExpr Selected t.MaybeExpr t.Expr Among t.Order t.Source t.Statement t.Statement t.Statement Item Sides t.Source t.Statement distinct_clause_level from_clause_level group_by_clause_level having_clause_level select_clause_level where_clause_level expr_level in_values_level order_clause_level source_level statement_level boxed_select_statement_level combination_clause_level order_item_level join_level join_on_level select_statement_level
+group_by_clause_tree =
+    fold-GroupByClause t.Distinct t.From t.MaybeExpr t.MaybeExpr Selected t.MaybeExpr t.Expr Among t.Order t.Source
+    t.Statement t.Statement t.Statement Item Sides t.Source t.Statement distinct_clause_level from_clause_level
+    group_by_clause_level having_clause_level select_clause_level where_clause_level expr_level in_values_level
+    order_clause_level source_level statement_level boxed_select_statement_level combination_clause_level
+    order_item_level join_level join_on_level select_statement_level
 
 abbrev pub having_clause_tree : HavingClause → t.MaybeExpr
-having_clause_tree = fold-HavingClause t.Distinct t.From t.MaybeExpr t.MaybeExpr Selected t.MaybeExpr t.Expr Among t.Order t.Source t.Statement t.Statement t.Statement Item Sides t.Source t.Statement distinct_clause_level from_clause_level group_by_clause_level having_clause_level select_clause_level where_clause_level expr_level in_values_level order_clause_level source_level statement_level boxed_select_statement_level combination_clause_level order_item_level join_level join_on_level select_statement_level
+having_clause_tree =
+    fold-HavingClause t.Distinct t.From t.MaybeExpr t.MaybeExpr Selected t.MaybeExpr t.Expr Among t.Order t.Source
+    t.Statement t.Statement t.Statement Item Sides t.Source t.Statement distinct_clause_level from_clause_level
+    group_by_clause_level having_clause_level select_clause_level where_clause_level expr_level in_values_level
+    order_clause_level source_level statement_level boxed_select_statement_level combination_clause_level
+    order_item_level join_level join_on_level select_statement_level
 
 abbrev pub select_clause_tree : SelectClause → Selected
-select_clause_tree = fold-SelectClause t.Distinct t.From t.MaybeExpr t.MaybeExpr Selected t.MaybeExpr t.Expr Among t.Order t.Source t.Statement t.Statement t.Statement Item Sides t.Source t.Statement distinct_clause_level from_clause_level group_by_clause_level having_clause_level select_clause_level where_clause_level expr_level in_values_level order_clause_level source_level statement_level boxed_select_statement_level combination_clause_level order_item_level join_level join_on_level select_statement_level
+select_clause_tree =
+    fold-SelectClause t.Distinct t.From t.MaybeExpr t.MaybeExpr Selected t.MaybeExpr t.Expr Among t.Order t.Source
+    t.Statement t.Statement t.Statement Item Sides t.Source t.Statement distinct_clause_level from_clause_level
+    group_by_clause_level having_clause_level select_clause_level where_clause_level expr_level in_values_level
+    order_clause_level source_level statement_level boxed_select_statement_level combination_clause_level
+    order_item_level join_level join_on_level select_statement_level
 
 abbrev pub where_clause_tree : WhereClause → t.MaybeExpr
-where_clause_tree = fold-WhereClause t.Distinct t.From t.MaybeExpr t.MaybeExpr Selected t.MaybeExpr t.Expr Among t.Order t.Source t.Statement t.Statement t.Statement Item Sides t.Source t.Statement distinct_clause_level from_clause_level group_by_clause_level having_clause_level select_clause_level where_clause_level expr_level in_values_level order_clause_level source_level statement_level boxed_select_statement_level combination_clause_level order_item_level join_level join_on_level select_statement_level
+where_clause_tree =
+    fold-WhereClause t.Distinct t.From t.MaybeExpr t.MaybeExpr Selected t.MaybeExpr t.Expr Among t.Order t.Source
+    t.Statement t.Statement t.Statement Item Sides t.Source t.Statement distinct_clause_level from_clause_level
+    group_by_clause_level having_clause_level select_clause_level where_clause_level expr_level in_values_level
+    order_clause_level source_level statement_level boxed_select_statement_level combination_clause_level
+    order_item_level join_level join_on_level select_statement_level
 
 abbrev pub expr_tree : Expr → t.Expr
-expr_tree = fold-Expr t.Distinct t.From t.MaybeExpr t.MaybeExpr Selected t.MaybeExpr t.Expr Among t.Order t.Source t.Statement t.Statement t.Statement Item Sides t.Source t.Statement distinct_clause_level from_clause_level group_by_clause_level having_clause_level select_clause_level where_clause_level expr_level in_values_level order_clause_level source_level statement_level boxed_select_statement_level combination_clause_level order_item_level join_level join_on_level select_statement_level
+expr_tree =
+    fold-Expr t.Distinct t.From t.MaybeExpr t.MaybeExpr Selected t.MaybeExpr t.Expr Among t.Order t.Source t.Statement
+    t.Statement t.Statement Item Sides t.Source t.Statement distinct_clause_level from_clause_level
+    group_by_clause_level having_clause_level select_clause_level where_clause_level expr_level in_values_level
+    order_clause_level source_level statement_level boxed_select_statement_level combination_clause_level
+    order_item_level join_level join_on_level select_statement_level
 
 abbrev pub in_values_tree : InValues → Among
-in_values_tree = fold-InValues t.Distinct t.From t.MaybeExpr t.MaybeExpr Selected t.MaybeExpr t.Expr Among t.Order t.Source t.Statement t.Statement t.Statement Item Sides t.Source t.Statement distinct_clause_level from_clause_level group_by_clause_level having_clause_level select_clause_level where_clause_level expr_level in_values_level order_clause_level source_level statement_level boxed_select_statement_level combination_clause_level order_item_level join_level join_on_level select_statement_level
+in_values_tree =
+    fold-InValues t.Distinct t.From t.MaybeExpr t.MaybeExpr Selected t.MaybeExpr t.Expr Among t.Order t.Source
+    t.Statement t.Statement t.Statement Item Sides t.Source t.Statement distinct_clause_level from_clause_level
+    group_by_clause_level having_clause_level select_clause_level where_clause_level expr_level in_values_level
+    order_clause_level source_level statement_level boxed_select_statement_level combination_clause_level
+    order_item_level join_level join_on_level select_statement_level
 
 abbrev pub order_clause_tree : OrderClause → t.Order
-order_clause_tree = fold-OrderClause t.Distinct t.From t.MaybeExpr t.MaybeExpr Selected t.MaybeExpr t.Expr Among t.Order t.Source t.Statement t.Statement t.Statement Item Sides t.Source t.Statement distinct_clause_level from_clause_level group_by_clause_level having_clause_level select_clause_level where_clause_level expr_level in_values_level order_clause_level source_level statement_level boxed_select_statement_level combination_clause_level order_item_level join_level join_on_level select_statement_level
+order_clause_tree =
+    fold-OrderClause t.Distinct t.From t.MaybeExpr t.MaybeExpr Selected t.MaybeExpr t.Expr Among t.Order t.Source
+    t.Statement t.Statement t.Statement Item Sides t.Source t.Statement distinct_clause_level from_clause_level
+    group_by_clause_level having_clause_level select_clause_level where_clause_level expr_level in_values_level
+    order_clause_level source_level statement_level boxed_select_statement_level combination_clause_level
+    order_item_level join_level join_on_level select_statement_level
 
 abbrev pub source_tree : Source → t.Source
-source_tree = fold-Source t.Distinct t.From t.MaybeExpr t.MaybeExpr Selected t.MaybeExpr t.Expr Among t.Order t.Source t.Statement t.Statement t.Statement Item Sides t.Source t.Statement distinct_clause_level from_clause_level group_by_clause_level having_clause_level select_clause_level where_clause_level expr_level in_values_level order_clause_level source_level statement_level boxed_select_statement_level combination_clause_level order_item_level join_level join_on_level select_statement_level
+source_tree =
+    fold-Source t.Distinct t.From t.MaybeExpr t.MaybeExpr Selected t.MaybeExpr t.Expr Among t.Order t.Source t.Statement
+    t.Statement t.Statement Item Sides t.Source t.Statement distinct_clause_level from_clause_level
+    group_by_clause_level having_clause_level select_clause_level where_clause_level expr_level in_values_level
+    order_clause_level source_level statement_level boxed_select_statement_level combination_clause_level
+    order_item_level join_level join_on_level select_statement_level
 
 abbrev pub statement_tree : Statement → t.Statement
-statement_tree = fold-Statement t.Distinct t.From t.MaybeExpr t.MaybeExpr Selected t.MaybeExpr t.Expr Among t.Order t.Source t.Statement t.Statement t.Statement Item Sides t.Source t.Statement distinct_clause_level from_clause_level group_by_clause_level having_clause_level select_clause_level where_clause_level expr_level in_values_level order_clause_level source_level statement_level boxed_select_statement_level combination_clause_level order_item_level join_level join_on_level select_statement_level
+statement_tree =
+    fold-Statement t.Distinct t.From t.MaybeExpr t.MaybeExpr Selected t.MaybeExpr t.Expr Among t.Order t.Source
+    t.Statement t.Statement t.Statement Item Sides t.Source t.Statement distinct_clause_level from_clause_level
+    group_by_clause_level having_clause_level select_clause_level where_clause_level expr_level in_values_level
+    order_clause_level source_level statement_level boxed_select_statement_level combination_clause_level
+    order_item_level join_level join_on_level select_statement_level
 
 abbrev pub boxed_select_statement_tree : BoxedSelectStatement → t.Statement
-boxed_select_statement_tree = fold-BoxedSelectStatement t.Distinct t.From t.MaybeExpr t.MaybeExpr Selected t.MaybeExpr t.Expr Among t.Order t.Source t.Statement t.Statement t.Statement Item Sides t.Source t.Statement distinct_clause_level from_clause_level group_by_clause_level having_clause_level select_clause_level where_clause_level expr_level in_values_level order_clause_level source_level statement_level boxed_select_statement_level combination_clause_level order_item_level join_level join_on_level select_statement_level
+boxed_select_statement_tree =
+    fold-BoxedSelectStatement t.Distinct t.From t.MaybeExpr t.MaybeExpr Selected t.MaybeExpr t.Expr Among t.Order
+    t.Source t.Statement t.Statement t.Statement Item Sides t.Source t.Statement distinct_clause_level
+    from_clause_level group_by_clause_level having_clause_level select_clause_level where_clause_level expr_level
+    in_values_level order_clause_level source_level statement_level boxed_select_statement_level
+    combination_clause_level order_item_level join_level join_on_level select_statement_level
 
 abbrev pub combination_clause_tree : CombinationClause → t.Statement
-combination_clause_tree = fold-CombinationClause t.Distinct t.From t.MaybeExpr t.MaybeExpr Selected t.MaybeExpr t.Expr Among t.Order t.Source t.Statement t.Statement t.Statement Item Sides t.Source t.Statement distinct_clause_level from_clause_level group_by_clause_level having_clause_level select_clause_level where_clause_level expr_level in_values_level order_clause_level source_level statement_level boxed_select_statement_level combination_clause_level order_item_level join_level join_on_level select_statement_level
+combination_clause_tree =
+    fold-CombinationClause t.Distinct t.From t.MaybeExpr t.MaybeExpr Selected t.MaybeExpr t.Expr Among t.Order t.Source
+    t.Statement t.Statement t.Statement Item Sides t.Source t.Statement distinct_clause_level from_clause_level
+    group_by_clause_level having_clause_level select_clause_level where_clause_level expr_level in_values_level
+    order_clause_level source_level statement_level boxed_select_statement_level combination_clause_level
+    order_item_level join_level join_on_level select_statement_level
 
 abbrev pub order_item_tree : OrderItem → Item
-order_item_tree = fold-OrderItem t.Distinct t.From t.MaybeExpr t.MaybeExpr Selected t.MaybeExpr t.Expr Among t.Order t.Source t.Statement t.Statement t.Statement Item Sides t.Source t.Statement distinct_clause_level from_clause_level group_by_clause_level having_clause_level select_clause_level where_clause_level expr_level in_values_level order_clause_level source_level statement_level boxed_select_statement_level combination_clause_level order_item_level join_level join_on_level select_statement_level
+order_item_tree =
+    fold-OrderItem t.Distinct t.From t.MaybeExpr t.MaybeExpr Selected t.MaybeExpr t.Expr Among t.Order t.Source
+    t.Statement t.Statement t.Statement Item Sides t.Source t.Statement distinct_clause_level from_clause_level
+    group_by_clause_level having_clause_level select_clause_level where_clause_level expr_level in_values_level
+    order_clause_level source_level statement_level boxed_select_statement_level combination_clause_level
+    order_item_level join_level join_on_level select_statement_level
 
 abbrev pub join_tree : Join → Sides
-join_tree = fold-Join t.Distinct t.From t.MaybeExpr t.MaybeExpr Selected t.MaybeExpr t.Expr Among t.Order t.Source t.Statement t.Statement t.Statement Item Sides t.Source t.Statement distinct_clause_level from_clause_level group_by_clause_level having_clause_level select_clause_level where_clause_level expr_level in_values_level order_clause_level source_level statement_level boxed_select_statement_level combination_clause_level order_item_level join_level join_on_level select_statement_level
+join_tree =
+    fold-Join t.Distinct t.From t.MaybeExpr t.MaybeExpr Selected t.MaybeExpr t.Expr Among t.Order t.Source t.Statement
+    t.Statement t.Statement Item Sides t.Source t.Statement distinct_clause_level from_clause_level
+    group_by_clause_level having_clause_level select_clause_level where_clause_level expr_level in_values_level
+    order_clause_level source_level statement_level boxed_select_statement_level combination_clause_level
+    order_item_level join_level join_on_level select_statement_level
 
 abbrev pub join_on_tree : JoinOn → t.Source
-join_on_tree = fold-JoinOn t.Distinct t.From t.MaybeExpr t.MaybeExpr Selected t.MaybeExpr t.Expr Among t.Order t.Source t.Statement t.Statement t.Statement Item Sides t.Source t.Statement distinct_clause_level from_clause_level group_by_clause_level having_clause_level select_clause_level where_clause_level expr_level in_values_level order_clause_level source_level statement_level boxed_select_statement_level combination_clause_level order_item_level join_level join_on_level select_statement_level
+join_on_tree =
+    fold-JoinOn t.Distinct t.From t.MaybeExpr t.MaybeExpr Selected t.MaybeExpr t.Expr Among t.Order t.Source t.Statement
+    t.Statement t.Statement Item Sides t.Source t.Statement distinct_clause_level from_clause_level
+    group_by_clause_level having_clause_level select_clause_level where_clause_level expr_level in_values_level
+    order_clause_level source_level statement_level boxed_select_statement_level combination_clause_level
+    order_item_level join_level join_on_level select_statement_level
 
 abbrev pub select_statement_tree : SelectStatement → t.Statement
-select_statement_tree = fold-SelectStatement t.Distinct t.From t.MaybeExpr t.MaybeExpr Selected t.MaybeExpr t.Expr Among t.Order t.Source t.Statement t.Statement t.Statement Item Sides t.Source t.Statement distinct_clause_level from_clause_level group_by_clause_level having_clause_level select_clause_level where_clause_level expr_level in_values_level order_clause_level source_level statement_level boxed_select_statement_level combination_clause_level order_item_level join_level join_on_level select_statement_level
+select_statement_tree =
+    fold-SelectStatement t.Distinct t.From t.MaybeExpr t.MaybeExpr Selected t.MaybeExpr t.Expr Among t.Order t.Source
+    t.Statement t.Statement t.Statement Item Sides t.Source t.Statement distinct_clause_level from_clause_level
+    group_by_clause_level having_clause_level select_clause_level where_clause_level expr_level in_values_level
+    order_clause_level source_level statement_level boxed_select_statement_level combination_clause_level
+    order_item_level join_level join_on_level select_statement_level

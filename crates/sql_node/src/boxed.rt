@@ -38,7 +38,8 @@ impl BoxedSelectStatement {
     /// An equal statement.
     #[cycle(copy)]
     pub fn try_clone(&self, alloc: Global) -> Result<BoxedSelectStatement, NoMemory>
-        ensures { IfOk result (λ v. boxed_select_statement_tree v ≡ boxed_select_statement_tree self.now) }
+        ensures { IfOk result (λ v. boxed_select_statement_tree v
+            ≡ boxed_select_statement_tree self.now) }
     {
         Ok(BoxedSelectStatement {
             select: self.select.try_clone(alloc)?,
@@ -63,7 +64,10 @@ fn walk_boxed_end<DB: Backend>(
     rows: LimitOffsetClause,
     pass: &mut AstPass<DB>,
 ) -> Result<(), PassError>
-    ensures { Walks DB.speaks (held DB.QueryBuilder.text DB.QueryBuilder.count pass.old) (order_pieces DB.speaks (order_clause_tree order.now) ++ limit_offset_pieces DB.speaks true rows.limit_clause rows.offset_clause) result (held DB.QueryBuilder.text DB.QueryBuilder.count pass.new) }
+    ensures { Walks DB.speaks (held DB.QueryBuilder.text DB.QueryBuilder.count pass.old)
+        (order_pieces DB.speaks (order_clause_tree order.now)
+        ++ limit_offset_pieces DB.speaks true rows.limit_clause rows.offset_clause)
+        result (held DB.QueryBuilder.text DB.QueryBuilder.count pass.new) }
 {
     order.walk_ast(pass)?;
     BoxedLimitOffset(rows).walk_ast(pass)?;

@@ -1,11 +1,11 @@
 #![tactic(auto, using(sql_pass::proofs::Walking::walking))]
 
-ghost use Rattle.std.specs.Prelude.{◌≡◌, IfOk, codes};
+ghost use Rattle.std.specs.Prelude.{◌≡◌, IfOk, codes, option_map};
 ghost use Rattle.sql_pass.specs.Held.{held};
 ghost use Rattle.sql_pass.specs.Pieces.{one, Text};
 ghost use Rattle.sql_pass.specs.Walks.{Walks};
 ghost use Rattle.sql_node.specs.Pieces.{around, distinct_on_open, distinct_pieces, expr_pieces, from_pieces, group_by, maybe_pieces};
-ghost use Rattle.sql_node.specs.View.{distinct_clause_tree, expr_tree, from_clause_tree, group_by_clause_tree, having_clause_tree, select_clause_tree, where_clause_tree};
+ghost use Rattle.sql_node.specs.View.{distinct_clause_tree, expr_tree, from_clause_tree, from_of, group_by_clause_tree, having_clause_tree, select_clause_tree, source_tree, where_clause_tree};
 
 use crate::expr::walk_around;
 use crate::{Expr, Source};
@@ -65,6 +65,17 @@ pub enum HavingClause {
 }
 
 impl FromClause {
+    /// The source: of ` FROM "users"` the table `users`.
+    #[tactic(auto, using(crate::proofs::Trees::opens_from_clause))]
+    pub fn as_query_source(&self) -> Option<&Source>
+        ensures { from_of (option_map (λ s. source_tree s.now) result) ≡ from_clause_tree self.now }
+    {
+        match self {
+            FromClause::NoFromClause => None,
+            FromClause::FromClause(source) => Some(source),
+        }
+    }
+
     /// An equal clause.
     #[cycle(copy)]
     pub fn try_clone(&self, alloc: Global) -> Result<FromClause, NoMemory>
@@ -188,7 +199,9 @@ impl<DB: Backend> QueryFragment<DB> for SelectClause {
 #[tactic(auto, unfolding(crate::specs::Pieces::distinct_on_open))]
 #[cycle(walk)]
 fn walk_distinct_on<DB: Backend>(exprs: &Expr, pass: &mut AstPass<DB>) -> Result<(), PassError>
-    ensures { Walks DB.speaks (held DB.QueryBuilder.text DB.QueryBuilder.count pass.old) (around distinct_on_open (expr_pieces DB.speaks (expr_tree exprs.now)) (codes ") ")) result (held DB.QueryBuilder.text DB.QueryBuilder.count pass.new) }
+    ensures { Walks DB.speaks (held DB.QueryBuilder.text DB.QueryBuilder.count pass.old)
+        (around distinct_on_open (expr_pieces DB.speaks (expr_tree exprs.now)) (codes ") ")) result
+        (held DB.QueryBuilder.text DB.QueryBuilder.count pass.new) }
 {
     walk_around("DISTINCT ON (", exprs, ") ", pass)
 }
@@ -227,7 +240,8 @@ impl<DB: Backend> QueryFragment<DB> for WhereClause {
 
 #[tactic(auto, unfolding(crate::specs::Pieces::group_by))]
 fn push_group_by<DB: Backend>(pass: &mut AstPass<DB>) -> Result<(), PassError>
-    ensures { Walks DB.speaks (held DB.QueryBuilder.text DB.QueryBuilder.count pass.old) (one (Text group_by)) result (held DB.QueryBuilder.text DB.QueryBuilder.count pass.new) }
+    ensures { Walks DB.speaks (held DB.QueryBuilder.text DB.QueryBuilder.count pass.old)
+        (one (Text group_by)) result (held DB.QueryBuilder.text DB.QueryBuilder.count pass.new) }
 {
     pass.push_sql(" GROUP BY ")
 }

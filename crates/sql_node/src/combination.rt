@@ -74,7 +74,8 @@ fn combinator_word(combinator: Combinator) -> &'static str
 }
 
 fn walk_all<DB: Backend>(rule: DuplicateRule, pass: &mut AstPass<DB>) -> Result<(), PassError>
-    ensures { Walks DB.speaks (held DB.QueryBuilder.text DB.QueryBuilder.count pass.old) (all_pieces rule) result (held DB.QueryBuilder.text DB.QueryBuilder.count pass.new) }
+    ensures { Walks DB.speaks (held DB.QueryBuilder.text DB.QueryBuilder.count pass.old)
+        (all_pieces rule) result (held DB.QueryBuilder.text DB.QueryBuilder.count pass.new) }
 {
     match rule {
         DuplicateRule::Distinct => Ok(()),
@@ -87,7 +88,9 @@ fn walk_next_position<DB: Backend>(
     item: PositionalItem,
     pass: &mut AstPass<DB>,
 ) -> Result<(), PassError>
-    ensures { Walks DB.speaks (held DB.QueryBuilder.text DB.QueryBuilder.count pass.old) (next_of first (position_pieces item.column item.direction)) result (held DB.QueryBuilder.text DB.QueryBuilder.count pass.new) }
+    ensures { Walks DB.speaks (held DB.QueryBuilder.text DB.QueryBuilder.count pass.old)
+        (next_of first (position_pieces item.column item.direction)) result
+        (held DB.QueryBuilder.text DB.QueryBuilder.count pass.new) }
 {
     if !first {
         pass.push_sql(", ")?;
@@ -99,7 +102,9 @@ fn walk_positions<DB: Backend>(
     items: &[PositionalItem],
     pass: &mut AstPass<DB>,
 ) -> Result<(), PassError>
-    ensures { Walks DB.speaks (held DB.QueryBuilder.text DB.QueryBuilder.count pass.old) (commas true (map (λ p. position_pieces p.column p.direction) items.now)) result (held DB.QueryBuilder.text DB.QueryBuilder.count pass.new) }
+    ensures { Walks DB.speaks (held DB.QueryBuilder.text DB.QueryBuilder.count pass.old)
+        (commas true (map (λ p. position_pieces p.column p.direction) items.now)) result
+        (held DB.QueryBuilder.text DB.QueryBuilder.count pass.new) }
 {
     let mut first = true;
     for item in items {
@@ -113,7 +118,9 @@ fn walk_positional_order<DB: Backend>(
     order: &Option<SqlList<PositionalItem>>,
     pass: &mut AstPass<DB>,
 ) -> Result<(), PassError>
-    ensures { Walks DB.speaks (held DB.QueryBuilder.text DB.QueryBuilder.count pass.old) (positions_pieces order.now) result (held DB.QueryBuilder.text DB.QueryBuilder.count pass.new) }
+    ensures { Walks DB.speaks (held DB.QueryBuilder.text DB.QueryBuilder.count pass.old)
+        (positions_pieces order.now) result
+        (held DB.QueryBuilder.text DB.QueryBuilder.count pass.new) }
 {
     match order {
         None => Ok(()),
@@ -126,7 +133,9 @@ fn walk_positional_order<DB: Backend>(
 
 #[cycle(walk)]
 fn walk_side<DB: Backend>(query: &Statement, pass: &mut AstPass<DB>) -> Result<(), PassError>
-    ensures { Walks DB.speaks (held DB.QueryBuilder.text DB.QueryBuilder.count pass.old) (side DB.speaks (pieces DB.speaks (statement_tree query.now))) result (held DB.QueryBuilder.text DB.QueryBuilder.count pass.new) }
+    ensures { Walks DB.speaks (held DB.QueryBuilder.text DB.QueryBuilder.count pass.old)
+        (side DB.speaks (pieces DB.speaks (statement_tree query.now))) result
+        (held DB.QueryBuilder.text DB.QueryBuilder.count pass.new) }
 {
     push_side_open(pass)?;
     query.walk_ast(pass)?;

@@ -250,7 +250,9 @@ pub(crate) fn walk_around<DB: Backend>(
     behind: &str,
     pass: &mut AstPass<DB>,
 ) -> Result<(), PassError>
-    ensures { Walks DB.speaks (held DB.QueryBuilder.text DB.QueryBuilder.count pass.old) (around before.now (expr_pieces DB.speaks (expr_tree a.now)) behind.now) result (held DB.QueryBuilder.text DB.QueryBuilder.count pass.new) }
+    ensures { Walks DB.speaks (held DB.QueryBuilder.text DB.QueryBuilder.count pass.old)
+        (around before.now (expr_pieces DB.speaks (expr_tree a.now)) behind.now) result
+        (held DB.QueryBuilder.text DB.QueryBuilder.count pass.new) }
 {
     pass.push_sql(before)?;
     a.walk_ast(pass)?;
@@ -261,7 +263,9 @@ pub(crate) fn walk_around<DB: Backend>(
 /// Pushes the expression in front of a text.
 #[cycle(walk)]
 fn walk_before<DB: Backend>(a: &Expr, behind: &str, pass: &mut AstPass<DB>) -> Result<(), PassError>
-    ensures { Walks DB.speaks (held DB.QueryBuilder.text DB.QueryBuilder.count pass.old) (expr_pieces DB.speaks (expr_tree a.now) ++ one (Text behind.now)) result (held DB.QueryBuilder.text DB.QueryBuilder.count pass.new) }
+    ensures { Walks DB.speaks (held DB.QueryBuilder.text DB.QueryBuilder.count pass.old)
+        (expr_pieces DB.speaks (expr_tree a.now) ++ one (Text behind.now)) result
+        (held DB.QueryBuilder.text DB.QueryBuilder.count pass.new) }
 {
     a.walk_ast(pass)?;
     pass.push_sql(behind)?;
@@ -271,7 +275,9 @@ fn walk_before<DB: Backend>(a: &Expr, behind: &str, pass: &mut AstPass<DB>) -> R
 #[tactic(auto, unfolding(crate::specs::Pieces::is_not_null))]
 #[cycle(walk)]
 fn walk_not_null<DB: Backend>(a: &Expr, pass: &mut AstPass<DB>) -> Result<(), PassError>
-    ensures { Walks DB.speaks (held DB.QueryBuilder.text DB.QueryBuilder.count pass.old) (around (codes "(") (expr_pieces DB.speaks (expr_tree a.now)) is_not_null) result (held DB.QueryBuilder.text DB.QueryBuilder.count pass.new) }
+    ensures { Walks DB.speaks (held DB.QueryBuilder.text DB.QueryBuilder.count pass.old)
+        (around (codes "(") (expr_pieces DB.speaks (expr_tree a.now)) is_not_null) result
+        (held DB.QueryBuilder.text DB.QueryBuilder.count pass.new) }
 {
     walk_around("(", a, " IS NOT NULL)", pass)
 }
@@ -284,7 +290,9 @@ fn walk_query<DB: Backend>(
     behind: &str,
     pass: &mut AstPass<DB>,
 ) -> Result<(), PassError>
-    ensures { Walks DB.speaks (held DB.QueryBuilder.text DB.QueryBuilder.count pass.old) (around before.now (pieces DB.speaks (statement_tree query.now)) behind.now) result (held DB.QueryBuilder.text DB.QueryBuilder.count pass.new) }
+    ensures { Walks DB.speaks (held DB.QueryBuilder.text DB.QueryBuilder.count pass.old)
+        (around before.now (pieces DB.speaks (statement_tree query.now)) behind.now) result
+        (held DB.QueryBuilder.text DB.QueryBuilder.count pass.new) }
 {
     pass.push_sql(before)?;
     query.walk_ast(pass)?;
@@ -299,7 +307,9 @@ fn walk_query_before<DB: Backend>(
     behind: &str,
     pass: &mut AstPass<DB>,
 ) -> Result<(), PassError>
-    ensures { Walks DB.speaks (held DB.QueryBuilder.text DB.QueryBuilder.count pass.old) (pieces DB.speaks (statement_tree query.now) ++ one (Text behind.now)) result (held DB.QueryBuilder.text DB.QueryBuilder.count pass.new) }
+    ensures { Walks DB.speaks (held DB.QueryBuilder.text DB.QueryBuilder.count pass.old)
+        (pieces DB.speaks (statement_tree query.now) ++ one (Text behind.now)) result
+        (held DB.QueryBuilder.text DB.QueryBuilder.count pass.new) }
 {
     query.walk_ast(pass)?;
     pass.push_sql(behind)?;
@@ -311,7 +321,9 @@ fn walk_list_alone<DB: Backend>(
     values: &[Value],
     pass: &mut AstPass<DB>,
 ) -> Result<(), PassError>
-    ensures { Walks DB.speaks (held DB.QueryBuilder.text DB.QueryBuilder.count pass.old) (sought_values DB.speaks ty values.now) result (held DB.QueryBuilder.text DB.QueryBuilder.count pass.new) }
+    ensures { Walks DB.speaks (held DB.QueryBuilder.text DB.QueryBuilder.count pass.old)
+        (sought_values DB.speaks ty values.now) result
+        (held DB.QueryBuilder.text DB.QueryBuilder.count pass.new) }
 {
     match pass.backend().dialect() {
         Dialect::Pg => walk_bound_list(ty, values, pass),

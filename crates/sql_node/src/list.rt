@@ -19,7 +19,9 @@ fn walk_next<DB: Backend>(
     a: &Expr,
     pass: &mut AstPass<DB>,
 ) -> Result<(), PassError>
-    ensures walks { Walks DB.speaks (held DB.QueryBuilder.text DB.QueryBuilder.count pass.old) (next_of first.old (expr_pieces DB.speaks (expr_tree a.now))) result (held DB.QueryBuilder.text DB.QueryBuilder.count pass.new) }
+    ensures walks { Walks DB.speaks (held DB.QueryBuilder.text DB.QueryBuilder.count pass.old)
+        (next_of first.old (expr_pieces DB.speaks (expr_tree a.now))) result
+        (held DB.QueryBuilder.text DB.QueryBuilder.count pass.new) }
     ensures first { OnOk result (first.new ≡ false) }
 {
     if !*first {
@@ -37,8 +39,11 @@ fn walk_listed<DB: Backend>(
     a: &Expr,
     pass: &mut AstPass<DB>,
 ) -> Result<(), PassError>
-    ensures walks { Walks DB.speaks (held DB.QueryBuilder.text DB.QueryBuilder.count pass.old) (spread first.old (expr_parts DB.speaks (expr_tree a.now))) result (held DB.QueryBuilder.text DB.QueryBuilder.count pass.new) }
-    ensures first { OnOk result (first.new ≡ still first.old (expr_parts DB.speaks (expr_tree a.now))) }
+    ensures walks { Walks DB.speaks (held DB.QueryBuilder.text DB.QueryBuilder.count pass.old)
+        (spread first.old (expr_parts DB.speaks (expr_tree a.now))) result
+        (held DB.QueryBuilder.text DB.QueryBuilder.count pass.new) }
+    ensures first { OnOk result
+        (first.new ≡ still first.old (expr_parts DB.speaks (expr_tree a.now))) }
 {
     match a {
         Expr::List(exprs) => walk_list(first, exprs, pass),
@@ -54,8 +59,11 @@ pub(crate) fn walk_list<DB: Backend>(
     exprs: &SqlList<Expr>,
     pass: &mut AstPass<DB>,
 ) -> Result<(), PassError>
-    ensures walks { Walks DB.speaks (held DB.QueryBuilder.text DB.QueryBuilder.count pass.old) (commas first.old (exprs_parts DB.speaks (exprs_of (map expr_tree exprs.now)))) result (held DB.QueryBuilder.text DB.QueryBuilder.count pass.new) }
-    ensures first { OnOk result (first.new ≡ stays first.old (exprs_parts DB.speaks (exprs_of (map expr_tree exprs.now)))) }
+    ensures walks { Walks DB.speaks (held DB.QueryBuilder.text DB.QueryBuilder.count pass.old)
+        (commas first.old (exprs_parts DB.speaks (exprs_of (map expr_tree exprs.now)))) result
+        (held DB.QueryBuilder.text DB.QueryBuilder.count pass.new) }
+    ensures first { OnOk result
+        (first.new ≡ stays first.old (exprs_parts DB.speaks (exprs_of (map expr_tree exprs.now)))) }
 {
     let items = exprs.as_slice();
     for expr in items {

@@ -31,7 +31,9 @@ fn walk_value<DB: Backend>(
     value: &Value,
     pass: &mut AstPass<DB>,
 ) -> Result<(), PassError>
-    ensures { Walks DB.speaks (held DB.QueryBuilder.text DB.QueryBuilder.count pass.old) (next_of first (one (Bind (OneValue ty value.now)))) result (held DB.QueryBuilder.text DB.QueryBuilder.count pass.new) }
+    ensures { Walks DB.speaks (held DB.QueryBuilder.text DB.QueryBuilder.count pass.old)
+        (next_of first (one (Bind (OneValue ty value.now)))) result
+        (held DB.QueryBuilder.text DB.QueryBuilder.count pass.new) }
 {
     if !first {
         pass.push_sql(", ")?;
@@ -44,7 +46,9 @@ pub(crate) fn walk_values<DB: Backend>(
     values: &[Value],
     pass: &mut AstPass<DB>,
 ) -> Result<(), PassError>
-    ensures { Walks DB.speaks (held DB.QueryBuilder.text DB.QueryBuilder.count pass.old) (values_pieces ty values.now) result (held DB.QueryBuilder.text DB.QueryBuilder.count pass.new) }
+    ensures { Walks DB.speaks (held DB.QueryBuilder.text DB.QueryBuilder.count pass.old)
+        (values_pieces ty values.now) result
+        (held DB.QueryBuilder.text DB.QueryBuilder.count pass.new) }
 {
     let mut first = true;
     for value in values {
@@ -59,7 +63,9 @@ pub(crate) fn walk_bound_list<DB: Backend>(
     values: &[Value],
     pass: &mut AstPass<DB>,
 ) -> Result<(), PassError>
-    ensures { Walks DB.speaks (held DB.QueryBuilder.text DB.QueryBuilder.count pass.old) (one (Bind (ManyValues ty values.now))) result (held DB.QueryBuilder.text DB.QueryBuilder.count pass.new) }
+    ensures { Walks DB.speaks (held DB.QueryBuilder.text DB.QueryBuilder.count pass.old)
+        (one (Bind (ManyValues ty values.now))) result
+        (held DB.QueryBuilder.text DB.QueryBuilder.count pass.new) }
 {
     pass.push_bind_param(BoundRef::List(ty, values))
 }
@@ -71,7 +77,9 @@ pub(crate) fn walk_sought<DB: Backend>(
     a: &Expr,
     pass: &mut AstPass<DB>,
 ) -> Result<(), PassError>
-    ensures { Walks DB.speaks (held DB.QueryBuilder.text DB.QueryBuilder.count pass.old) (around (codes "(") (expr_pieces DB.speaks (expr_tree a.now)) (among_sql DB.speaks negated)) result (held DB.QueryBuilder.text DB.QueryBuilder.count pass.new) }
+    ensures { Walks DB.speaks (held DB.QueryBuilder.text DB.QueryBuilder.count pass.old)
+        (around (codes "(") (expr_pieces DB.speaks (expr_tree a.now)) (among_sql DB.speaks negated))
+        result (held DB.QueryBuilder.text DB.QueryBuilder.count pass.new) }
 {
     match pass.backend().dialect() {
         Dialect::Pg => match negated {
@@ -98,7 +106,9 @@ pub(crate) fn walk_among_values<DB: Backend>(
     values: &SqlList<Value>,
     pass: &mut AstPass<DB>,
 ) -> Result<(), PassError>
-    ensures { Walks DB.speaks (held DB.QueryBuilder.text DB.QueryBuilder.count pass.old) (among_pieces DB.speaks negated (expr_pieces DB.speaks (expr_tree a.now)) ty values.now) result (held DB.QueryBuilder.text DB.QueryBuilder.count pass.new) }
+    ensures { Walks DB.speaks (held DB.QueryBuilder.text DB.QueryBuilder.count pass.old)
+        (among_pieces DB.speaks negated (expr_pieces DB.speaks (expr_tree a.now)) ty values.now)
+        result (held DB.QueryBuilder.text DB.QueryBuilder.count pass.new) }
 {
     match pass.backend().dialect() {
         Dialect::Pg => {
@@ -119,7 +129,9 @@ fn walk_one_by_one<DB: Backend>(
     values: &[Value],
     pass: &mut AstPass<DB>,
 ) -> Result<(), PassError>
-    ensures { Walks DB.speaks (held DB.QueryBuilder.text DB.QueryBuilder.count pass.old) (one_by_one DB.speaks negated (expr_pieces DB.speaks (expr_tree a.now)) ty values.now) result (held DB.QueryBuilder.text DB.QueryBuilder.count pass.new) }
+    ensures { Walks DB.speaks (held DB.QueryBuilder.text DB.QueryBuilder.count pass.old)
+        (one_by_one DB.speaks negated (expr_pieces DB.speaks (expr_tree a.now)) ty values.now)
+        result (held DB.QueryBuilder.text DB.QueryBuilder.count pass.new) }
 {
     pass.unsafe_to_cache_prepared();
     if values.is_empty() {

@@ -76,7 +76,9 @@ fn walk_next_item<DB: Backend>(
     item: &OrderItem,
     pass: &mut AstPass<DB>,
 ) -> Result<(), PassError>
-    ensures { Walks DB.speaks (held DB.QueryBuilder.text DB.QueryBuilder.count pass.old) (next_of first (item_pieces DB.speaks (order_item_tree item.now))) result (held DB.QueryBuilder.text DB.QueryBuilder.count pass.new) }
+    ensures { Walks DB.speaks (held DB.QueryBuilder.text DB.QueryBuilder.count pass.old)
+        (next_of first (item_pieces DB.speaks (order_item_tree item.now))) result
+        (held DB.QueryBuilder.text DB.QueryBuilder.count pass.new) }
 {
     if !first {
         pass.push_sql(", ")?;
@@ -89,7 +91,9 @@ fn walk_items<DB: Backend>(
     list: &SqlList<OrderItem>,
     pass: &mut AstPass<DB>,
 ) -> Result<(), PassError>
-    ensures { Walks DB.speaks (held DB.QueryBuilder.text DB.QueryBuilder.count pass.old) (commas true (items_pieces DB.speaks (items_of (map order_item_tree list.now)))) result (held DB.QueryBuilder.text DB.QueryBuilder.count pass.new) }
+    ensures { Walks DB.speaks (held DB.QueryBuilder.text DB.QueryBuilder.count pass.old)
+        (commas true (items_pieces DB.speaks (items_of (map order_item_tree list.now)))) result
+        (held DB.QueryBuilder.text DB.QueryBuilder.count pass.new) }
 {
     let items = list.as_slice();
     let mut first = true;
@@ -115,7 +119,9 @@ impl<DB: Backend> QueryFragment<DB> for OrderItem {
 
 #[tactic(auto, unfolding(crate::specs::Pieces::order_by_sql))]
 pub(crate) fn push_order_by<DB: Backend>(pass: &mut AstPass<DB>) -> Result<(), PassError>
-    ensures { Walks DB.speaks (held DB.QueryBuilder.text DB.QueryBuilder.count pass.old) (one (Text order_by_sql)) result (held DB.QueryBuilder.text DB.QueryBuilder.count pass.new) }
+    ensures { Walks DB.speaks (held DB.QueryBuilder.text DB.QueryBuilder.count pass.old)
+        (one (Text order_by_sql)) result
+        (held DB.QueryBuilder.text DB.QueryBuilder.count pass.new) }
 {
     pass.push_sql(" ORDER BY ")
 }

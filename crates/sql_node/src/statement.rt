@@ -99,7 +99,10 @@ fn walk_page<DB: Backend>(
     locking: LockingClause,
     pass: &mut AstPass<DB>,
 ) -> Result<(), PassError>
-    ensures { Walks DB.speaks (held DB.QueryBuilder.text DB.QueryBuilder.count pass.old) (limit_offset_pieces DB.speaks false rows.limit_clause rows.offset_clause ++ locking_pieces locking) result (held DB.QueryBuilder.text DB.QueryBuilder.count pass.new) }
+    ensures { Walks DB.speaks (held DB.QueryBuilder.text DB.QueryBuilder.count pass.old)
+        (limit_offset_pieces DB.speaks false rows.limit_clause rows.offset_clause
+        ++ locking_pieces locking)
+        result (held DB.QueryBuilder.text DB.QueryBuilder.count pass.new) }
 {
     rows.walk_ast(pass)?;
     locking.walk_ast(pass)?;
@@ -114,7 +117,11 @@ fn walk_end<DB: Backend>(
     locking: LockingClause,
     pass: &mut AstPass<DB>,
 ) -> Result<(), PassError>
-    ensures { Walks DB.speaks (held DB.QueryBuilder.text DB.QueryBuilder.count pass.old) (order_pieces DB.speaks (order_clause_tree order.now) ++ (limit_offset_pieces DB.speaks false rows.limit_clause rows.offset_clause ++ locking_pieces locking)) result (held DB.QueryBuilder.text DB.QueryBuilder.count pass.new) }
+    ensures { Walks DB.speaks (held DB.QueryBuilder.text DB.QueryBuilder.count pass.old)
+        (order_pieces DB.speaks (order_clause_tree order.now)
+        ++ (limit_offset_pieces DB.speaks false rows.limit_clause rows.offset_clause
+        ++ locking_pieces locking))
+        result (held DB.QueryBuilder.text DB.QueryBuilder.count pass.new) }
 {
     order.walk_ast(pass)?;
     walk_page(rows, locking, pass)?;

@@ -49,13 +49,15 @@ stops-many : (d : Dialect) (h : Held) (ps : List Piece) (g : Held) → Stops d h
 unfolding Stops refuses
 stops-many d h [] g s = absurd s
 stops-many d h (p ∷ ps) g s =
-    ⊎_elim (λ r. full-writes d h (first_so (is_full d h) (is_bind p) r.0)) (λ r. sym (writes-after d h (p ∷ [])) ∙ stops-many d (after d h (p ∷ [])) ps g r) s
+    ⊎_elim (λ r. full-writes d h (first_so (is_full d h) (is_bind p) r.0))
+    (λ r. sym (writes-after d h (p ∷ [])) ∙ stops-many d (after d h (p ∷ [])) ps g r) s
 
 stops-bytes : (d : Dialect) (h : Held) (ps : List Piece) (g : Held) → Stops d h ps TooLong g → gathers_bytes h ≡ true
 unfolding Stops refuses
 stops-bytes d h [] g s = absurd s
 stops-bytes d h (p ∷ ps) g s =
-    ⊎_elim (λ r. first_so (gathers_bytes h) (is_long_bind p) r.0) (λ r. sym (gathers-after d h (p ∷ [])) ∙ stops-bytes d (after d h (p ∷ [])) ps g r) s
+    ⊎_elim (λ r. first_so (gathers_bytes h) (is_long_bind p) r.0)
+    (λ r. sym (gathers-after d h (p ∷ [])) ∙ stops-bytes d (after d h (p ∷ [])) ps g r) s
 
 -- a value that is too long, among those of the pieces
 abbrev pub some_too_long : List Piece → Bool
@@ -83,9 +85,11 @@ stops-long : (d : Dialect) (h : Held) (ps : List Piece) (g : Held) → Stops d h
 unfolding Stops refuses
 stops-long d h [] g s = absurd s
 stops-long d h (p ∷ ps) g s =
-    ⊎_elim (λ r. here p ps (second_so (gathers_bytes h) (is_long_bind p) r.0)) (λ r. later p ps (stops-long d (after d h (p ∷ [])) ps g r)) s
+    ⊎_elim (λ r. here p ps (second_so (gathers_bytes h) (is_long_bind p) r.0))
+    (λ r. later p ps (stops-long d (after d h (p ∷ [])) ps g r)) s
 
-none-long : (d : Dialect) (c : Collected) (p : Piece) (ps : List Piece) → is_refused d (collected c) p ≡ false → some_too_long ps ≡ false → some_too_long (p ∷ ps) ≡ false
+none-long : (d : Dialect) (c : Collected) (p : Piece) (ps : List Piece) → is_refused d (collected c) p ≡ false
+    → some_too_long ps ≡ false → some_too_long (p ∷ ps) ≡ false
 unfolding is_refused refuses
 none-long d c (Text t) ps r l = l
 none-long d c (Ident t) ps r l = l
@@ -102,9 +106,12 @@ passes-long d c (x ∷ ps) p = none-long d c x ps p.0 (passes-long d (with_value
 abbrev pub Room : Dialect → ℕ → List Piece → Type 0
 Room d n ps = numbers d ≡ true → n ≤ MAX_BINDS → n + length (values_of ps) ≤ MAX_BINDS
 
-room-bind : (d : Dialect) (t : List ℕ) (n : ℕ) (b : Bound) (ps : List Piece) → is_refused d (text_so_far t n) (Bind b) ≡ false → Room d (count_at d n (Bind b)) ps → Room d n (Bind b ∷ ps)
+room-bind : (d : Dialect) (t : List ℕ) (n : ℕ) (b : Bound) (ps : List Piece)
+    → is_refused d (text_so_far t n) (Bind b) ≡ false → Room d (count_at d n (Bind b)) ps → Room d n (Bind b ∷ ps)
 unfolding is_refused refuses
-room-bind Pg t n b ps r h = λ numbered below. let k : n + 1 ≤ MAX_BINDS → n + 1 + length (values_of ps) ≤ MAX_BINDS = h refl in grind (arith, nat_tests, r, k)
+room-bind Pg t n b ps r h =
+    λ numbered below. let k : n + 1 ≤ MAX_BINDS → n + 1 + length (values_of ps) ≤ MAX_BINDS = h refl in
+    grind (arith, nat_tests, r, k)
 room-bind Mysql t n b ps r h = λ numbered below. cc
 room-bind Sqlite t n b ps r h = λ numbered below. cc
 
@@ -113,8 +120,10 @@ unfolding Passes after is_refused refuses
 passes-room d t n [] p = λ numbered below. omega arith
 passes-room d t n (Text s ∷ ps) p = passes-room d (t ++ text_of d n (Text s ∷ [])) n ps p.1
 passes-room d t n (Ident s ∷ ps) p = passes-room d (t ++ text_of d n (Ident s ∷ [])) n ps p.1
-passes-room d t n (Bind b ∷ ps) p = room-bind d t n b ps p.0 (passes-room d (t ++ text_of d n (Bind b ∷ [])) (count_at d n (Bind b)) ps p.1)
-passes-room d t n (ValueOnly b ∷ ps) p = room-bind d t n b ps p.0 (passes-room d (t ++ text_of d n (ValueOnly b ∷ [])) (count_at d n (ValueOnly b)) ps p.1)
+passes-room d t n (Bind b ∷ ps) p =
+    room-bind d t n b ps p.0 (passes-room d (t ++ text_of d n (Bind b ∷ [])) (count_at d n (Bind b)) ps p.1)
+passes-room d t n (ValueOnly b ∷ ps) p =
+    room-bind d t n b ps p.0 (passes-room d (t ++ text_of d n (ValueOnly b ∷ [])) (count_at d n (ValueOnly b)) ps p.1)
 passes-room d t n (Unsafe ∷ ps) p = passes-room d (t ++ text_of d n (Unsafe ∷ [])) n ps p.1
 
 -- what a walk that ends tells
@@ -135,12 +144,14 @@ module _ {d : Dialect} {h g : Held} {ps : List Piece} where
   walks-long w = stops-long d h ps g (walked w)
 
 -- bytes were gathered of lists that are not too long
-pub walks-short : {d : Dialect} {c : Collected} {ps : List Piece} {u : Unit {0}} {g : Held} → Walks d (collected c) ps (Ok u) g → some_too_long ps ≡ false
+pub walks-short : {d : Dialect} {c : Collected} {ps : List Piece} {u : Unit {0}} {g : Held}
+    → Walks d (collected c) ps (Ok u) g → some_too_long ps ≡ false
 unfolding Walked
 walks-short {d} {c} {ps} w = passes-long d c ps (walked w).1
 
 -- text was written whose placeholders have numbers
-pub walks-room : {d : Dialect} {t : List ℕ} {n : ℕ} {ps : List Piece} {u : Unit {0}} {g : Held} → Walks d (text_so_far t n) ps (Ok u) g → Room d n ps
+pub walks-room : {d : Dialect} {t : List ℕ} {n : ℕ} {ps : List Piece} {u : Unit {0}} {g : Held}
+    → Walks d (text_so_far t n) ps (Ok u) g → Room d n ps
 unfolding Walked
 walks-room {d} {t} {n} {ps} w = passes-room d t n ps (walked w).1
 

@@ -15,7 +15,8 @@ abbrev pub TooMany : Dialect → ℕ → List Piece → Type 0
 TooMany d n ps = (numbers d ≡ true) × (MAX_BINDS < n + length (values_of ps))
 
 -- the piece at which it stops takes a number
-here : (d : Dialect) (n : ℕ) (p : Piece) (ps : List Piece) → numbers d ≡ true → n ≡ MAX_BINDS → is_bind p ≡ true → TooMany d n (p ∷ ps)
+here : (d : Dialect) (n : ℕ) (p : Piece) (ps : List Piece) → numbers d ≡ true → n ≡ MAX_BINDS → is_bind p ≡ true
+    → TooMany d n (p ∷ ps)
 here d n (Text t) ps numbered full bound = cc
 here d n (Ident t) ps numbered full bound = cc
 here d n (Bind b) ps numbered full bound = (numbered, omega arith)
@@ -31,28 +32,34 @@ later Pg n Unsafe ps h = h
 later Mysql n p ps h = let f : false ≡ true = h.0 in cc
 later Sqlite n p ps h = let f : false ≡ true = h.0 in cc
 
-pub stops-too_many : (d : Dialect) (t : List ℕ) (n : ℕ) (ps : List Piece) (g : Held) → Stops d (text_so_far t n) ps TooManyBinds g → TooMany d n ps
+pub stops-too_many : (d : Dialect) (t : List ℕ) (n : ℕ) (ps : List Piece) (g : Held)
+    → Stops d (text_so_far t n) ps TooManyBinds g → TooMany d n ps
 unfolding Stops after refuses
 stops-too_many d t n [] g s = absurd s
 stops-too_many d t n (p ∷ ps) g s =
     ⊎_elim
     (λ r.
     let both = first_so (is_full d (text_so_far t n)) (is_bind p) r.0 in
-    here d n p ps (first_so (numbers d) (eqb n MAX_BINDS) both) (eqb-true n MAX_BINDS (second_so (numbers d) (eqb n MAX_BINDS) both)) (second_so (is_full d (text_so_far t n)) (is_bind p) r.0))
+    here d n p ps (first_so (numbers d) (eqb n MAX_BINDS) both)
+    (eqb-true n MAX_BINDS (second_so (numbers d) (eqb n MAX_BINDS) both))
+    (second_so (is_full d (text_so_far t n)) (is_bind p) r.0))
     (λ r. later d n p ps (stops-too_many d (t ++ text_of d n (p ∷ [])) (count_at d n p) ps g r))
     s
 
-pub walks-too_many : {d : Dialect} {t : List ℕ} {n : ℕ} {ps : List Piece} {g : Held} → Walks d (text_so_far t n) ps (Err TooManyBinds) g → TooMany d n ps
+pub walks-too_many : {d : Dialect} {t : List ℕ} {n : ℕ} {ps : List Piece} {g : Held}
+    → Walks d (text_so_far t n) ps (Err TooManyBinds) g → TooMany d n ps
 unfolding Walked
 walks-too_many {d} {t} {n} {ps} {g} w = stops-too_many d t n ps g (walked w)
 
 -- a walk that gathers values numbers nothing
-pub stops-shown : (d : Dialect) (vs : List Bound) (ps : List Piece) (g : Held) → Stops d (shown vs) ps TooManyBinds g → ⊥
+pub stops-shown : (d : Dialect) (vs : List Bound) (ps : List Piece) (g : Held) → Stops d (shown vs) ps TooManyBinds g
+    → ⊥
 unfolding Stops after refuses
 stops-shown d vs [] g s = s
 stops-shown d vs (p ∷ ps) g s = ⊎_elim (λ r. cc r.0) (λ r. stops-shown d (vs ++ values_of (p ∷ [])) ps g r) s
 
-pub walks-shown : {d : Dialect} {vs : List Bound} {ps : List Piece} {g : Held} → Walks d (shown vs) ps (Err TooManyBinds) g → ⊥
+pub walks-shown : {d : Dialect} {vs : List Bound} {ps : List Piece} {g : Held}
+    → Walks d (shown vs) ps (Err TooManyBinds) g → ⊥
 unfolding Walked
 walks-shown {d} {vs} {ps} {g} w = stops-shown d vs ps g (walked w)
 

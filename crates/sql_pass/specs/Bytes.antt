@@ -81,7 +81,9 @@ abbrev pub element : Value → List ℕ
 element v = sized (value_bytes Pg v)
 
 unfoldable pub list_bytes : SqlType → List Value → List ℕ
-list_bytes t vs = int4 (pos 1) ++ int4 (null_flag vs) ++ int4 (pos (element_number t.base)) ++ int4 (pos (length vs)) ++ int4 (pos 1) ++ flat_map element vs
+list_bytes t vs =
+    int4 (pos 1) ++ int4 (null_flag vs) ++ int4 (pos (element_number t.base)) ++ int4 (pos (length vs)) ++ int4 (pos 1)
+    ++ flat_map element vs
 
 -- the bytes of a bind; a list has the same in every dialect
 abbrev pub bytes_of : Dialect → Bound → Option (List ℕ)

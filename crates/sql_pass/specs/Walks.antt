@@ -24,5 +24,6 @@ pub data Walks (d : Dialect) (h : Held) (ps : List Piece) (r : Result (Unit {0})
   walks : Walked d h ps r g → Walks d h ps r g
 
 -- what it says
-abbrev pub walked : {d : Dialect} {h : Held} {ps : List Piece} {r : Result (Unit {0}) PassError} {g : Held} → Walks d h ps r g → Walked d h ps r g
+abbrev pub walked : {d : Dialect} {h : Held} {ps : List Piece} {r : Result (Unit {0}) PassError} {g : Held}
+    → Walks d h ps r g → Walked d h ps r g
 walked (walks w) = w

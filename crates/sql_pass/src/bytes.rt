@@ -19,7 +19,8 @@ pub fn bound_bytes(
     bound: BoundRef<'_>,
 ) -> Result<Option<Vec<u8>>, CollectError>
     ensures bytes { IfOk result (λ b. plain_one b ≡ bytes.bytes_of dialect (bound_of bound.entry)) }
-    ensures long { IsErrOf result CollectError.TooLong → IsTrue (is_too_long (bound_of bound.entry)) }
+    ensures long { IsErrOf result CollectError.TooLong
+        → IsTrue (is_too_long (bound_of bound.entry)) }
     ensures refused { IsTrue (is_too_long (bound_of bound.entry)) → IsErr result }
 {
     match bound {
@@ -69,7 +70,8 @@ pub fn value_bytes(
 #[tactic(auto, unfolding(crate::specs::Bytes::list_bytes))]
 fn list_bytes(alloc: Global, ty: SqlType, values: &[Value]) -> Result<Vec<u8>, CollectError>
     ensures bytes { IfOk result (λ b. b.items ≡ bytes.list_bytes ty values.now) }
-    ensures long { IsErrOf result CollectError.TooLong → IsTrue (is_too_long (B.List ty values.now)) }
+    ensures long { IsErrOf result CollectError.TooLong
+        → IsTrue (is_too_long (B.List ty values.now)) }
     ensures refused { IsTrue (is_too_long (B.List ty values.now)) → IsErr result }
 {
     let mut out = Vec::new(alloc);
@@ -84,7 +86,8 @@ fn list_bytes(alloc: Global, ty: SqlType, values: &[Value]) -> Result<Vec<u8>, C
 
 fn push_elements(alloc: Global, out: &mut Vec<u8>, values: &[Value]) -> Result<(), CollectError>
     ensures bytes { OnOk result (out.new.items ≡ out.old.items ++ flat_map element values.now) }
-    ensures long { IsErrOf result CollectError.TooLong → IsTrue (list_any is_long_element values.now) }
+    ensures long { IsErrOf result CollectError.TooLong
+        → IsTrue (list_any is_long_element values.now) }
     ensures refused { IsTrue (list_any is_long_element values.now) → IsErr result }
 {
     for value in values {

@@ -50,9 +50,13 @@ pub trait BindCollector {
 
     /// Appends a value, or a list of values as one.
     fn push_bound_value(&mut self, bound: BoundRef<'_>) -> Result<(), CollectError>
-        ensures ok { OnOk result (holds self.new ≡ with_bind (holds self.old) (type_of (bound_of bound.entry)) (bytes_of dialect (bound_of bound.entry))) }
+        ensures ok { OnOk result
+            (holds self.new
+            ≡ with_bind (holds self.old) (type_of (bound_of bound.entry))
+            (bytes_of dialect (bound_of bound.entry))) }
         ensures err { OnErr result (holds self.new ≡ holds self.old) }
-        ensures long { IsErrOf result CollectError.TooLong → IsTrue (is_too_long (bound_of bound.entry)) }
+        ensures long { IsErrOf result CollectError.TooLong
+            → IsTrue (is_too_long (bound_of bound.entry)) }
         // Where memory is wanting that may be the answer in its place.
         ensures refused { IsTrue (is_too_long (bound_of bound.entry)) → IsErr result };
 

@@ -23,7 +23,8 @@ pub trait QueryFragment<DB: Backend> {
 
     /// Pushes the pieces in order, up to the first refusal.
     fn walk_ast(&self, pass: &mut AstPass<DB>) -> Result<(), PassError>
-        ensures { Walks DB.speaks (held DB.QueryBuilder.text DB.QueryBuilder.count pass.old) (pieces self.now) result (held DB.QueryBuilder.text DB.QueryBuilder.count pass.new) };
+        ensures { Walks DB.speaks (held DB.QueryBuilder.text DB.QueryBuilder.count pass.old)
+            (pieces self.now) result (held DB.QueryBuilder.text DB.QueryBuilder.count pass.new) };
 
     /// Writes the text behind what `out` holds, and gives the builder back. An error drops it.
     #[tactic(auto, using(crate::proofs::Walking::firm), unfolding(crate::specs::Walks::Walked, crate::specs::Held::after))]
@@ -32,13 +33,17 @@ pub trait QueryFragment<DB: Backend> {
         out: DB::QueryBuilder,
         backend: &DB,
     ) -> Result<DB::QueryBuilder, PassError>
-        ensures text { IfOk result (λ b. DB.QueryBuilder.text b ≡ DB.QueryBuilder.text out ++ text_of DB.speaks (DB.QueryBuilder.count out) (pieces self.now)) }
-        ensures count { IfOk result (λ b. DB.QueryBuilder.count b ≡ count_of DB.speaks (DB.QueryBuilder.count out) (pieces self.now)) }
+        ensures text { IfOk result (λ b. DB.QueryBuilder.text b
+            ≡ DB.QueryBuilder.text out
+            ++ text_of DB.speaks (DB.QueryBuilder.count out) (pieces self.now)) }
+        ensures count { IfOk result (λ b. DB.QueryBuilder.count b
+            ≡ count_of DB.speaks (DB.QueryBuilder.count out) (pieces self.now)) }
         // Placeholders run out only where there are more than a dialect that numbers them has numbers left.
         ensures too_many { IsErrOf result PassError.TooManyBinds → IsTrue (numbers DB.speaks)
             × (MAX_BINDS < DB.QueryBuilder.count out + length (values_of (pieces self.now))) }
         ensures room { IsTrue (numbers DB.speaks) → DB.QueryBuilder.count out ≤ MAX_BINDS
-            → MAX_BINDS < DB.QueryBuilder.count out + length (values_of (pieces self.now)) → IsErr result }
+            → MAX_BINDS < DB.QueryBuilder.count out + length (values_of (pieces self.now))
+            → IsErr result }
         ensures long { ¬ IsErrOf result PassError.TooLong }
     {
         let mut pass = AstPass::to_sql(out, *backend);
@@ -59,11 +64,14 @@ pub trait QueryFragment<DB: Backend> {
         out: RawBytesBindCollector<DB>,
         backend: &DB,
     ) -> Result<RawBytesBindCollector<DB>, PassError>
-        ensures binds { IfOk result (λ c. c ≡ with_values DB.speaks out (values_of (pieces self.now))) }
+        ensures binds { IfOk result (λ c. c
+            ≡ with_values DB.speaks out (values_of (pieces self.now))) }
         ensures many { ¬ IsErrOf result PassError.TooManyBinds }
-        ensures long { IsErrOf result PassError.TooLong → IsTrue (list_any is_too_long (values_of (pieces self.now))) }
+        ensures long { IsErrOf result PassError.TooLong
+            → IsTrue (list_any is_too_long (values_of (pieces self.now))) }
         // Where memory is wanting that may be the answer in its place.
-        ensures refused { IsTrue (list_any is_too_long (values_of (pieces self.now))) → IsErr result }
+        ensures refused { IsTrue (list_any is_too_long (values_of (pieces self.now)))
+            → IsErr result }
     {
         let mut pass = AstPass::collect_binds(out, *backend);
         self.walk_ast(&mut pass)?;
@@ -76,7 +84,8 @@ pub trait QueryFragment<DB: Backend> {
         }
     }
 
-    /// Whether the text is the same for all values of the same types: no list of values is written out.
+    /// Whether the text is the same for all values of the same types: none of its pieces says that it is not, as a list of values
+    /// that is written out does, and a raw query.
     #[tactic(auto, using(crate::proofs::Walking::firm), unfolding(crate::specs::Walks::Walked, crate::specs::Held::after))]
     final fn is_safe_to_cache_prepared(&self, backend: &DB) -> bool
         ensures { result ≡ is_safe (pieces self.now) }

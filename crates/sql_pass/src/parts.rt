@@ -29,7 +29,8 @@ pub trait MiddleFragment<DB: Backend> {
 
     /// Pushes the pieces in order, up to the first refusal.
     fn push_sql(&self, pass: &mut AstPass<DB>) -> Result<(), PassError>
-        ensures { Walks DB.speaks (held DB.QueryBuilder.text DB.QueryBuilder.count pass.old) (middle self.now) result (held DB.QueryBuilder.text DB.QueryBuilder.count pass.new) };
+        ensures { Walks DB.speaks (held DB.QueryBuilder.text DB.QueryBuilder.count pass.old)
+            (middle self.now) result (held DB.QueryBuilder.text DB.QueryBuilder.count pass.new) };
 }
 
 /// The text as it is.
@@ -103,7 +104,9 @@ impl<DB: Backend, T: QueryFragment<DB>> QueryFragment<DB> for ParenthesisWrapper
 /// Pushes what stands before a query that is a side of a combination: `(`, in SQLite `SELECT * FROM (`.
 #[tactic(auto, unfolding(crate::specs::Parts::side_open))]
 pub fn push_side_open<DB: Backend>(pass: &mut AstPass<DB>) -> Result<(), PassError>
-    ensures { Walks DB.speaks (held DB.QueryBuilder.text DB.QueryBuilder.count pass.old) (one (Text (side_open DB.speaks))) result (held DB.QueryBuilder.text DB.QueryBuilder.count pass.new) }
+    ensures { Walks DB.speaks (held DB.QueryBuilder.text DB.QueryBuilder.count pass.old)
+        (one (Text (side_open DB.speaks))) result
+        (held DB.QueryBuilder.text DB.QueryBuilder.count pass.new) }
 {
     match pass.backend().dialect() {
         Dialect::Pg | Dialect::Mysql => pass.push_sql("("),
@@ -113,7 +116,8 @@ pub fn push_side_open<DB: Backend>(pass: &mut AstPass<DB>) -> Result<(), PassErr
 
 #[tactic(auto, unfolding(crate::specs::Parts::from_open))]
 fn push_from_open<DB: Backend>(pass: &mut AstPass<DB>) -> Result<(), PassError>
-    ensures { Walks DB.speaks (held DB.QueryBuilder.text DB.QueryBuilder.count pass.old) (one (Text from_open)) result (held DB.QueryBuilder.text DB.QueryBuilder.count pass.new) }
+    ensures { Walks DB.speaks (held DB.QueryBuilder.text DB.QueryBuilder.count pass.old)
+        (one (Text from_open)) result (held DB.QueryBuilder.text DB.QueryBuilder.count pass.new) }
 {
     pass.push_sql("SELECT * FROM (")
 }

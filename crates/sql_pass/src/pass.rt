@@ -34,7 +34,8 @@ pub enum AstPass<DB: Backend> {
 impl<DB: Backend> AstPass<DB> {
     /// Writes the text, behind what the builder holds.
     pub fn to_sql(builder: DB::QueryBuilder, backend: DB) -> AstPass<DB>
-        ensures { held DB.QueryBuilder.text DB.QueryBuilder.count result ≡ text_so_far (DB.QueryBuilder.text builder) (DB.QueryBuilder.count builder) }
+        ensures { held DB.QueryBuilder.text DB.QueryBuilder.count result
+            ≡ text_so_far (DB.QueryBuilder.text builder) (DB.QueryBuilder.count builder) }
     {
         AstPass::ToSql(builder, backend)
     }
@@ -83,7 +84,8 @@ impl<DB: Backend> AstPass<DB> {
     /// Pushes SQL as it is. The text `""` too makes a walk no no-op.
     #[tactic(auto, unfolding(crate::specs::Walks::Walked, crate::specs::Walks::Stops, crate::specs::Walks::Passes, crate::specs::Held::after, crate::specs::Held::refuses, crate::specs::Held::is_refused, crate::specs::Pieces::one))]
     pub fn push_sql(&mut self, sql: &str) -> Result<(), PassError>
-        ensures { Walks DB.speaks (held DB.QueryBuilder.text DB.QueryBuilder.count self.old) (one (Text sql.now)) result (held DB.QueryBuilder.text DB.QueryBuilder.count self.new) }
+        ensures { Walks DB.speaks (held DB.QueryBuilder.text DB.QueryBuilder.count self.old)
+            (one (Text sql.now)) result (held DB.QueryBuilder.text DB.QueryBuilder.count self.new) }
     {
         match self {
             AstPass::ToSql(builder, _) => match builder.push_sql(sql) {
@@ -101,7 +103,9 @@ impl<DB: Backend> AstPass<DB> {
     /// Pushes a name, which the dialect quotes.
     #[tactic(auto, unfolding(crate::specs::Walks::Walked, crate::specs::Walks::Stops, crate::specs::Walks::Passes, crate::specs::Held::after, crate::specs::Held::refuses, crate::specs::Held::is_refused, crate::specs::Pieces::one))]
     pub fn push_identifier(&mut self, name: &str) -> Result<(), PassError>
-        ensures { Walks DB.speaks (held DB.QueryBuilder.text DB.QueryBuilder.count self.old) (one (Ident name.now)) result (held DB.QueryBuilder.text DB.QueryBuilder.count self.new) }
+        ensures { Walks DB.speaks (held DB.QueryBuilder.text DB.QueryBuilder.count self.old)
+            (one (Ident name.now)) result
+            (held DB.QueryBuilder.text DB.QueryBuilder.count self.new) }
     {
         match self {
             AstPass::ToSql(builder, _) => match builder.push_identifier(name) {
@@ -119,7 +123,9 @@ impl<DB: Backend> AstPass<DB> {
     /// Pushes a value, whose placeholder is written.
     #[tactic(auto, unfolding(crate::specs::Walks::Walked, crate::specs::Walks::Stops, crate::specs::Walks::Passes, crate::specs::Held::after, crate::specs::Held::refuses, crate::specs::Held::is_refused, crate::specs::Pieces::one))]
     pub fn push_bind_param(&mut self, value: BoundRef<'_>) -> Result<(), PassError>
-        ensures { Walks DB.speaks (held DB.QueryBuilder.text DB.QueryBuilder.count self.old) (one (Bind (bound_of value.entry))) result (held DB.QueryBuilder.text DB.QueryBuilder.count self.new) }
+        ensures { Walks DB.speaks (held DB.QueryBuilder.text DB.QueryBuilder.count self.old)
+            (one (Bind (bound_of value.entry))) result
+            (held DB.QueryBuilder.text DB.QueryBuilder.count self.new) }
     {
         match self {
             AstPass::ToSql(builder, _) => match builder.push_bind_param() {
@@ -143,7 +149,9 @@ impl<DB: Backend> AstPass<DB> {
     /// Pushes a value whose placeholder stands in the text already.
     #[tactic(auto, unfolding(crate::specs::Walks::Walked, crate::specs::Walks::Stops, crate::specs::Walks::Passes, crate::specs::Held::after, crate::specs::Held::refuses, crate::specs::Held::is_refused, crate::specs::Pieces::one))]
     pub fn push_bind_param_value_only(&mut self, value: BoundRef<'_>) -> Result<(), PassError>
-        ensures { Walks DB.speaks (held DB.QueryBuilder.text DB.QueryBuilder.count self.old) (one (ValueOnly (bound_of value.entry))) result (held DB.QueryBuilder.text DB.QueryBuilder.count self.new) }
+        ensures { Walks DB.speaks (held DB.QueryBuilder.text DB.QueryBuilder.count self.old)
+            (one (ValueOnly (bound_of value.entry))) result
+            (held DB.QueryBuilder.text DB.QueryBuilder.count self.new) }
     {
         match self {
             AstPass::ToSql(builder, _) => match builder.push_bind_param_value_only() {
@@ -163,7 +171,8 @@ impl<DB: Backend> AstPass<DB> {
     /// Says that the text depends on a value, as on the length of a list.
     #[tactic(auto, unfolding(crate::specs::Walks::Walked, crate::specs::Walks::Stops, crate::specs::Walks::Passes, crate::specs::Held::after, crate::specs::Held::refuses, crate::specs::Held::is_refused, crate::specs::Pieces::one))]
     pub fn unsafe_to_cache_prepared(&mut self)
-        ensures { Walks DB.speaks (held DB.QueryBuilder.text DB.QueryBuilder.count self.old) (one Unsafe) (Ok tt) (held DB.QueryBuilder.text DB.QueryBuilder.count self.new) }
+        ensures { Walks DB.speaks (held DB.QueryBuilder.text DB.QueryBuilder.count self.old)
+            (one Unsafe) (Ok tt) (held DB.QueryBuilder.text DB.QueryBuilder.count self.new) }
     {
         if let AstPass::IsSafe(safe, _) = self {
             *safe = false;
@@ -186,7 +195,8 @@ fn collect<DB: Backend>(
     collector: &mut RawBytesBindCollector<DB>,
     value: BoundRef<'_>,
 ) -> Result<(), PassError>
-    ensures ok { OnOk result (collector.new ≡ with_values DB.speaks collector.old (bound_of value.entry ∷ [])) }
+    ensures ok { OnOk result
+        (collector.new ≡ with_values DB.speaks collector.old (bound_of value.entry ∷ [])) }
     ensures err { OnErr result (collector.new ≡ collector.old) }
     ensures many { IsErrOf result PassError.TooManyBinds → ⊥ }
     ensures long { IsErrOf result PassError.TooLong → IsTrue (is_too_long (bound_of value.entry)) }

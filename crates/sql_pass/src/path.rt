@@ -12,7 +12,8 @@ use sql_schema::{Column, Table};
 
 /// Pushes the name quoted behind a dot: `."id"`.
 pub fn push_dotted<DB: Backend>(name: &str, pass: &mut AstPass<DB>) -> Result<(), PassError>
-    ensures { Walks DB.speaks (held DB.QueryBuilder.text DB.QueryBuilder.count pass.old) (dotted name.now) result (held DB.QueryBuilder.text DB.QueryBuilder.count pass.new) }
+    ensures { Walks DB.speaks (held DB.QueryBuilder.text DB.QueryBuilder.count pass.old)
+        (dotted name.now) result (held DB.QueryBuilder.text DB.QueryBuilder.count pass.new) }
 {
     pass.push_sql(".")?;
     pass.push_identifier(name)?;
@@ -24,7 +25,9 @@ fn push_path<DB: Backend>(
     name: &str,
     pass: &mut AstPass<DB>,
 ) -> Result<(), PassError>
-    ensures { Walks DB.speaks (held DB.QueryBuilder.text DB.QueryBuilder.count pass.old) (path_pieces (option_map (λ s. s.now) schema.entry) name.now) result (held DB.QueryBuilder.text DB.QueryBuilder.count pass.new) }
+    ensures { Walks DB.speaks (held DB.QueryBuilder.text DB.QueryBuilder.count pass.old)
+        (path_pieces (option_map (λ s. s.now) schema.entry) name.now) result
+        (held DB.QueryBuilder.text DB.QueryBuilder.count pass.new) }
 {
     match schema {
         None => pass.push_identifier(name),

@@ -13,16 +13,20 @@ use Rattle.sql_places.proofs.Gathering.{gathers-more}
 use Rattle.sql_places.proofs.InnerParts.{parts-select, parts-boxed}
 
 module _ {E : Type 0} {h k g : List Part} {r : Result (Unit {0}) E} where
-  pub gathers-select : (v : View) (s : SelectStatement) (own wide : View) (x : Part) → k ≡ h ++ x ∷ [] → part_of x ≡ a_select v (select_record s)
+  pub gathers-select : (v : View) (s : SelectStatement) (own wide : View) (x : Part) → k ≡ h ++ x ∷ []
+      → part_of x ≡ a_select v (select_record s)
       → own ≡ origins_of (select_record s).source → wide ≡ widest (select_record s).form (select_record s).source v
-      → Gathers part_of k (inside own wide (select_record s)) r g → Gathers part_of h (parts v (select_statement_tree s)) r g
+      → Gathers part_of k (inside own wide (select_record s)) r g
+      → Gathers part_of h (parts v (select_statement_tree s)) r g
   gathers-select v s own wide x p e o w z =
       subst (λ ps. Gathers part_of h ps r g) (sym (parts-select v s))
       (subst (λ ps. Gathers part_of h ps r g) (λ i. e i ∷ inside (o i) (w i) (select_record s)) (gathers-more x p z))
 
-  pub gathers-boxed : (v : View) (s : BoxedSelectStatement) (own : View) (x : Part) → k ≡ h ++ x ∷ [] → part_of x ≡ a_select v (boxed_record s)
+  pub gathers-boxed : (v : View) (s : BoxedSelectStatement) (own : View) (x : Part) → k ≡ h ++ x ∷ []
+      → part_of x ≡ a_select v (boxed_record s)
       → own ≡ origins_of (boxed_record s).source
-      → Gathers part_of k (inside own own (boxed_record s)) r g → Gathers part_of h (parts v (boxed_select_statement_tree s)) r g
+      → Gathers part_of k (inside own own (boxed_record s)) r g
+      → Gathers part_of h (parts v (boxed_select_statement_tree s)) r g
   gathers-boxed v s own x p e o z =
       subst (λ ps. Gathers part_of h ps r g) (sym (parts-boxed v s))
       (subst (λ ps. Gathers part_of h ps r g) (λ i. e i ∷ inside (o i) (o i) (boxed_record s)) (gathers-more x p z))

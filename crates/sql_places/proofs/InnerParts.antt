@@ -10,13 +10,18 @@ use Rattle.sql_places.specs.Lent.{select_record, boxed_record, combined_record}
 use Rattle.sql_places.specs.Inside.{inside}
 
 pub parts-select : (v : View) (s : SelectStatement) → parts v (select_statement_tree s) ≡
-    a_select v (select_record s) ∷ inside (origins_of (select_record s).source) (widest (select_record s).form (select_record s).source v) (select_record s)
+    a_select v (select_record s)
+    ∷ inside (origins_of (select_record s).source) (widest (select_record s).form (select_record s).source v)
+    (select_record s)
 parts-select v s = rw select_statement-out
 
 pub parts-boxed : (v : View) (s : BoxedSelectStatement) → parts v (boxed_select_statement_tree s) ≡
-    a_select v (boxed_record s) ∷ inside (origins_of (boxed_record s).source) (origins_of (boxed_record s).source) (boxed_record s)
+    a_select v (boxed_record s)
+    ∷ inside (origins_of (boxed_record s).source) (origins_of (boxed_record s).source) (boxed_record s)
 parts-boxed v s = rw boxed_select_statement-out
 
 pub parts-combination : (v : View) (c : CombinationClause) → parts v (combination_clause_tree c) ≡
-    a_combination (combined_record c) ∷ (parts v (statement_tree (out-CombinationClause c).source.value) ++ parts v (statement_tree (out-CombinationClause c).rhs.value))
+    a_combination (combined_record c)
+    ∷ (parts v (statement_tree (out-CombinationClause c).source.value)
+    ++ parts v (statement_tree (out-CombinationClause c).rhs.value))
 parts-combination v c = rw combination_clause-out

@@ -1,4 +1,5 @@
--- What is lent, as what it is lent from. What stands where in a statement is defined in `sql_rules` (`Scope`).
+-- What is lent, as what it is lent from; beside it what inner functions say (`select_record`, `boxed_record`, `combined_record`,
+-- `in_among`). What stands where in a statement is defined in `sql_rules` (`Scope`).
 pub mod Lent
 pub mod Claused
 pub mod Parted

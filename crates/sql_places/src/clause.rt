@@ -19,12 +19,19 @@ use std::alloc::Global;
 /// Where an expression stands.
 #[derive(Debug, Clone, Copy, PartialEq, Eq)]
 pub enum Place {
+    /// What is selected.
     Selection,
+    /// `DISTINCT ON (..)`
     DistinctOn,
+    /// ` ON ..` of a join.
     On,
+    /// ` WHERE ..`
     Where,
+    /// ` GROUP BY ..`
     GroupBy,
+    /// ` HAVING ..`
     Having,
+    /// An item of ` ORDER BY ..`.
     OrderBy,
 }
 
@@ -32,6 +39,7 @@ pub enum Place {
 #[derive(Drop)]
 pub struct Clause<'s> {
     pub place: Place,
+    /// The leaves that its columns can be of.
     pub view: Vec<Origin<'s>>,
     pub expr: &'s Expr,
 }
@@ -43,7 +51,8 @@ pub fn clauses<'s>(
     widest: &[Origin<'s>],
     select: Selection<'s>,
 ) -> Result<Vec<Clause<'s>>, NoMemory>
-    ensures { IfOk result (λ v. map clause_of v.items ≡ clauses_by (map origin_of own.now) (map origin_of widest.now) (select_of select.entry)) }
+    ensures { IfOk result (λ v. map clause_of v.items
+        ≡ clauses_by (map origin_of own.now) (map origin_of widest.now) (select_of select.entry)) }
 {
     let mut all = Vec::new(alloc);
     gather_clauses(alloc, own, widest, select, &mut all)?;
@@ -57,7 +66,9 @@ fn gather_clauses<'s>(
     select: Selection<'s>,
     all: &mut Vec<Clause<'s>>,
 ) -> Result<(), NoMemory>
-    ensures { Gathers clause_of all.old.items (clauses_by (map origin_of own.now) (map origin_of widest.now) (select_of select.entry)) result all.new.items }
+    ensures { Gathers clause_of all.old.items
+        (clauses_by (map origin_of own.now) (map origin_of widest.now) (select_of select.entry))
+        result all.new.items }
 {
     gather_distinct(alloc, own, select.distinct, all)?;
     gather_clause(alloc, Place::Selection, own, select.selection, all)?;
@@ -75,7 +86,14 @@ fn gather_clause<'s>(
     expr: &'s Expr,
     all: &mut Vec<Clause<'s>>,
 ) -> Result<(), NoMemory>
-    ensures { Gathers clause_of all.old.items ((record { place = place_of place; view = map origin_of view.now; expr = expr_tree expr.now }) ∷ []) result all.new.items }
+    ensures { Gathers clause_of all.old.items
+        ((record {
+          place = place_of place;
+          view = map origin_of view.now;
+          expr = expr_tree expr.now;
+        })
+        ∷ [])
+        result all.new.items }
 {
     let view = Vec::from_slice(alloc, view)?;
     all.push(Clause { place, view, expr })?;
@@ -89,7 +107,10 @@ fn gather_maybe<'s>(
     expr: Option<&'s Expr>,
     all: &mut Vec<Clause<'s>>,
 ) -> Result<(), NoMemory>
-    ensures { Gathers clause_of all.old.items (maybe_clause (place_of place) (map origin_of view.now) (maybe_of (option_map (λ e. expr_tree e.now) expr.entry))) result all.new.items }
+    ensures { Gathers clause_of all.old.items
+        (maybe_clause (place_of place) (map origin_of view.now)
+        (maybe_of (option_map (λ e. expr_tree e.now) expr.entry)))
+        result all.new.items }
 {
     match expr {
         None => Ok(()),
@@ -103,7 +124,9 @@ fn gather_distinct<'s>(
     distinct: &'s DistinctClause,
     all: &mut Vec<Clause<'s>>,
 ) -> Result<(), NoMemory>
-    ensures { Gathers clause_of all.old.items (distinct_clause (map origin_of view.now) (distinct_clause_tree distinct.now)) result all.new.items }
+    ensures { Gathers clause_of all.old.items
+        (distinct_clause (map origin_of view.now) (distinct_clause_tree distinct.now)) result
+        all.new.items }
 {
     match distinct {
         DistinctClause::NoDistinctClause | DistinctClause::DistinctClause => Ok(()),
@@ -118,7 +141,8 @@ fn gather_ons_of<'s>(
     from: &'s FromClause,
     all: &mut Vec<Clause<'s>>,
 ) -> Result<(), NoMemory>
-    ensures { Gathers clause_of all.old.items (ons_of (from_clause_tree from.now)) result all.new.items }
+    ensures { Gathers clause_of all.old.items (ons_of (from_clause_tree from.now)) result
+        all.new.items }
 {
     match from {
         FromClause::NoFromClause => Ok(()),
@@ -161,7 +185,10 @@ fn gather_order<'s>(
     order: Option<&'s [OrderItem]>,
     all: &mut Vec<Clause<'s>>,
 ) -> Result<(), NoMemory>
-    ensures { Gathers clause_of all.old.items (order_clauses (map origin_of view.now) (order_of (option_map (λ is. map order_item_tree is.now) order.entry))) result all.new.items }
+    ensures { Gathers clause_of all.old.items
+        (order_clauses (map origin_of view.now)
+        (order_of (option_map (λ is. map order_item_tree is.now) order.entry)))
+        result all.new.items }
 {
     match order {
         None => Ok(()),
@@ -175,7 +202,9 @@ fn gather_items<'s>(
     items: &'s [OrderItem],
     all: &mut Vec<Clause<'s>>,
 ) -> Result<(), NoMemory>
-    ensures { Gathers clause_of all.old.items (item_clauses (map origin_of view.now) (items_of (map order_item_tree items.now))) result all.new.items }
+    ensures { Gathers clause_of all.old.items
+        (item_clauses (map origin_of view.now) (items_of (map order_item_tree items.now))) result
+        all.new.items }
 {
     for item in items {
         gather_item(alloc, view, item, all)?;
@@ -189,7 +218,14 @@ fn gather_item<'s>(
     item: &'s OrderItem,
     all: &mut Vec<Clause<'s>>,
 ) -> Result<(), NoMemory>
-    ensures { Gathers clause_of all.old.items ((record { place = in_order_by; view = map origin_of view.now; expr = (order_item_tree item.now).0 }) ∷ []) result all.new.items }
+    ensures { Gathers clause_of all.old.items
+        ((record {
+          place = in_order_by;
+          view = map origin_of view.now;
+          expr = (order_item_tree item.now).0;
+        })
+        ∷ [])
+        result all.new.items }
 {
     gather_clause(alloc, Place::OrderBy, view, &item.expr, all)
 }

@@ -16,7 +16,9 @@ use sql_schema::SqlList;
 /// How a select statement stands: with its lock, or boxed for a dialect, all its columns nullable or not.
 #[derive(Clone, Copy)]
 pub enum Form {
+    /// As its calls made it, with its lock.
     Unboxed(LockingClause),
+    /// Boxed for a dialect, and whether all its columns are nullable.
     Boxed(Dialect, bool),
 }
 
@@ -65,7 +67,8 @@ fn condition_in(clause: &WhereClause) -> Option<&Expr>
 }
 
 fn group_by_in(clause: &GroupByClause) -> Option<&Expr>
-    ensures { maybe_of (option_map (λ e. expr_tree e.now) result) ≡ group_by_clause_tree clause.now }
+    ensures { maybe_of (option_map (λ e. expr_tree e.now) result)
+        ≡ group_by_clause_tree clause.now }
 {
     match clause {
         GroupByClause::NoGroupByClause => None,
@@ -83,7 +86,8 @@ fn having_in(clause: &HavingClause) -> Option<&Expr>
 }
 
 fn order_in(clause: &OrderClause) -> Option<&[OrderItem]>
-    ensures { order_of (option_map (λ is. map order_item_tree is.now) result) ≡ order_clause_tree clause.now }
+    ensures { order_of (option_map (λ is. map order_item_tree is.now) result)
+        ≡ order_clause_tree clause.now }
 {
     match clause {
         OrderClause::NoOrderClause => None,

@@ -21,7 +21,8 @@ pub fn nodes<'e>(alloc: Global, expr: &'e Expr) -> Result<Vec<&'e Expr>, NoMemor
 
 #[cycle(nodes)]
 fn gather<'e>(expr: &'e Expr, all: &mut Vec<&'e Expr>) -> Result<(), NoMemory>
-    ensures { Gathers (λ e. expr_tree e.now) all.old.items (nodes (expr_tree expr.now)) result all.new.items }
+    ensures { Gathers (λ e. expr_tree e.now) all.old.items (nodes (expr_tree expr.now)) result
+        all.new.items }
 {
     all.push(expr)?;
     match expr {
@@ -51,7 +52,8 @@ fn gather<'e>(expr: &'e Expr, all: &mut Vec<&'e Expr>) -> Result<(), NoMemory>
 
 #[cycle(nodes)]
 fn gather_each<'e>(exprs: &'e [Expr], all: &mut Vec<&'e Expr>) -> Result<(), NoMemory>
-    ensures { Gathers (λ e. expr_tree e.now) all.old.items (nodes_of (exprs_of (map expr_tree exprs.now))) result all.new.items }
+    ensures { Gathers (λ e. expr_tree e.now) all.old.items
+        (nodes_of (exprs_of (map expr_tree exprs.now))) result all.new.items }
 {
     for expr in exprs {
         gather(expr, all)?;

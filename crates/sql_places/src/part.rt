@@ -24,7 +24,9 @@ use std::alloc::Global;
 /// A statement inside a statement; of a select statement also what the clause around it sees.
 #[derive(Drop)]
 pub enum Part<'s> {
+    /// What the clause around it sees, and the select statement.
     Select(Vec<Origin<'s>>, Selection<'s>),
+    /// A combination, whose sides stand behind it.
     Combination(Combined<'s>),
 }
 
@@ -45,7 +47,8 @@ fn gather_expr<'s>(
     expr: &'s Expr,
     all: &mut Vec<Part<'s>>,
 ) -> Result<(), NoMemory>
-    ensures { Gathers part_of all.old.items (in_expr (map origin_of view.now) (expr_tree expr.now)) result all.new.items }
+    ensures { Gathers part_of all.old.items (in_expr (map origin_of view.now) (expr_tree expr.now))
+        result all.new.items }
 {
     match expr {
         Expr::Column(_) | Expr::Field(_) | Expr::Value(_, _) | Expr::CountStar => Ok(()),
@@ -78,7 +81,8 @@ fn gather_among<'s>(
     among: &'s InValues,
     all: &mut Vec<Part<'s>>,
 ) -> Result<(), NoMemory>
-    ensures { Gathers part_of all.old.items (in_among (map origin_of view.now) (in_values_tree among.now)) result all.new.items }
+    ensures { Gathers part_of all.old.items
+        (in_among (map origin_of view.now) (in_values_tree among.now)) result all.new.items }
 {
     match among {
         InValues::List(_, _) => Ok(()),
@@ -93,7 +97,9 @@ fn gather_exprs<'s>(
     exprs: &'s [Expr],
     all: &mut Vec<Part<'s>>,
 ) -> Result<(), NoMemory>
-    ensures { Gathers part_of all.old.items (in_exprs (map origin_of view.now) (exprs_of (map expr_tree exprs.now))) result all.new.items }
+    ensures { Gathers part_of all.old.items
+        (in_exprs (map origin_of view.now) (exprs_of (map expr_tree exprs.now))) result
+        all.new.items }
 {
     for expr in exprs {
         gather_expr(alloc, view, expr, all)?;
@@ -108,7 +114,9 @@ fn gather_items<'s>(
     items: &'s [OrderItem],
     all: &mut Vec<Part<'s>>,
 ) -> Result<(), NoMemory>
-    ensures { Gathers part_of all.old.items (in_items (map origin_of view.now) (items_of (map order_item_tree items.now))) result all.new.items }
+    ensures { Gathers part_of all.old.items
+        (in_items (map origin_of view.now) (items_of (map order_item_tree items.now))) result
+        all.new.items }
 {
     for item in items {
         gather_item(alloc, view, item, all)?;
@@ -123,7 +131,8 @@ fn gather_item<'s>(
     item: &'s OrderItem,
     all: &mut Vec<Part<'s>>,
 ) -> Result<(), NoMemory>
-    ensures { Gathers part_of all.old.items (in_expr (map origin_of view.now) (order_item_tree item.now).0) result all.new.items }
+    ensures { Gathers part_of all.old.items
+        (in_expr (map origin_of view.now) (order_item_tree item.now).0) result all.new.items }
 {
     gather_expr(alloc, view, &item.expr, all)
 }
@@ -135,7 +144,8 @@ fn gather_order<'s>(
     order: &'s OrderClause,
     all: &mut Vec<Part<'s>>,
 ) -> Result<(), NoMemory>
-    ensures { Gathers part_of all.old.items (in_order (map origin_of view.now) (order_clause_tree order.now)) result all.new.items }
+    ensures { Gathers part_of all.old.items
+        (in_order (map origin_of view.now) (order_clause_tree order.now)) result all.new.items }
 {
     match order {
         OrderClause::NoOrderClause => Ok(()),
@@ -150,7 +160,9 @@ fn gather_distinct<'s>(
     distinct: &'s DistinctClause,
     all: &mut Vec<Part<'s>>,
 ) -> Result<(), NoMemory>
-    ensures { Gathers part_of all.old.items (in_distinct (map origin_of view.now) (distinct_clause_tree distinct.now)) result all.new.items }
+    ensures { Gathers part_of all.old.items
+        (in_distinct (map origin_of view.now) (distinct_clause_tree distinct.now)) result
+        all.new.items }
 {
     match distinct {
         DistinctClause::NoDistinctClause | DistinctClause::DistinctClause => Ok(()),
@@ -165,7 +177,8 @@ fn gather_select_clause<'s>(
     select: &'s SelectClause,
     all: &mut Vec<Part<'s>>,
 ) -> Result<(), NoMemory>
-    ensures { Gathers part_of all.old.items (in_expr (map origin_of view.now) (select_clause_tree select.now).1) result all.new.items }
+    ensures { Gathers part_of all.old.items
+        (in_expr (map origin_of view.now) (select_clause_tree select.now).1) result all.new.items }
 {
     match select {
         SelectClause::DefaultSelectClause(expr) => gather_expr(alloc, view, expr, all),
@@ -180,7 +193,8 @@ fn gather_where<'s>(
     condition: &'s WhereClause,
     all: &mut Vec<Part<'s>>,
 ) -> Result<(), NoMemory>
-    ensures { Gathers part_of all.old.items (in_maybe (map origin_of view.now) (where_clause_tree condition.now)) result all.new.items }
+    ensures { Gathers part_of all.old.items
+        (in_maybe (map origin_of view.now) (where_clause_tree condition.now)) result all.new.items }
 {
     match condition {
         WhereClause::NoWhereClause => Ok(()),
@@ -195,7 +209,9 @@ fn gather_group_by<'s>(
     group_by: &'s GroupByClause,
     all: &mut Vec<Part<'s>>,
 ) -> Result<(), NoMemory>
-    ensures { Gathers part_of all.old.items (in_maybe (map origin_of view.now) (group_by_clause_tree group_by.now)) result all.new.items }
+    ensures { Gathers part_of all.old.items
+        (in_maybe (map origin_of view.now) (group_by_clause_tree group_by.now)) result
+        all.new.items }
 {
     match group_by {
         GroupByClause::NoGroupByClause => Ok(()),
@@ -210,7 +226,8 @@ fn gather_having<'s>(
     having: &'s HavingClause,
     all: &mut Vec<Part<'s>>,
 ) -> Result<(), NoMemory>
-    ensures { Gathers part_of all.old.items (in_maybe (map origin_of view.now) (having_clause_tree having.now)) result all.new.items }
+    ensures { Gathers part_of all.old.items
+        (in_maybe (map origin_of view.now) (having_clause_tree having.now)) result all.new.items }
 {
     match having {
         HavingClause::NoHavingClause => Ok(()),
@@ -224,7 +241,8 @@ fn gather_source<'s>(
     source: &'s Source,
     all: &mut Vec<Part<'s>>,
 ) -> Result<(), NoMemory>
-    ensures { Gathers part_of all.old.items (in_source (source_tree source.now)) result all.new.items }
+    ensures { Gathers part_of all.old.items (in_source (source_tree source.now)) result
+        all.new.items }
 {
     match source {
         Source::Table(_) | Source::Alias(_) => Ok(()),
@@ -236,7 +254,8 @@ fn gather_source<'s>(
 #[tactic(auto, using(sql_node::proofs::Trees::opens_join_on, sql_node::proofs::Trees::opens_join, crate::proofs::Gathering::gathering))]
 #[cycle(parts)]
 fn gather_join<'s>(alloc: Global, join: &'s JoinOn, all: &mut Vec<Part<'s>>) -> Result<(), NoMemory>
-    ensures { Gathers part_of all.old.items (in_source (join_on_tree join.now)) result all.new.items }
+    ensures { Gathers part_of all.old.items (in_source (join_on_tree join.now)) result
+        all.new.items }
 {
     gather_source(alloc, &join.join.left, all)?;
     gather_source(alloc, &join.join.right, all)?;
@@ -255,7 +274,8 @@ fn gather_from<'s>(
     from: &'s FromClause,
     all: &mut Vec<Part<'s>>,
 ) -> Result<(), NoMemory>
-    ensures { Gathers part_of all.old.items (in_from (from_clause_tree from.now)) result all.new.items }
+    ensures { Gathers part_of all.old.items (in_from (from_clause_tree from.now)) result
+        all.new.items }
 {
     match from {
         FromClause::NoFromClause => Ok(()),
@@ -270,7 +290,8 @@ fn gather_statement<'s>(
     statement: &'s Statement,
     all: &mut Vec<Part<'s>>,
 ) -> Result<(), NoMemory>
-    ensures { Gathers part_of all.old.items (parts_in (map origin_of outer.now) (statement_tree statement.now)) result all.new.items }
+    ensures { Gathers part_of all.old.items
+        (parts_in (map origin_of outer.now) (statement_tree statement.now)) result all.new.items }
 {
     match statement {
         Statement::Select(select) => gather_select(alloc, outer, select, all),
@@ -286,7 +307,9 @@ fn gather_select<'s>(
     statement: &'s SelectStatement,
     all: &mut Vec<Part<'s>>,
 ) -> Result<(), NoMemory>
-    ensures { Gathers part_of all.old.items (parts_in (map origin_of outer.now) (select_statement_tree statement.now)) result all.new.items }
+    ensures { Gathers part_of all.old.items
+        (parts_in (map origin_of outer.now) (select_statement_tree statement.now)) result
+        all.new.items }
 {
     let around = Vec::from_slice(alloc, outer)?;
     let own = own_view(alloc, &statement.from)?;
@@ -304,7 +327,9 @@ fn gather_in_select<'s>(
     statement: &'s SelectStatement,
     all: &mut Vec<Part<'s>>,
 ) -> Result<(), NoMemory>
-    ensures { Gathers part_of all.old.items (inside (map origin_of own.now) (map origin_of widest.now) (select_record statement.now)) result all.new.items }
+    ensures { Gathers part_of all.old.items
+        (inside (map origin_of own.now) (map origin_of widest.now) (select_record statement.now))
+        result all.new.items }
 {
     gather_distinct(alloc, own, &statement.distinct, all)?;
     gather_select_clause(alloc, own, &statement.select, all)?;
@@ -322,7 +347,9 @@ fn gather_boxed<'s>(
     statement: &'s BoxedSelectStatement,
     all: &mut Vec<Part<'s>>,
 ) -> Result<(), NoMemory>
-    ensures { Gathers part_of all.old.items (parts_in (map origin_of outer.now) (boxed_select_statement_tree statement.now)) result all.new.items }
+    ensures { Gathers part_of all.old.items
+        (parts_in (map origin_of outer.now) (boxed_select_statement_tree statement.now)) result
+        all.new.items }
 {
     let around = Vec::from_slice(alloc, outer)?;
     let own = own_view(alloc, &statement.from)?;
@@ -338,7 +365,9 @@ fn gather_in_boxed<'s>(
     statement: &'s BoxedSelectStatement,
     all: &mut Vec<Part<'s>>,
 ) -> Result<(), NoMemory>
-    ensures { Gathers part_of all.old.items (inside (map origin_of own.now) (map origin_of own.now) (boxed_record statement.now)) result all.new.items }
+    ensures { Gathers part_of all.old.items
+        (inside (map origin_of own.now) (map origin_of own.now) (boxed_record statement.now)) result
+        all.new.items }
 {
     gather_distinct(alloc, own, &statement.distinct, all)?;
     gather_select_clause(alloc, own, &statement.select, all)?;
@@ -357,7 +386,9 @@ fn gather_combination<'s>(
     both: &'s CombinationClause,
     all: &mut Vec<Part<'s>>,
 ) -> Result<(), NoMemory>
-    ensures { Gathers part_of all.old.items (parts_in (map origin_of outer.now) (combination_clause_tree both.now)) result all.new.items }
+    ensures { Gathers part_of all.old.items
+        (parts_in (map origin_of outer.now) (combination_clause_tree both.now)) result
+        all.new.items }
 {
     all.push(Part::Combination(Combined::of_combination(both)))?;
     gather_statement(alloc, outer, &both.source, all)?;

@@ -25,7 +25,8 @@ pub(crate) fn origins<'s>(alloc: Global, source: &'s Source) -> Result<Vec<Origi
 
 #[cycle(origins)]
 fn gather<'s>(source: &'s Source, all: &mut Vec<Origin<'s>>) -> Result<(), NoMemory>
-    ensures { Gathers origin_of all.old.items (origins_in (source_tree source.now)) result all.new.items }
+    ensures { Gathers origin_of all.old.items (origins_in (source_tree source.now)) result
+        all.new.items }
 {
     match source {
         Source::Table(table) => {
@@ -42,7 +43,8 @@ fn gather<'s>(source: &'s Source, all: &mut Vec<Origin<'s>>) -> Result<(), NoMem
 
 #[cycle(origins)]
 fn gather_join<'s>(join: &'s JoinOn, all: &mut Vec<Origin<'s>>) -> Result<(), NoMemory>
-    ensures { Gathers origin_of all.old.items (origins_in (join_on_tree join.now)) result all.new.items }
+    ensures { Gathers origin_of all.old.items (origins_in (join_on_tree join.now)) result
+        all.new.items }
 {
     gather(&join.join.left, all)?;
     gather(&join.join.right, all)
@@ -54,7 +56,8 @@ pub(crate) fn origins_in_both<'s>(
     left: &'s Source,
     right: &'s Source,
 ) -> Result<Vec<Origin<'s>>, NoMemory>
-    ensures { IfOk result (λ v. map origin_of v.items ≡ origins_in (source_tree left.now) ++ origins_in (source_tree right.now)) }
+    ensures { IfOk result (λ v. map origin_of v.items
+        ≡ origins_in (source_tree left.now) ++ origins_in (source_tree right.now)) }
 {
     let mut all = Vec::new(alloc);
     gather(left, &mut all)?;
@@ -79,7 +82,8 @@ pub fn widest_view<'s>(
     form: Form,
     from: &'s FromClause,
 ) -> Result<Vec<Origin<'s>>, NoMemory>
-    ensures { IfOk result (λ v. map origin_of v.items ≡ widest (form_of form) (from_clause_tree from.now) (map origin_of outer.now)) }
+    ensures { IfOk result (λ v. map origin_of v.items
+        ≡ widest (form_of form) (from_clause_tree from.now) (map origin_of outer.now)) }
 {
     match (form, from) {
         (Form::Unboxed(_), FromClause::FromClause(source)) => {

@@ -21,4 +21,5 @@ values_only [] = []
 values_only (v ∷ vs) = one (ValueOnly v) ++ values_only vs
 
 abbrev pub boxed_pieces : {DB Q : Type 0} → (Q → List Piece) → BoxedSqlQuery DB Q → List Piece
-boxed_pieces query b = one Unsafe ++ (query (boxed_query b) ++ (one (Text (appended b)) ++ values_only (boxed_values b)))
+boxed_pieces query b =
+    one Unsafe ++ (query (boxed_query b) ++ (one (Text (appended b)) ++ values_only (boxed_values b)))

@@ -15,6 +15,10 @@ abbrev pub shown_debug : ShownBound → Option (List ℕ)
 shown_debug (S.Value v) = value_debug (shown_value v)
 shown_debug (S.List vs) = debug_list (λ v. value_debug (shown_value v)) vs.items
 
+-- the text that is held
+abbrev pub shown_text : DebugQuery → List ℕ
+shown_text q = string_bytes q.sql
+
 -- the line that is written
 abbrev pub shown_line : DebugQuery → Option (List ℕ)
-shown_line q = Some (string_bytes q.sql) ++? Some (codes " -- binds: ") ++? debug_list shown_debug q.binds.items
+shown_line q = Some (shown_text q) ++? Some (codes " -- binds: ") ++? debug_list shown_debug q.binds.items

@@ -60,14 +60,17 @@ impl<DB: Backend, Q: Drop> BoxedSqlQuery<DB, Q> {
 }
 
 fn walk_value<DB: Backend>(value: &Bound, pass: &mut AstPass<DB>) -> Result<(), PassError>
-    ensures { Walks DB.speaks (held DB.QueryBuilder.text DB.QueryBuilder.count pass.old) (one (ValueOnly value.now)) result (held DB.QueryBuilder.text DB.QueryBuilder.count pass.new) }
+    ensures { Walks DB.speaks (held DB.QueryBuilder.text DB.QueryBuilder.count pass.old)
+        (one (ValueOnly value.now)) result
+        (held DB.QueryBuilder.text DB.QueryBuilder.count pass.new) }
 {
     pass.push_bind_param_value_only(value.view())
 }
 
 /// Pushes values whose placeholders stand in the text.
 fn walk_values<DB: Backend>(values: &[Bound], pass: &mut AstPass<DB>) -> Result<(), PassError>
-    ensures { Walks DB.speaks (held DB.QueryBuilder.text DB.QueryBuilder.count pass.old) (values_only values.now) result (held DB.QueryBuilder.text DB.QueryBuilder.count pass.new) }
+    ensures { Walks DB.speaks (held DB.QueryBuilder.text DB.QueryBuilder.count pass.old)
+        (values_only values.now) result (held DB.QueryBuilder.text DB.QueryBuilder.count pass.new) }
 {
     for value in values {
         walk_value(value, pass)?;

@@ -2,7 +2,7 @@ ghost use Rattle.std.specs.Prelude.{◌≡◌, ◌<◌, length, map, IfOk, IsErr
 ghost use Rattle.sql_dialect.specs.Written.{numbers, MAX_BINDS};
 ghost use Rattle.sql_pass.specs.Pieces.{text_of, values_of};
 ghost use Rattle.sql_raw.specs.Debug.{bound_debug, debug_line};
-ghost use Rattle.sql_raw.specs.Shown.{shown_debug, shown_line};
+ghost use Rattle.sql_raw.specs.Shown.{shown_debug, shown_line, shown_text};
 
 use crate::shown::{ShownBound, show_all};
 use sql_dialect::{Backend, QueryBuilder};
@@ -48,10 +48,15 @@ pub fn debug_query<DB: Backend, T: QueryFragment<DB>>(
     backend: &DB,
     query: &T,
 ) -> Result<DebugQuery, PassError>
-    ensures line { IfOk result (λ q. shown_line q ≡ debug_line (text_of DB.speaks 0 (T.pieces query.now)) (values_of (T.pieces query.now))) }
+    ensures line { IfOk result (λ q. shown_line q
+        ≡ debug_line (text_of DB.speaks 0 (T.pieces query.now)) (values_of (T.pieces query.now))) }
+    // Whatever the values are, the text is that of the pieces.
+    ensures text { IfOk result (λ q. shown_text q ≡ text_of DB.speaks 0 (T.pieces query.now)) }
     // Placeholders run out only where there are more than a dialect that numbers them has numbers.
-    ensures too_many { IsErrOf result PassError.TooManyBinds → IsTrue (numbers DB.speaks) × (MAX_BINDS < length (values_of (T.pieces query.now))) }
-    ensures room { IsTrue (numbers DB.speaks) → MAX_BINDS < length (values_of (T.pieces query.now)) → IsErr result }
+    ensures too_many { IsErrOf result PassError.TooManyBinds
+        → IsTrue (numbers DB.speaks) × (MAX_BINDS < length (values_of (T.pieces query.now))) }
+    ensures room { IsTrue (numbers DB.speaks) → MAX_BINDS < length (values_of (T.pieces query.now))
+        → IsErr result }
     ensures long { ¬ IsErrOf result PassError.TooLong }
 {
     let sql = query
@@ -68,7 +73,8 @@ fn shown_binds<DB: Backend, T: QueryFragment<DB>>(
     backend: &DB,
     query: &T,
 ) -> Result<Vec<ShownBound>, AllocError>
-    ensures { IfOk result (λ v. map shown_debug v.items ≡ map bound_debug (values_of (T.pieces query.now))) }
+    ensures { IfOk result (λ v. map shown_debug v.items
+        ≡ map bound_debug (values_of (T.pieces query.now))) }
 {
     let binds = debug_binds(alloc, backend, query)?;
     show_all(alloc, binds)

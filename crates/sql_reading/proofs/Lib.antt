@@ -1,4 +1,5 @@
 pub mod Lists
+pub mod PartTexts
 pub mod TextLaws
 pub mod ValueLaws
 pub mod FitsLaws

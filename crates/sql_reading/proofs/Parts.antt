@@ -18,7 +18,8 @@ use Rattle.sql_reading.specs.HasText.{IsSingle, HasElement, ExprHasText, ExprsHa
 abbrev pub Operand : Dialect → Expr → Type 0
 Operand d e = IsSingle e × ExprHasText d e
 
-pub compared-operand : (d : Dialect) (by : Comparison) (a b : Expr) → Operand d a → Operand d b → Operand d (compared by a b)
+pub compared-operand : (d : Dialect) (by : Comparison) (a b : Expr) → Operand d a → Operand d b
+    → Operand d (compared by a b)
 compared-operand d by a b h k = (tt, (h, k))
 
 pub joined-operand : (d : Dialect) (by : Logic) (a b : Expr) → Operand d a → Operand d b → Operand d (joined by a b)
@@ -28,13 +29,17 @@ pub columns-have-text : (d : Dialect) (cs : List DeclaredColumn) → ExprsHaveTe
 columns-have-text d [] = tt
 columns-have-text d (c ∷ cs) = (tt, columns-have-text d cs)
 
-pub list-has-element : (c : DeclaredColumn) (cs : List DeclaredColumn) → HasElement (list (exprs_of (map column_of (c ∷ cs))))
+pub list-has-element : (c : DeclaredColumn) (cs : List DeclaredColumn)
+    → HasElement (list (exprs_of (map column_of (c ∷ cs))))
 list-has-element c cs = inl tt
 
 -- a selection from one table, with a condition, a limit and an offset
-pub table-select : (d : Dialect) (default : Bool) (e : Expr) (t : TableDecl) (w : MaybeExpr) (rows : LimitOffsetClause) (marks : Marks)
+pub table-select : (d : Dialect) (default : Bool) (e : Expr) (t : TableDecl) (w : MaybeExpr) (rows : LimitOffsetClause)
+    (marks : Marks)
     → HasElement e → ExprHasText d e → MaybeHasText d w → PageHasText d false rows.limit_clause rows.offset_clause
-    → HasText d (select default e (from (of_table t false None)) every w no_order rows no_expr no_expr (unboxed NoLockingClause) marks)
+    → HasText d
+    (select default e (from (of_table t false None)) every w no_order rows no_expr no_expr (unboxed NoLockingClause)
+    marks)
 table-select d default e t w rows marks some h k page = (tt, (some, h), (tt, tt), k, tt, tt, tt, page, tt)
 
 -- what is no list has an element

@@ -16,11 +16,14 @@ use Rattle.sql_reading.proofs.FitsLaws.{normal-fits}
 use Rattle.sql_reading.proofs.TextLaws.{text-law}
 use Rattle.sql_reading.proofs.ValueLaws.{value-law}
 
-pub only_reading : (d : Dialect) (s : Statement) → HasText d s → HasNumbers d (length (values_of (pieces d s))) → OnlyReading d (text_of d 0 (pieces d s)) (normal d s)
-only_reading d s k h = subst (λ t. OnlyReading d t (normal d s)) (sym (text-law d s k)) (only-reading d (normal d s) (normal-fits d s k h))
+pub only_reading : (d : Dialect) (s : Statement) → HasText d s → HasNumbers d (length (values_of (pieces d s)))
+    → OnlyReading d (text_of d 0 (pieces d s)) (normal d s)
+only_reading d s k h =
+    subst (λ t. OnlyReading d t (normal d s)) (sym (text-law d s k)) (only-reading d (normal d s) (normal-fits d s k h))
 
 pub fills : (d : Dialect) (s : Statement) → HasText d s → Fills (normal d s) (values_of (pieces d s)) (filled d s)
 fills d s k = subst (λ vs. Fills (normal d s) vs (filled d s)) (sym (value-law d s k)) (filling.fills d (filled d s))
 
-pub as_many : (d : Dialect) (s : Statement) → HasText d s → length (values_query (normal d s)) ≡ length (values_of (pieces d s))
+pub as_many : (d : Dialect) (s : Statement) → HasText d s
+    → length (values_query (normal d s)) ≡ length (values_of (pieces d s))
 as_many d s k = filling.as_many d (filled d s) ∙ ap length (sym (value-law d s k))

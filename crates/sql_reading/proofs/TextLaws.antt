@@ -1,407 +1,20 @@
 -- The text of a statement's pieces is the text of its normal tree.
-use Rattle.std.proofs.Common.{◌≡◌, ℕ, ℤ, suc, ◌+◌, add-one, List, [], ◌∷◌, ◌++◌, length, map, Bool, true, false, Option, Some, None, refl, sym, ap, ◌∙◌, append_assoc, append-nil, codes}
-use Rattle.std.specs.Prelude.{decimal}
-use Rattle.std.proofs.Math.Dec.{eqb-suc-zero}
-use Rattle.sql_schema.specs.declared.declaration.TableDecl.{TableDecl}
-use Rattle.sql_schema.specs.declared.types.SqlType.{SqlType}
-use Rattle.sql_dialect.specs.Written.{quoted, placeholder, raised, numbers}
+use Rattle.std.proofs.Common.{◌≡◌, ◌+◌, [], ◌++◌, false, sym, ap, ◌∙◌, append-nil, codes}
 use Rattle.sql_dialect.specs.declared.backend.Dialect.{Dialect}
-use Rattle.sql_dialect.specs.declared.backend.Dialect.TheVariants.{Pg, Mysql, Sqlite}
-use Rattle.sql_dialect.specs.declared.combination.Combinator.{Combinator}
-use Rattle.sql_dialect.specs.declared.combination.Combinator.TheVariants.{Union, Intersect, Except}
-use Rattle.sql_dialect.specs.declared.combination.DuplicateRule.{DuplicateRule}
-use Rattle.sql_dialect.specs.declared.combination.DuplicateRule.TheVariants.{Distinct as DistinctRows, All}
-use Rattle.sql_grammar.specs.Numbering.{mark_of, each_expression, each_expressions, each_items, each_source, each_maybe, each_maybe_expressions, each_maybe_items, each_maybe_source, each_distinct, each_query, each_page, each_sample, each_marks, after_expression, after_expressions, after_items, after_source, after_maybe, after_maybe_expressions, after_maybe_items, after_maybe_source, after_distinct, after_query, after_page, after_sample, after_marks}
-use Rattle.sql_grammar.specs.Spelling.{sign_text}
+use Rattle.sql_grammar.specs.Numbering.{each_source, each_maybe, each_maybe_expressions, each_maybe_items, each_maybe_source, each_distinct, each_query, after_source, after_maybe, after_maybe_expressions, after_maybe_items, after_maybe_source, after_distinct, after_query}
 use Rattle.sql_grammar.specs.Text as x
-use Rattle.sql_grammar.specs.Tree as g
-use Rattle.sql_pass.specs.Commas.{commas}
-use Rattle.sql_pass.specs.Parts.{pieces_of_option, side_open, from_open}
-use Rattle.sql_pass.specs.Paths.{dotted, path_pieces}
-use Rattle.sql_pass.specs.Pieces.{Piece, one, Text, Ident, Bind, ValueOnly, Unsafe, text_of}
-use Rattle.sql_pass.specs.declared.value.Bound.{Bound}
-use Rattle.sql_pass.specs.declared.value.Bound.TheVariants.{Value as OneValue, List as ManyValues}
-use Rattle.sql_pass.specs.declared.value.Value.{Value}
-use Rattle.sql_leaf.specs.Limits.{least_limit, largest_limit, limit_pieces, offset_pieces, limit_offset_pieces}
-use Rattle.sql_leaf.specs.Locks.{lock_sql, skip_locked, modifier_pieces, locking_pieces}
-use Rattle.sql_leaf.specs.Numbers.{small, integer, big}
-use Rattle.sql_leaf.specs.Positions.{direction_pieces, position_pieces}
-use Rattle.sql_leaf.specs.Sources.{only_pieces, method_open, repeatable, sample_pieces}
-use Rattle.sql_leaf.specs.declared.limit_offset.LimitOffsetClause.{LimitOffsetClause}
-use Rattle.sql_leaf.specs.declared.locking.LockMode.{LockMode}
-use Rattle.sql_leaf.specs.declared.locking.LockMode.TheVariants as mode
-use Rattle.sql_leaf.specs.declared.locking.LockingClause.{LockingClause}
-use Rattle.sql_leaf.specs.declared.locking.LockingClause.TheVariants as locking
-use Rattle.sql_leaf.specs.declared.locking.Modifier.{Modifier}
-use Rattle.sql_leaf.specs.declared.locking.Modifier.TheVariants as modifier
-use Rattle.sql_leaf.specs.declared.position.Direction.{Direction}
-use Rattle.sql_leaf.specs.declared.position.Direction.TheVariants as direction
-use Rattle.sql_leaf.specs.declared.position.PositionalItem.{PositionalItem}
-use Rattle.sql_leaf.specs.declared.table_source.JoinKind.{JoinKind}
-use Rattle.sql_leaf.specs.declared.table_source.JoinKind.TheVariants.{Inner, LeftOuter}
-use Rattle.sql_leaf.specs.declared.table_source.Tablesample.{Tablesample}
-use Rattle.sql_leaf.specs.declared.table_source.TablesampleMethod.{TablesampleMethod}
-use Rattle.sql_leaf.specs.declared.table_source.TablesampleMethod.TheVariants.{BernoulliMethod, SystemMethod}
+use Rattle.sql_pass.specs.Pieces.{text_of}
+use Rattle.sql_pass.specs.declared.value.Bound.TheVariants.{Value as OneValue}
+use Rattle.sql_leaf.specs.Positions.{direction_pieces}
 use Rattle.sql_node.specs.Pieces as p
-use Rattle.sql_node.specs.Pieces.{Written, alone, many, each, spread, expr_parts, exprs_parts, expr_pieces, pieces, comparison_sql, logic_sql, null_test_sql, is_not_null, among_sql, constant_sql, join_sql, combinator_sql, origin_pieces, values_pieces, positions_pieces, all_pieces, end_pieces}
-use Rattle.sql_node.specs.Tree.{Form, unboxed, boxed, Expr, column, value, list, count_star, nullable, not_of, null_test, count, compared, joined, exists, single, among_values, among_rows, Exprs, no_exprs, more_exprs, Items, no_items, more_items, MaybeExpr, no_expr, an_expr, Source, of_table, of_alias, join, From, no_source, from, Distinct, every, distinct, distinct_on, Order, no_order, order_by, Statement, select, combination}
-use Rattle.sql_node.specs.Words.{Comparison, Eq, Ne, Lt, Le, Gt, Ge, Logic, And, Or}
+use Rattle.sql_node.specs.Pieces.{each, expr_parts, exprs_parts, expr_pieces, pieces}
+use Rattle.sql_node.specs.Tree.{Expr, column, value, list, count_star, nullable, not_of, null_test, count, compared, joined, exists, single, among_values, among_rows, Exprs, no_exprs, more_exprs, Items, no_items, more_items, MaybeExpr, no_expr, an_expr, Source, of_table, of_alias, join, From, no_source, from, Distinct, every, distinct, distinct_on, Order, no_order, order_by, Statement, select, combination}
 use Rattle.sql_reading.specs.Filled as f
-use Rattle.sql_reading.specs.Filled.{lead, expressions_of, expressions_from, trees, trees_in, filled, normal, Item, items_from, items_of, item_trees, first_name, more_names, column_path}
+use Rattle.sql_reading.specs.Filled.{lead, trees, trees_in, filled, normal, item_trees}
 use Rattle.sql_reading.specs.Words as words
-use Rattle.sql_reading.specs.HasText.{IsSingle, ExprHasText, ExprsHaveText, ItemsHaveText, MaybeHasText, GroupHasText, SourceHasText, FromHasText, DistinctHasText, OrderHasText, PageHasText, PlacesHaveText, HasText, is_boxed}
-use Rattle.sql_reading.proofs.Lists.{NotEmpty, has-parts, IsAlone, is-alone}
-
--- where placeholders have no numbers they are all alike, and how many stand before says nothing
-same-place : (d : Dialect) → numbers d ≡ false → (n m : ℕ) → placeholder d n ≡ placeholder d m
-same-place Pg h n m = cc
-same-place Mysql h n m = refl
-same-place Sqlite h n m = refl
-
-any-count : (d : Dialect) → numbers d ≡ false → (ps : List Piece) (n m : ℕ) → text_of d n ps ≡ text_of d m ps
-any-count d h [] n m = refl
-any-count d h (Text t ∷ ps) n m = ap (λ r. t ++ r) (any-count d h ps n m)
-any-count d h (Ident a ∷ ps) n m = ap (λ r. quoted d a ++ r) (any-count d h ps n m)
-any-count d h (Bind b ∷ ps) n m =
-    let place = same-place d h (n + 1) (m + 1) in
-    let rest = any-count d h ps (raised d n) (raised d m) in
-    λ i. place i ++ rest i
-any-count d h (ValueOnly b ∷ ps) n m = any-count d h ps (raised d n) (raised d m)
-any-count d h (Unsafe ∷ ps) n m = any-count d h ps n m
-
-place-text : (d : Dialect) (n : ℕ) (b : Bound) (more : List Piece) → text_of d n (one (Bind b) ++ more) ≡ x.mark (mark_of d n) (text_of d (suc n) more)
-unfolding one x.mark
-place-text Pg n b more = ap (λ k. 36 ∷ (decimal k ++ text_of Pg k more)) (add-one n)
-place-text Mysql n b more = ap (λ l. 63 ∷ l) (any-count Mysql refl more n (suc n))
-place-text Sqlite n b more = ap (λ l. 63 ∷ l) (any-count Sqlite refl more n (suc n))
-
-module _ (d : Dialect) where
-  abbrev mark : ℕ → Bound → g.Mark
-  mark n b = mark_of d n
-
-  -- Behind n placeholders the pieces have the text that front puts before what follows, and there are then after n of them.
-  record Writes (ps : List Piece) (front : ℕ → List ℕ → List ℕ) (after : ℕ → ℕ) : Type 0 where
-    says : (n : ℕ) (more : List Piece) → text_of d n (ps ++ more) ≡ front n (text_of d (after n) more)
-
-  then-text : {ps qs : List Piece} {f g : ℕ → List ℕ → List ℕ} {a b : ℕ → ℕ} → Writes ps f a → Writes qs g b → Writes (ps ++ qs) (λ n r. f n (g (a n) r)) (λ n. b (a n))
-  then-text {ps} {qs} {f} {g} {a} {b} h k = record { says = λ n more. ap (text_of d n) (append_assoc ps qs more) ∙ h.says n (qs ++ more) ∙ ap (f n) (k.says (a n) more) }
-
-  -- brackets to the left are brackets to the right
-  regrouped-text : (ps qs rs : List Piece) {f : ℕ → List ℕ → List ℕ} {a : ℕ → ℕ} → Writes (ps ++ (qs ++ rs)) f a → Writes ((ps ++ qs) ++ rs) f a
-  regrouped-text ps qs rs h = record { says = λ n more. ap (λ q. text_of d n (q ++ more)) (append_assoc ps qs rs) ∙ h.says n more }
-
-  sql-text : (t : List ℕ) → Writes (one (Text t)) (λ n r. t ++ r) (λ n. n)
-  unfolding one
-  sql-text t = record { says = λ n more. refl }
-
-  comma-text : (q rs : List Piece) {f : ℕ → List ℕ → List ℕ} {a : ℕ → ℕ} → Writes (q ++ rs) f a → Writes ((one (Text (codes ", ")) ++ q) ++ rs) (λ n r. codes ", " ++ f n r) a
-  comma-text q rs h = regrouped-text (one (Text (codes ", "))) q rs (then-text (sql-text (codes ", ")) h)
-
-  no-text : Writes [] (λ n r. r) (λ n. n)
-  no-text = record { says = λ n more. refl }
-
-  name-text : (a : List ℕ) → Writes (one (Ident a)) (λ n r. quoted d a ++ r) (λ n. n)
-  unfolding one
-  name-text a = record { says = λ n more. refl }
-
-  unsafe-text : Writes (one Unsafe) (λ n r. r) (λ n. n)
-  unfolding one
-  unsafe-text = record { says = λ n more. refl }
-
-  bind-text : (b : Bound) → Writes (one (Bind b)) (λ n r. x.mark (mark_of d n) r) suc
-  bind-text b = record { says = λ n more. place-text d n b more }
-
-  -- the same pieces with nothing behind them
-  last-text : {ps : List Piece} {f : ℕ → List ℕ → List ℕ} {a : ℕ → ℕ} → Writes ps f a → Writes (ps ++ []) f a
-  last-text {ps} h = record { says = λ n more. ap (λ q. text_of d n (q ++ more)) (append-nil ps) ∙ h.says n more }
-
-  -- ## Lists of expressions
-
-  abbrev ExprText : List Piece → g.Expression Bound → Type 0
-  ExprText ps t = Writes ps (λ n r. x.expression d (each_expression mark n t) r) (λ n. after_expression n t)
-
-  abbrev EachText : List (List Piece) → List (g.Expression Bound) → Type 0
-  EachText [] [] = Unit {0}
-  EachText (ps ∷ pss) (t ∷ ts) = ExprText ps t × EachText pss ts
-  EachText _ _ = ⊥
-
-  append-text : (pss qss : List (List Piece)) (ts us : List (g.Expression Bound)) → EachText pss ts → EachText qss us → EachText (pss ++ qss) (ts ++ us)
-  append-text [] qss [] us h k = k
-  append-text [] qss (t ∷ ts) us h k = absurd h
-  append-text (ps ∷ pss) qss [] us h k = absurd h
-  append-text (ps ∷ pss) qss (t ∷ ts) us h k = (h.0, append-text pss qss ts us h.1 k)
-
-  alone-text : (q : Written) (ts : List (g.Expression Bound)) → IsAlone d q → EachText (each q) ts → ExprText (spread true q) (lead ts)
-  alone-text (alone ps) [] a h = absurd h
-  alone-text (alone ps) (t ∷ ts) a h = h.0
-  alone-text (many pss) ts a h = absurd a
-
-  lead-text : (e : Expr) → IsSingle e → EachText (each (expr_parts d e)) (trees d e) → ExprText (spread true (expr_parts d e)) (lead (trees d e))
-  lead-text e o h = alone-text (expr_parts d e) (trees d e) (is-alone d e o) h
-
-  list-text : (ps : List Piece) (more : List (List Piece)) (t : g.Expression Bound) (ts : List (g.Expression Bound)) → ExprText ps t → EachText more ts
-      → Writes (commas true (ps ∷ more)) (λ n r. x.expressions d (each_expressions mark n (expressions_from t ts)) r) (λ n. after_expressions n (expressions_from t ts))
-  unfolding x.expressions
-  list-text ps [] t [] h k = let e = last-text h in record { says = λ n more. e.says n more }
-  list-text ps [] t (u ∷ us) h k = absurd k
-  list-text ps (q ∷ qs) t [] h k = absurd k
-  list-text ps (q ∷ qs) t (u ∷ us) h k = let e = then-text h (comma-text q (commas false qs) (list-text q qs u us k.0 k.1)) in record { says = λ n more. e.says n more }
-
-  -- the elements of a list that has some
-  elements-text : (q : Written) (ts : List (g.Expression Bound)) → NotEmpty (each q) → EachText (each q) ts
-      → Writes (spread true q) (λ n r. x.expressions d (each_expressions mark n (expressions_of ts)) r) (λ n. after_expressions n (expressions_of ts))
-  unfolding x.expressions
-  elements-text (alone ps) [] l h = absurd h
-  elements-text (alone ps) (t ∷ []) l h = let e = h.0 in record { says = λ n more. e.says n more }
-  elements-text (alone ps) (t ∷ u ∷ us) l h = absurd h.1
-  elements-text (many []) ts l h = absurd l
-  elements-text (many (q ∷ qs)) [] l h = absurd h
-  elements-text (many (q ∷ qs)) (t ∷ ts) l h = list-text q qs t ts h.0 h.1
-
-  ItemText : List Piece → Item → Type 0
-  ItemText ps i = Writes ps (λ n r. x.expression d (each_expression mark n i.0) (x.direction i.1 r)) (λ n. after_expression n i.0)
-
-  ItemsText : List (List Piece) → List Item → Type 0
-  ItemsText [] [] = Unit {0}
-  ItemsText (ps ∷ pss) (i ∷ is) = ItemText ps i × ItemsText pss is
-  ItemsText _ _ = ⊥
-
-  items-text : (ps : List Piece) (more : List (List Piece)) (i : Item) (is : List Item) → ItemText ps i → ItemsText more is
-      → Writes (commas true (ps ∷ more)) (λ n r. x.items d (each_items mark n (items_from i is)) r) (λ n. after_items n (items_from i is))
-  unfolding x.items ItemText ItemsText
-  items-text ps [] i [] h k = let e = last-text h in record { says = λ n more. e.says n more }
-  items-text ps [] i (u ∷ us) h k = absurd k
-  items-text ps (q ∷ qs) i [] h k = absurd k
-  items-text ps (q ∷ qs) i (u ∷ us) h k = let e = then-text h (comma-text q (commas false qs) (items-text q qs u us k.0 k.1)) in record { says = λ n more. e.says n more }
-
-  -- ## Words
-
-  comparison-text : (by : Comparison) → Writes (one (Text (comparison_sql by))) (λ n r. codes " " ++ sign_text (words.comparison_of by) (codes " " ++ r)) (λ n. n)
-  unfolding sign_text one
-  comparison-text Eq = record { says = λ n more. refl }
-  comparison-text Ne = record { says = λ n more. refl }
-  comparison-text Lt = record { says = λ n more. refl }
-  comparison-text Le = record { says = λ n more. refl }
-  comparison-text Gt = record { says = λ n more. refl }
-  comparison-text Ge = record { says = λ n more. refl }
-
-  null_test-text : (b : Bool) → Writes (one (Text (null_test_sql b))) (λ n r. x.null_test b r) (λ n. n)
-  unfolding x.null_test one is_not_null
-  null_test-text true = record { says = λ n more. refl }
-  null_test-text false = record { says = λ n more. refl }
-
-  logic-text : (by : Logic) → Writes (one (Text (logic_sql by))) (λ n r. x.logic (words.logic_of by) r) (λ n. n)
-  unfolding x.logic one
-  logic-text And = record { says = λ n more. refl }
-  logic-text Or = record { says = λ n more. refl }
-
-  direction-text : (by : Direction) → Writes (direction_pieces by) (λ n r. x.direction (words.direction_of by) r) (λ n. n)
-  unfolding x.direction one
-  direction-text direction.None = record { says = λ n more. refl }
-  direction-text direction.Asc = record { says = λ n more. refl }
-  direction-text direction.Desc = record { says = λ n more. refl }
-
-  kind-text : (k : JoinKind) → Writes (one (Text (join_sql k))) (λ n r. x.kind (words.kind_of k) r) (λ n. n)
-  unfolding x.kind one
-  kind-text Inner = record { says = λ n more. refl }
-  kind-text LeftOuter = record { says = λ n more. refl }
-
-  combinator-text : (by : Combinator) → Writes (one (Text (combinator_sql by))) (λ n r. x.operator (words.operator_of by) r) (λ n. n)
-  unfolding x.operator one
-  combinator-text Union = record { says = λ n more. refl }
-  combinator-text Intersect = record { says = λ n more. refl }
-  combinator-text Except = record { says = λ n more. refl }
-
-  all-text : (all : DuplicateRule) → Writes (all_pieces all) (λ n r. x.all_word (words.is_all all) r) (λ n. n)
-  unfolding x.all_word one
-  all-text All = record { says = λ n more. refl }
-  all-text DistinctRows = record { says = λ n more. refl }
-
-  only-text : (only : Bool) → Writes (only_pieces only) (λ n r. x.only only r) (λ n. n)
-  unfolding x.only one
-  only-text true = record { says = λ n more. refl }
-  only-text false = record { says = λ n more. refl }
-
-  mode-text : (m : LockMode) → Writes (one (Text (lock_sql m))) (λ n r. x.mode (words.mode_of m) r) (λ n. n)
-  unfolding x.mode one
-  mode-text mode.ForUpdate = record { says = λ n more. refl }
-  mode-text mode.ForNoKeyUpdate = record { says = λ n more. refl }
-  mode-text mode.ForShare = record { says = λ n more. refl }
-  mode-text mode.ForKeyShare = record { says = λ n more. refl }
-
-  wait-text : (w : Modifier) → Writes (modifier_pieces w) (λ n r. x.wait (words.wait_of w) r) (λ n. n)
-  unfolding x.wait one skip_locked
-  wait-text modifier.NoModifier = record { says = λ n more. refl }
-  wait-text modifier.SkipLocked = record { says = λ n more. refl }
-  wait-text modifier.NoWait = record { says = λ n more. refl }
-
-  lock-text : (l : LockingClause) → Writes (locking_pieces l) (λ n r. x.lock (words.lock_of l) r) (λ n. n)
-  unfolding x.lock
-  lock-text locking.NoLockingClause = no-text
-  lock-text (locking.LockingClause m w) = let h = then-text (mode-text m) (wait-text w) in record { says = λ n more. h.says n more }
-
-  method-text : (m : TablesampleMethod) → Writes (one (Text (method_open m))) (λ n r. x.method (words.method_of m) r) (λ n. n)
-  unfolding x.method one
-  method-text BernoulliMethod = record { says = λ n more. refl }
-  method-text SystemMethod = record { says = λ n more. refl }
-
-  repeatable-text : Writes (one (Text repeatable)) (λ n r. codes " REPEATABLE(" ++ r) (λ n. n)
-  unfolding one repeatable
-  repeatable-text = record { says = λ n more. refl }
-
-  order_by-text : Writes (one (Text p.order_by_sql)) (λ n r. codes " ORDER BY " ++ r) (λ n. n)
-  unfolding one p.order_by_sql
-  order_by-text = record { says = λ n more. refl }
-
-  group_by-text : Writes (one (Text p.group_by)) (λ n r. codes " GROUP BY " ++ r) (λ n. n)
-  unfolding one p.group_by
-  group_by-text = record { says = λ n more. refl }
-
-  distinct_on-text : Writes (one (Text p.distinct_on_open)) (λ n r. codes "DISTINCT ON (" ++ r) (λ n. n)
-  unfolding one p.distinct_on_open
-  distinct_on-text = record { says = λ n more. refl }
-
-  least-text : Writes (one (Text least_limit)) (λ n r. codes " LIMIT -1 " ++ r) (λ n. n)
-  unfolding one least_limit
-  least-text = record { says = λ n more. refl }
-
-  largest-text : Writes (one (Text largest_limit)) (λ n r. codes " LIMIT 18446744073709551615 " ++ r) (λ n. n)
-  unfolding one largest_limit
-  largest-text = record { says = λ n more. refl }
-
-  constant-text : (b : Bool) → Writes (one (Text (constant_sql b))) (λ n r. x.constant b r) (λ n. n)
-  unfolding x.constant one
-  constant-text true = record { says = λ n more. refl }
-  constant-text false = record { says = λ n more. refl }
-
-  -- ## Names
-
-  path-text : (schema : Option (List ℕ)) (name : List ℕ) → Writes (path_pieces schema name) (λ n r. x.names d (first_name schema name) (more_names schema name []) r) (λ n. n)
-  unfolding x.names
-  path-text None name = let h = name-text name in record { says = λ n more. h.says n more }
-  path-text (Some s) name = let h = then-text (name-text s) (then-text (sql-text (codes ".")) (name-text name)) in record { says = λ n more. h.says n more }
-
-  in_path-text : (schema : Option (List ℕ)) (name c : List ℕ) → Writes (path_pieces schema name ++ dotted c) (λ n r. x.names d (first_name schema name) (more_names schema name (c ∷ [])) r) (λ n. n)
-  unfolding x.names
-  in_path-text None name c = let h = then-text (name-text name) (then-text (sql-text (codes ".")) (name-text c)) in record { says = λ n more. h.says n more }
-  in_path-text (Some s) name c =
-      let h = then-text (then-text (name-text s) (then-text (sql-text (codes ".")) (name-text name))) (then-text (sql-text (codes ".")) (name-text c)) in
-      record { says = λ n more. h.says n more }
-
-  column-text : (alias : Option (List ℕ)) (t : TableDecl) (c : List ℕ) → ExprText (origin_pieces alias t ++ dotted c) (column_path alias t c)
-  unfolding x.expression x.names
-  column-text None t c = let h = in_path-text t.schema t.sql_name c in record { says = λ n more. h.says n more }
-  column-text (Some a) t c = let h = then-text (name-text a) (then-text (sql-text (codes ".")) (name-text c)) in record { says = λ n more. h.says n more }
-
-  -- ## Values
-
-  values-text : (t : SqlType) (v : Value) (vs : List Value)
-      → Writes (values_pieces t (v ∷ vs)) (λ n r. x.marks (mark n (OneValue t v)) (each_marks mark (suc n) (map (OneValue t) vs)) r) (λ n. after_marks (suc n) (map (OneValue t) vs))
-  unfolding x.marks
-  values-text t v [] = let h = last-text (bind-text (OneValue t v)) in record { says = λ n more. h.says n more }
-  values-text t v (z ∷ zs) =
-      let h = then-text (bind-text (OneValue t v)) (comma-text (one (Bind (OneValue t z))) (commas false (map (λ v. one (Bind (OneValue t v))) zs)) (values-text t z zs)) in
-      record { says = λ n more. h.says n more }
-
-  seed-text : (m : TablesampleMethod) (portion : ℤ) (seed : Option ℤ) (s : Option Tablesample) → s ≡ Some (record { method = m; portion = portion; seed = seed })
-      → Writes (pieces_of_option sample_pieces s) (λ n r. x.sample (each_sample mark n (f.sample_of s)) r) (λ n. after_sample n (f.sample_of s))
-  unfolding x.sample x.seed
-  seed-text m portion None s e =
-      rw e (let h = then-text (method-text m) (then-text (bind-text (small portion)) (then-text (sql-text (codes ")")) no-text)) in record { says = λ n more. h.says n more })
-  seed-text m portion (Some z) s e =
-      rw e (let h = then-text (method-text m) (then-text (bind-text (small portion)) (then-text (sql-text (codes ")")) (then-text repeatable-text (then-text (bind-text (integer z)) (sql-text (codes ")")))))) in
-      record { says = λ n more. h.says n more })
-
-  sample-text : (s : Option Tablesample) → Writes (pieces_of_option sample_pieces s) (λ n r. x.sample (each_sample mark n (f.sample_of s)) r) (λ n. after_sample n (f.sample_of s))
-  unfolding x.sample
-  sample-text None = no-text
-  sample-text (Some s) = seed-text s.method s.portion s.seed (Some s) refl
-
-  place-list-text : (p : PositionalItem) (ps : List PositionalItem) → Writes (commas true (map (λ p. position_pieces p.column p.direction) (p ∷ ps))) (λ n r. x.places (f.places_from p ps) r) (λ n. n)
-  unfolding x.places
-  place-list-text p [] = let h = last-text (then-text (sql-text (decimal p.column.0)) (direction-text p.direction)) in record { says = λ n more. h.says n more }
-  place-list-text p (q ∷ qs) =
-      let h = then-text (then-text (sql-text (decimal p.column.0)) (direction-text p.direction))
-      (comma-text (position_pieces q.column q.direction) (commas false (map (λ p. position_pieces p.column p.direction) qs)) (place-list-text q qs)) in
-      record { says = λ n more. h.says n more }
-
-  places-text : (o : Option (List PositionalItem)) → PlacesHaveText o → Writes (positions_pieces o) (λ n r. x.by_places (f.places_of o) r) (λ n. n)
-  unfolding x.by_places
-  places-text None k = no-text
-  places-text (Some []) k = absurd k
-  places-text (Some (p ∷ ps)) k = let h = then-text order_by-text (place-list-text p ps) in record { says = λ n more. h.says n more }
-
--- ## What the dialects write differently
-
-among-text : (d : Dialect) (negated : Bool) → Writes d (one (Text (among_sql d negated))) (λ k r. x.among d negated r) (λ k. k)
-unfolding x.among one
-among-text Pg true = record { says = λ n more. refl }
-among-text Pg false = record { says = λ n more. refl }
-among-text Mysql true = record { says = λ n more. refl }
-among-text Mysql false = record { says = λ n more. refl }
-among-text Sqlite true = record { says = λ n more. refl }
-among-text Sqlite false = record { says = λ n more. refl }
-
-side_open-text : (d : Dialect) → Writes d (one (Text (side_open d))) (λ k r. x.side_open d r) (λ k. k)
-unfolding x.side_open one side_open from_open
-side_open-text Pg = record { says = λ n more. refl }
-side_open-text Mysql = record { says = λ n more. refl }
-side_open-text Sqlite = record { says = λ n more. refl }
-
-one_by_one-text : (d : Dialect) (negated : Bool) (ps : List Piece) (t : g.Expression Bound) (ty : SqlType) (vs : List Value) → ExprText d ps t
-    → ExprText d (p.one_by_one d negated ps ty vs) (f.one_by_one negated t (map (OneValue ty) vs))
-unfolding x.expression
-one_by_one-text d negated ps t ty [] h = let e = then-text d (unsafe-text d) (constant-text d negated) in record { says = λ n more. e.says n more }
-one_by_one-text d negated ps t ty (v ∷ vs) h =
-    rw (eqb-suc-zero (length vs)) (let e = then-text d (unsafe-text d) (then-text d (then-text d (sql-text d (codes "(")) (then-text d h (among-text d negated))) (then-text d (values-text d ty v vs) (sql-text d (codes "))")))) in
-    record { says = λ n more. e.says n more })
-
-membership-text : (d : Dialect) (negated : Bool) (ps : List Piece) (t : g.Expression Bound) (ty : SqlType) (vs : List Value) → ExprText d ps t
-    → ExprText d (p.among_pieces d negated ps ty vs) (f.among d negated t (ManyValues ty vs) (map (OneValue ty) vs))
-unfolding x.expression x.marks
-membership-text Pg negated ps t ty vs h =
-    let e = then-text Pg (then-text Pg (sql-text Pg (codes "(")) (then-text Pg h (among-text Pg negated))) (then-text Pg (bind-text Pg (ManyValues ty vs)) (sql-text Pg (codes "))"))) in
-    record { says = λ n more. e.says n more }
-membership-text Mysql negated ps t ty vs h = one_by_one-text Mysql negated ps t ty vs h
-membership-text Sqlite negated ps t ty vs h = one_by_one-text Sqlite negated ps t ty vs h
-
-limit-text : (d : Dialect) (l : ℤ) → Writes d (limit_pieces l) (λ n r. codes " LIMIT " ++ x.mark (mark_of d n) r) suc
-limit-text d l = let h = then-text d (sql-text d (codes " LIMIT ")) (bind-text d (big l)) in record { says = λ n more. h.says n more }
-
-offset-text : (d : Dialect) (o : ℤ) → Writes d (offset_pieces o) (λ n r. codes " OFFSET " ++ x.mark (mark_of d n) r) suc
-offset-text d o = let h = then-text d (sql-text d (codes " OFFSET ")) (bind-text d (big o)) in record { says = λ n more. h.says n more }
-
-both-text : (d : Dialect) (l o : ℤ) → Writes d (limit_pieces l ++ offset_pieces o) (λ n r. codes " LIMIT " ++ x.mark (mark_of d n) (codes " OFFSET " ++ x.mark (mark_of d (suc n)) r)) (λ n. suc (suc n))
-both-text d l o = let h = then-text d (limit-text d l) (offset-text d o) in record { says = λ n more. h.says n more }
-
--- a limit and an offset as they stand in a clause
-abbrev rows_of : Option ℤ → Option ℤ → LimitOffsetClause
-rows_of l o = record { limit_clause = l; offset_clause = o }
-
-page-text : (d : Dialect) (boxed : Bool) (l o : Option ℤ) → PageHasText d boxed l o
-    → Writes d (limit_offset_pieces d boxed l o) (λ n r. x.page d (each_page (mark d) n (f.page_of (rows_of l o))) r) (λ n. after_page n (f.page_of (rows_of l o)))
-unfolding x.page
-page-text Pg b None None h = no-text Pg
-page-text Mysql b None None h = no-text Mysql
-page-text Sqlite b None None h = no-text Sqlite
-page-text Pg b None (Some o) h = let e = then-text Pg (no-text Pg) (offset-text Pg o) in record { says = λ n more. e.says n more }
-page-text Sqlite b None (Some o) h = let e = then-text Sqlite (least-text Sqlite) (offset-text Sqlite o) in record { says = λ n more. e.says n more }
-page-text Mysql false None (Some o) h = absurd h
-page-text Mysql true None (Some o) h = let e = then-text Mysql (largest-text Mysql) (offset-text Mysql o) in record { says = λ n more. e.says n more }
-page-text Pg b (Some l) None h = let e = limit-text Pg l in record { says = λ n more. e.says n more }
-page-text Mysql b (Some l) None h = let e = limit-text Mysql l in record { says = λ n more. e.says n more }
-page-text Sqlite b (Some l) None h = let e = limit-text Sqlite l in record { says = λ n more. e.says n more }
-page-text Pg b (Some l) (Some o) h = let e = both-text Pg l o in record { says = λ n more. e.says n more }
-page-text Mysql b (Some l) (Some o) h = let e = both-text Mysql l o in record { says = λ n more. e.says n more }
-page-text Sqlite b (Some l) (Some o) h = let e = both-text Sqlite l o in record { says = λ n more. e.says n more }
-
-end-text : (d : Dialect) (form : Form) (rows : LimitOffsetClause) → PageHasText d (is_boxed form) rows.limit_clause rows.offset_clause
-    → Writes d (end_pieces d rows form) (λ n r. x.page d (each_page (mark d) n (f.page_of rows)) (x.lock (f.lock_in form) r)) (λ n. after_page n (f.page_of rows))
-unfolding x.lock
-end-text d (unboxed l) rows h = let e = then-text d (page-text d false rows.limit_clause rows.offset_clause h) (lock-text d l) in record { says = λ n more. e.says n more }
-end-text d (boxed b all) rows h = let e = page-text d true rows.limit_clause rows.offset_clause h in record { says = λ n more. e.says n more }
-
--- ## Nodes
+use Rattle.sql_reading.specs.HasText.{ExprHasText, ExprsHaveText, ItemsHaveText, MaybeHasText, GroupHasText, SourceHasText, FromHasText, DistinctHasText, OrderHasText, HasText}
+use Rattle.sql_reading.proofs.Lists.{has-parts}
+use Rattle.sql_reading.proofs.PartTexts.{Writes, mark, then-text, sql-text, no-text, name-text, bind-text, EachText, append-text, lead-text, elements-text, ItemText, ItemsText, items-text, comparison-text, null_test-text, logic-text, direction-text, kind-text, combinator-text, all-text, only-text, order_by-text, group_by-text, distinct_on-text, path-text, column-text, sample-text, places-text, among-text, side_open-text, membership-text, page-text, end-text}
 
 module _ (d : Dialect) where
   mutual
@@ -414,19 +27,33 @@ module _ (d : Dialect) where
     expr-law count_star k = let h = sql-text d (codes "COUNT(*)") in (record { says = λ n more. h.says n more }, tt)
     expr-law (nullable e) k = expr-law e k
     expr-law (not_of e) k =
-        let h = then-text d (sql-text d (codes "NOT (")) (then-text d (lead-text d e k.0 (expr-law e k.1)) (sql-text d (codes ")"))) in
+        let h =
+        then-text d (sql-text d (codes "NOT ("))
+        (then-text d (lead-text d e k.0 (expr-law e k.1)) (sql-text d (codes ")"))) in
         (record { says = λ n more. h.says n more }, tt)
     expr-law (null_test b e) k =
-        let h = then-text d (sql-text d (codes "(")) (then-text d (lead-text d e k.0 (expr-law e k.1)) (null_test-text d b)) in
+        let h =
+        then-text d (sql-text d (codes "("))
+        (then-text d (lead-text d e k.0 (expr-law e k.1)) (null_test-text d b)) in
         (record { says = λ n more. h.says n more }, tt)
     expr-law (count e) k =
-        let h = then-text d (sql-text d (codes "COUNT(")) (then-text d (lead-text d e k.0 (expr-law e k.1)) (sql-text d (codes ")"))) in
+        let h =
+        then-text d (sql-text d (codes "COUNT("))
+        (then-text d (lead-text d e k.0 (expr-law e k.1)) (sql-text d (codes ")"))) in
         (record { says = λ n more. h.says n more }, tt)
     expr-law (compared by a b) k =
-        let h = then-text d (then-text d (sql-text d (codes "(")) (then-text d (lead-text d a k.0.0 (expr-law a k.0.1)) (comparison-text d by))) (then-text d (lead-text d b k.1.0 (expr-law b k.1.1)) (sql-text d (codes ")"))) in
+        let h =
+        then-text d
+        (then-text d (sql-text d (codes "("))
+        (then-text d (lead-text d a k.0.0 (expr-law a k.0.1)) (comparison-text d by)))
+        (then-text d (lead-text d b k.1.0 (expr-law b k.1.1)) (sql-text d (codes ")"))) in
         (record { says = λ n more. h.says n more }, tt)
     expr-law (joined by a b) k =
-        let h = then-text d (then-text d (sql-text d (codes "(")) (then-text d (lead-text d a k.0.0 (expr-law a k.0.1)) (logic-text d by))) (then-text d (lead-text d b k.1.0 (expr-law b k.1.1)) (sql-text d (codes ")"))) in
+        let h =
+        then-text d
+        (then-text d (sql-text d (codes "("))
+        (then-text d (lead-text d a k.0.0 (expr-law a k.0.1)) (logic-text d by)))
+        (then-text d (lead-text d b k.1.0 (expr-law b k.1.1)) (sql-text d (codes ")"))) in
         (record { says = λ n more. h.says n more }, tt)
     expr-law (exists q) k =
         let h = then-text d (sql-text d (codes "EXISTS (")) (then-text d (query-law q k) (sql-text d (codes ")"))) in
@@ -436,12 +63,18 @@ module _ (d : Dialect) where
         (record { says = λ n more. h.says n more }, tt)
     expr-law (among_values b e t vs) k = (membership-text d b _ _ t vs (lead-text d e k.0 (expr-law e k.1)), tt)
     expr-law (among_rows b e q) k =
-        let h = then-text d (then-text d (sql-text d (codes "(")) (then-text d (lead-text d e k.0.0 (expr-law e k.0.1)) (among-text d b))) (then-text d (query-law q k.1) (sql-text d (codes "))"))) in
+        let h =
+        then-text d
+        (then-text d (sql-text d (codes "("))
+        (then-text d (lead-text d e k.0.0 (expr-law e k.0.1)) (among-text d b)))
+        (then-text d (query-law q k.1) (sql-text d (codes "))"))) in
         (record { says = λ n more. h.says n more }, tt)
 
     exprs-law : (es : Exprs) → ExprsHaveText d es → EachText d (exprs_parts d es) (trees_in d es)
     exprs-law no_exprs k = tt
-    exprs-law (more_exprs e es) k = append-text d (each (expr_parts d e)) (exprs_parts d es) (trees d e) (trees_in d es) (expr-law e k.0) (exprs-law es k.1)
+    exprs-law (more_exprs e es) k =
+        append-text d (each (expr_parts d e)) (exprs_parts d es) (trees d e) (trees_in d es) (expr-law e k.0)
+        (exprs-law es k.1)
 
     items-law : (is : Items) → ItemsHaveText d is → ItemsText d (p.items_pieces d is) (item_trees d is)
     items-law no_items k = tt
@@ -449,56 +82,106 @@ module _ (d : Dialect) where
         let h = then-text d (lead-text d e k.0.0 (expr-law e k.0.1)) (direction-text d by) in
         (record { says = λ n more. h.says n more }, items-law is k.1)
 
-    source-law : (s : Source) → SourceHasText d s → Writes d (p.source_pieces d s) (λ n r. x.source d (each_source (mark d) n (f.source_tree d s)) r) (λ n. after_source n (f.source_tree d s))
+    source-law : (s : Source) → SourceHasText d s
+        → Writes d (p.source_pieces d s) (λ n r. x.source d (each_source (mark d) n (f.source_tree d s)) r)
+        (λ n. after_source n (f.source_tree d s))
     source-law (of_table t only s) k =
-        let h = then-text d (only-text d only) (then-text d (path-text d t.schema t.sql_name) (sample-text d s)) in record { says = λ n more. h.says n more }
+        let h = then-text d (only-text d only) (then-text d (path-text d t.schema t.sql_name) (sample-text d s)) in
+        record { says = λ n more. h.says n more }
     source-law (of_alias a t) k =
-        let h = then-text d (path-text d t.schema t.sql_name) (then-text d (sql-text d (codes " AS ")) (name-text d a)) in record { says = λ n more. h.says n more }
+        let h =
+        then-text d (path-text d t.schema t.sql_name) (then-text d (sql-text d (codes " AS ")) (name-text d a)) in
+        record { says = λ n more. h.says n more }
     source-law (join by l r no_expr) k = absurd k.2
     source-law (join by l r (an_expr e)) k =
-        let h = then-text d (sql-text d (codes "(")) (then-text d (then-text d (source-law l k.0) (then-text d (kind-text d by) (source-law r k.1))) (then-text d (sql-text d (codes " ON ")) (then-text d (lead-text d e k.2.0 (expr-law e k.2.1)) (sql-text d (codes ")"))))) in
+        let h =
+        then-text d (sql-text d (codes "("))
+        (then-text d (then-text d (source-law l k.0) (then-text d (kind-text d by) (source-law r k.1)))
+        (then-text d (sql-text d (codes " ON "))
+        (then-text d (lead-text d e k.2.0 (expr-law e k.2.1)) (sql-text d (codes ")"))))) in
         record { says = λ n more. h.says n more }
 
-    from-law : (s : From) → FromHasText d s → Writes d (p.from_pieces d s) (λ n r. x.from d (each_maybe_source (mark d) n (f.from_tree d s)) r) (λ n. after_maybe_source n (f.from_tree d s))
+    from-law : (s : From) → FromHasText d s
+        → Writes d (p.from_pieces d s) (λ n r. x.from d (each_maybe_source (mark d) n (f.from_tree d s)) r)
+        (λ n. after_maybe_source n (f.from_tree d s))
     from-law no_source k = no-text d
-    from-law (from s) k = let h = then-text d (sql-text d (codes " FROM ")) (source-law s k) in record { says = λ n more. h.says n more }
+    from-law (from s) k =
+        let h = then-text d (sql-text d (codes " FROM ")) (source-law s k) in record { says = λ n more. h.says n more }
 
-    where-law : (e : MaybeExpr) → MaybeHasText d e → Writes d (p.maybe_pieces d (codes " WHERE ") e) (λ n r. x.where_by d (each_maybe (mark d) n (f.maybe_tree d e)) r) (λ n. after_maybe n (f.maybe_tree d e))
+    where-law : (e : MaybeExpr) → MaybeHasText d e
+        → Writes d (p.maybe_pieces d (codes " WHERE ") e)
+        (λ n r. x.where_by d (each_maybe (mark d) n (f.maybe_tree d e)) r) (λ n. after_maybe n (f.maybe_tree d e))
     where-law no_expr k = no-text d
-    where-law (an_expr e) k = let h = then-text d (sql-text d (codes " WHERE ")) (lead-text d e k.0 (expr-law e k.1)) in record { says = λ n more. h.says n more }
+    where-law (an_expr e) k =
+        let h = then-text d (sql-text d (codes " WHERE ")) (lead-text d e k.0 (expr-law e k.1)) in
+        record { says = λ n more. h.says n more }
 
-    having-law : (e : MaybeExpr) → MaybeHasText d e → Writes d (p.maybe_pieces d (codes " HAVING ") e) (λ n r. x.having_by d (each_maybe (mark d) n (f.maybe_tree d e)) r) (λ n. after_maybe n (f.maybe_tree d e))
+    having-law : (e : MaybeExpr) → MaybeHasText d e
+        → Writes d (p.maybe_pieces d (codes " HAVING ") e)
+        (λ n r. x.having_by d (each_maybe (mark d) n (f.maybe_tree d e)) r) (λ n. after_maybe n (f.maybe_tree d e))
     having-law no_expr k = no-text d
-    having-law (an_expr e) k = let h = then-text d (sql-text d (codes " HAVING ")) (lead-text d e k.0 (expr-law e k.1)) in record { says = λ n more. h.says n more }
+    having-law (an_expr e) k =
+        let h = then-text d (sql-text d (codes " HAVING ")) (lead-text d e k.0 (expr-law e k.1)) in
+        record { says = λ n more. h.says n more }
 
-    group-law : (e : MaybeExpr) → GroupHasText d e → Writes d (p.maybe_pieces d p.group_by e) (λ n r. x.group_by d (each_maybe_expressions (mark d) n (f.group_tree d e)) r) (λ n. after_maybe_expressions n (f.group_tree d e))
+    group-law : (e : MaybeExpr) → GroupHasText d e
+        → Writes d (p.maybe_pieces d p.group_by e)
+        (λ n r. x.group_by d (each_maybe_expressions (mark d) n (f.group_tree d e)) r) (λ n. after_maybe_expressions
+        n (f.group_tree d e))
     group-law no_expr k = no-text d
-    group-law (an_expr e) k = let h = then-text d (group_by-text d) (elements-text d (expr_parts d e) _ (has-parts d e k.0) (expr-law e k.1)) in record { says = λ n more. h.says n more }
+    group-law (an_expr e) k =
+        let h =
+        then-text d (group_by-text d) (elements-text d (expr_parts d e) _ (has-parts d e k.0) (expr-law e k.1)) in
+        record { says = λ n more. h.says n more }
 
-    distinct-law : (u : Distinct) → DistinctHasText d u → Writes d (p.distinct_pieces d u) (λ n r. x.distinct d (each_distinct (mark d) n (f.distinct_tree d u)) r) (λ n. after_distinct n (f.distinct_tree d u))
+    distinct-law : (u : Distinct) → DistinctHasText d u
+        → Writes d (p.distinct_pieces d u) (λ n r. x.distinct d (each_distinct (mark d) n (f.distinct_tree d u)) r)
+        (λ n. after_distinct n (f.distinct_tree d u))
     distinct-law every k = no-text d
     distinct-law distinct k = let h = sql-text d (codes "DISTINCT ") in record { says = λ n more. h.says n more }
     distinct-law (distinct_on e) k =
-        let h = then-text d (distinct_on-text d) (then-text d (elements-text d (expr_parts d e) _ (has-parts d e k.1) (expr-law e k.2)) (sql-text d (codes ") "))) in
+        let h =
+        then-text d (distinct_on-text d)
+        (then-text d (elements-text d (expr_parts d e) _ (has-parts d e k.1) (expr-law e k.2))
+        (sql-text d (codes ") "))) in
         record { says = λ n more. h.says n more }
 
-    order-law : (o : Order) → OrderHasText d o → Writes d (p.order_pieces d o) (λ n r. x.order_by d (each_maybe_items (mark d) n (f.order_tree d o)) r) (λ n. after_maybe_items n (f.order_tree d o))
+    order-law : (o : Order) → OrderHasText d o
+        → Writes d (p.order_pieces d o) (λ n r. x.order_by d (each_maybe_items (mark d) n (f.order_tree d o)) r)
+        (λ n. after_maybe_items n (f.order_tree d o))
     order-law no_order k = no-text d
     order-law (order_by no_items) k = absurd k.0
     order-law (order_by (more_items e by is)) k =
         let first = then-text d (lead-text d e k.1.0.0 (expr-law e k.1.0.1)) (direction-text d by) in
-        let h = then-text d (order_by-text d) (items-text d (expr_pieces d e ++ direction_pieces by) (p.items_pieces d is) (lead (trees d e), words.direction_of by) (item_trees d is) (record { says = λ n more. first.says n more }) (items-law is k.1.1)) in
+        let h =
+        then-text d (order_by-text d)
+        (items-text d (expr_pieces d e ++ direction_pieces by) (p.items_pieces d is)
+        (lead (trees d e), words.direction_of by) (item_trees d is)
+        (record { says = λ n more. first.says n more }) (items-law is k.1.1)) in
         record { says = λ n more. h.says n more }
 
-    query-law : (s : Statement) → HasText d s → Writes d (pieces d s) (λ n r. x.query d (each_query (mark d) n (filled d s)) r) (λ n. after_query n (filled d s))
+    query-law : (s : Statement) → HasText d s
+        → Writes d (pieces d s) (λ n r. x.query d (each_query (mark d) n (filled d s)) r) (λ n. after_query n
+        (filled d s))
     query-law (select default e s u w o rows by h form marks) k =
-        let whole = then-text d (sql-text d (codes "SELECT ")) (then-text d (distinct-law u k.0) (then-text d (elements-text d (expr_parts d e) _ (has-parts d e k.1.0) (expr-law e k.1.1)) (then-text d (from-law s k.2) (then-text d (where-law w k.3)
-        (then-text d (group-law by k.4) (then-text d (having-law h k.5) (then-text d (order-law o k.6) (end-text d form rows k.7)))))))) in
+        let whole =
+        then-text d (sql-text d (codes "SELECT "))
+        (then-text d (distinct-law u k.0)
+        (then-text d (elements-text d (expr_parts d e) _ (has-parts d e k.1.0) (expr-law e k.1.1))
+        (then-text d (from-law s k.2) (then-text d (where-law w k.3)
+        (then-text d (group-law by k.4)
+        (then-text d (having-law h k.5) (then-text d (order-law o k.6) (end-text d form rows k.7))))))))
+        in
         record { says = λ n more. whole.says n more }
     query-law (combination by all a b o rows) k =
         let left = then-text d (side_open-text d) (then-text d (query-law a k.0) (sql-text d (codes ")"))) in
         let right = then-text d (side_open-text d) (then-text d (query-law b k.2) (sql-text d (codes ")"))) in
-        let whole = then-text d left (then-text d (combinator-text d by) (then-text d (all-text d all) (then-text d right (then-text d (places-text d o k.3) (page-text d false rows.limit_clause rows.offset_clause k.4))))) in
+        let whole =
+        then-text d left
+        (then-text d (combinator-text d by)
+        (then-text d (all-text d all)
+        (then-text d right
+        (then-text d (places-text d o k.3) (page-text d false rows.limit_clause rows.offset_clause k.4))))) in
         record { says = λ n more. whole.says n more }
 
 pub text-law : (d : Dialect) (s : Statement) → HasText d s → text_of d 0 (pieces d s) ≡ x.text d (normal d s)

@@ -20,7 +20,7 @@ use Rattle.sql_pass.specs.declared.value.Bound.TheVariants.{Value as OneValue, L
 use Rattle.sql_pass.specs.declared.value.Value.{Value}
 use Rattle.sql_leaf.specs.Limits.{least_limit, largest_limit, limit_pieces, offset_pieces, limit_offset_pieces}
 use Rattle.sql_leaf.specs.Locks.{lock_sql, modifier_pieces, locking_pieces}
-use Rattle.sql_leaf.specs.Numbers.{small, integer, big}
+use Rattle.sql_pass.specs.Bounds.{of_i16, of_i32, of_i64}
 use Rattle.sql_leaf.specs.Positions.{direction_pieces, position_pieces}
 use Rattle.sql_leaf.specs.Sources.{only_pieces, method_open, repeatable, seed_pieces, sample_pieces}
 use Rattle.sql_leaf.specs.declared.limit_offset.LimitOffsetClause.{LimitOffsetClause}
@@ -45,11 +45,13 @@ record Has (ps : List Piece) (vs : List Bound) : Type 0 where
   says : values_of ps ≡ vs
 
 then-values : {a b : List Piece} {v w : List Bound} → Has a v → Has b w → Has (a ++ b) (v ++ w)
-then-values {a} {b} {v} h k = record { says = values_of-append a b ∙ ap (λ x. x ++ values_of b) h.says ∙ ap (λ x. v ++ x) k.says }
+then-values {a} {b} {v} h k =
+    record { says = values_of-append a b ∙ ap (λ x. x ++ values_of b) h.says ∙ ap (λ x. v ++ x) k.says }
 
 -- pieces without values, behind and in front
 before-none : {a : List Piece} {v : List Bound} (b : List Piece) → Has a v → Has b [] → Has (a ++ b) v
-before-none {a} {v} b h k = record { says = values_of-append a b ∙ ap (λ x. x ++ values_of b) h.says ∙ ap (λ x. v ++ x) k.says ∙ append-nil v }
+before-none {a} {v} b h k =
+    record { says = values_of-append a b ∙ ap (λ x. x ++ values_of b) h.says ∙ ap (λ x. v ++ x) k.says ∙ append-nil v }
 
 behind-none : {b : List Piece} {w : List Bound} (a : List Piece) → Has a [] → Has b w → Has (a ++ b) w
 behind-none {b} {w} a h k = record { says = values_of-append a b ∙ ap (λ x. x ++ values_of b) h.says ∙ k.says }
@@ -90,7 +92,8 @@ last-values : {a : List Piece} {v : List Bound} → Has a v → Has (a ++ []) v
 last-values {a} h = record { says = ap values_of (append-nil a) ∙ h.says }
 
 comma-values : (q rs : List Piece) {w : List Bound} → Has (q ++ rs) w → Has ((one (Text (codes ", ")) ++ q) ++ rs) w
-comma-values q rs h = record { says = ap values_of (append_assoc (one (Text (codes ", "))) q rs) ∙ (behind-text (codes ", ") h).says }
+comma-values q rs h =
+    record { says = ap values_of (append_assoc (one (Text (codes ", "))) q rs) ∙ (behind-text (codes ", ") h).says }
 
 -- ## Parts without values
 
@@ -106,7 +109,8 @@ path-values : (schema : Option (List ℕ)) (name : List ℕ) → Has (path_piece
 path-values None name = name-values name
 path-values (Some s) name = behind-none (one (Ident s)) (name-values s) (dotted-values name)
 
-column-values : (alias : Option (List ℕ)) (t : TableDecl) (c : List ℕ) → Has (origin_pieces alias t ++ dotted c) (values_expression (column_path alias t c))
+column-values : (alias : Option (List ℕ)) (t : TableDecl) (c : List ℕ)
+    → Has (origin_pieces alias t ++ dotted c) (values_expression (column_path alias t c))
 column-values None t c = behind-none (table_pieces t) (path-values t.schema t.sql_name) (dotted-values c)
 column-values (Some a) t c = behind-none (one (Ident a)) (name-values a) (dotted-values c)
 
@@ -130,10 +134,13 @@ only-values false = no-values
 place-values : (i : PositionalItem) → Has (position_pieces i.column i.direction) []
 place-values i = behind-text (decimal i.column.0) (direction-values i.direction)
 
-place-list-values : (i : PositionalItem) (is : List PositionalItem) → Has (commas true (map (λ p. position_pieces p.column p.direction) (i ∷ is))) []
+place-list-values : (i : PositionalItem) (is : List PositionalItem)
+    → Has (commas true (map (λ p. position_pieces p.column p.direction) (i ∷ is))) []
 place-list-values i [] = last-values (place-values i)
 place-list-values i (next ∷ is) =
-    then-values (place-values i) (comma-values (position_pieces next.column next.direction) (commas false (map (λ p. position_pieces p.column p.direction) is)) (place-list-values next is))
+    then-values (place-values i)
+    (comma-values (position_pieces next.column next.direction)
+    (commas false (map (λ p. position_pieces p.column p.direction) is)) (place-list-values next is))
 
 places-values : (o : Option (List PositionalItem)) → Has (positions_pieces o) []
 places-values None = no-values
@@ -142,21 +149,24 @@ places-values (Some (i ∷ is)) = behind-text p.order_by_sql (place-list-values 
 
 -- ## Values
 
-seed-values : (z : Option ℤ) → Has (seed_pieces z) (values_option (option_map integer z))
+seed-values : (z : Option ℤ) → Has (seed_pieces z) (values_option (option_map of_i32 z))
 seed-values None = no-values
-seed-values (Some n) = behind-text repeatable (before-text (bind-values (integer n)) (codes ")"))
+seed-values (Some n) = behind-text repeatable (before-text (bind-values (of_i32 n)) (codes ")"))
 
 sample-values : (s : Option Tablesample) → Has (pieces_of_option sample_pieces s) (values_sample (f.sample_of s))
 sample-values None = no-values
-sample-values (Some s) = behind-text (method_open s.method) (then-values (bind-values (small s.portion)) (behind-text (codes ")") (seed-values s.seed)))
+sample-values (Some s) =
+    behind-text (method_open s.method)
+    (then-values (bind-values (of_i16 s.portion)) (behind-text (codes ")") (seed-values s.seed)))
 
-limit-values : (l : ℤ) → Has (limit_pieces l) (big l ∷ [])
-limit-values l = behind-text (codes " LIMIT ") (bind-values (big l))
+limit-values : (l : ℤ) → Has (limit_pieces l) (of_i64 l ∷ [])
+limit-values l = behind-text (codes " LIMIT ") (bind-values (of_i64 l))
 
-offset-values : (o : ℤ) → Has (offset_pieces o) (big o ∷ [])
-offset-values o = behind-text (codes " OFFSET ") (bind-values (big o))
+offset-values : (o : ℤ) → Has (offset_pieces o) (of_i64 o ∷ [])
+offset-values o = behind-text (codes " OFFSET ") (bind-values (of_i64 o))
 
-page-values : (d : Dialect) (boxed : Bool) (l o : Option ℤ) → Has (limit_offset_pieces d boxed l o) (values_page (f.page_of (record { limit_clause = l; offset_clause = o })))
+page-values : (d : Dialect) (boxed : Bool) (l o : Option ℤ)
+    → Has (limit_offset_pieces d boxed l o) (values_page (f.page_of (record { limit_clause = l; offset_clause = o })))
 page-values d b None None = no-values
 page-values Pg b None (Some o) = behind-none [] no-values (offset-values o)
 page-values Sqlite b None (Some o) = behind-text least_limit (offset-values o)
@@ -165,14 +175,19 @@ page-values Mysql false None (Some o) = behind-none [] no-values (offset-values 
 page-values d b (Some l) None = limit-values l
 page-values d b (Some l) (Some o) = then-values (limit-values l) (offset-values o)
 
-end-values : (d : Dialect) (form : Form) (rows : LimitOffsetClause) → Has (end_pieces d rows form) (values_page (f.page_of rows))
-end-values d (unboxed l) rows = before-none (locking_pieces l) (page-values d false rows.limit_clause rows.offset_clause) (lock-values l)
+end-values : (d : Dialect) (form : Form) (rows : LimitOffsetClause)
+    → Has (end_pieces d rows form) (values_page (f.page_of rows))
+end-values d (unboxed l) rows =
+    before-none (locking_pieces l) (page-values d false rows.limit_clause rows.offset_clause) (lock-values l)
 end-values d (boxed e all) rows = page-values d true rows.limit_clause rows.offset_clause
 
-listed-values : (t : SqlType) (v : Value) (vs : List Value) → Has (values_pieces t (v ∷ vs)) (OneValue t v ∷ map (OneValue t) vs)
+listed-values : (t : SqlType) (v : Value) (vs : List Value)
+    → Has (values_pieces t (v ∷ vs)) (OneValue t v ∷ map (OneValue t) vs)
 listed-values t v [] = last-values (bind-values (OneValue t v))
 listed-values t v (z ∷ zs) =
-    then-values (bind-values (OneValue t v)) (comma-values (one (Bind (OneValue t z))) (commas false (map (λ v. one (Bind (OneValue t v))) zs)) (listed-values t z zs))
+    then-values (bind-values (OneValue t v))
+    (comma-values (one (Bind (OneValue t z))) (commas false (map (λ v. one (Bind (OneValue t v))) zs))
+    (listed-values t z zs))
 
 -- ## Lists of expressions
 
@@ -184,28 +199,34 @@ EachValues [] [] = Unit {0}
 EachValues (ps ∷ pss) (t ∷ ts) = ExprValues ps t × EachValues pss ts
 EachValues _ _ = ⊥
 
-append-values : (pss qss : List (List Piece)) (ts us : List (g.Expression Bound)) → EachValues pss ts → EachValues qss us → EachValues (pss ++ qss) (ts ++ us)
+append-values : (pss qss : List (List Piece)) (ts us : List (g.Expression Bound)) → EachValues pss ts
+    → EachValues qss us → EachValues (pss ++ qss) (ts ++ us)
 append-values [] qss [] us h k = k
 append-values [] qss (t ∷ ts) us h k = absurd h
 append-values (ps ∷ pss) qss [] us h k = absurd h
 append-values (ps ∷ pss) qss (t ∷ ts) us h k = (h.0, append-values pss qss ts us h.1 k)
 
-alone-values : (d : Dialect) (q : Written) (ts : List (g.Expression Bound)) → IsAlone d q → EachValues (each q) ts → ExprValues (spread true q) (lead ts)
+alone-values : (d : Dialect) (q : Written) (ts : List (g.Expression Bound)) → IsAlone d q → EachValues (each q) ts
+    → ExprValues (spread true q) (lead ts)
 alone-values d (alone ps) [] a h = absurd h
 alone-values d (alone ps) (t ∷ ts) a h = h.0
 alone-values d (many pss) ts a h = absurd a
 
-lead-values : (d : Dialect) (e : Expr) → IsSingle e → EachValues (each (expr_parts d e)) (trees d e) → ExprValues (spread true (expr_parts d e)) (lead (trees d e))
+lead-values : (d : Dialect) (e : Expr) → IsSingle e → EachValues (each (expr_parts d e)) (trees d e)
+    → ExprValues (spread true (expr_parts d e)) (lead (trees d e))
 lead-values d e o h = alone-values d (expr_parts d e) (trees d e) (is-alone d e o) h
 
-list-values : (ps : List Piece) (more : List (List Piece)) (t : g.Expression Bound) (ts : List (g.Expression Bound)) → ExprValues ps t → EachValues more ts
+list-values : (ps : List Piece) (more : List (List Piece)) (t : g.Expression Bound) (ts : List (g.Expression Bound))
+    → ExprValues ps t → EachValues more ts
     → Has (commas true (ps ∷ more)) (values_expressions (expressions_from t ts))
 list-values ps [] t [] h k = last-values h
 list-values ps [] t (u ∷ us) h k = absurd k
 list-values ps (q ∷ qs) t [] h k = absurd k
-list-values ps (q ∷ qs) t (u ∷ us) h k = then-values h (comma-values q (commas false qs) (list-values q qs u us k.0 k.1))
+list-values ps (q ∷ qs) t (u ∷ us) h k =
+    then-values h (comma-values q (commas false qs) (list-values q qs u us k.0 k.1))
 
-elements-values : (q : Written) (ts : List (g.Expression Bound)) → NotEmpty (each q) → EachValues (each q) ts → Has (spread true q) (values_expressions (expressions_of ts))
+elements-values : (q : Written) (ts : List (g.Expression Bound)) → NotEmpty (each q) → EachValues (each q) ts
+    → Has (spread true q) (values_expressions (expressions_of ts))
 elements-values (alone ps) [] l h = absurd h
 elements-values (alone ps) (t ∷ []) l h = h.0
 elements-values (alone ps) (t ∷ u ∷ us) l h = absurd h.1
@@ -218,23 +239,34 @@ ItemsValues [] [] = Unit {0}
 ItemsValues (ps ∷ pss) (i ∷ is) = ExprValues ps i.0 × ItemsValues pss is
 ItemsValues _ _ = ⊥
 
-items-values : (ps : List Piece) (more : List (List Piece)) (i : Item) (is : List Item) → ExprValues ps i.0 → ItemsValues more is → Has (commas true (ps ∷ more)) (values_items (items_from i is))
+items-values : (ps : List Piece) (more : List (List Piece)) (i : Item) (is : List Item) → ExprValues ps i.0
+    → ItemsValues more is → Has (commas true (ps ∷ more)) (values_items (items_from i is))
 items-values ps [] i [] h k = last-values h
 items-values ps [] i (u ∷ us) h k = absurd k
 items-values ps (q ∷ qs) i [] h k = absurd k
-items-values ps (q ∷ qs) i (u ∷ us) h k = then-values h (comma-values q (commas false qs) (items-values q qs u us k.0 k.1))
+items-values ps (q ∷ qs) i (u ∷ us) h k =
+    then-values h (comma-values q (commas false qs) (items-values q qs u us k.0 k.1))
 
 -- ## Memberships
 
-one_by_one-values : (d : Dialect) (negated : Bool) (ps : List Piece) (t : g.Expression Bound) (ty : SqlType) (vs : List Value) → ExprValues ps t
+one_by_one-values : (d : Dialect) (negated : Bool) (ps : List Piece) (t : g.Expression Bound) (ty : SqlType)
+    (vs : List Value)
+    → ExprValues ps t
     → ExprValues (p.one_by_one d negated ps ty vs) (f.one_by_one negated t (map (OneValue ty) vs))
 one_by_one-values d negated ps t ty [] h = behind-none (one Unsafe) unsafe-values (sql-values (constant_sql negated))
 one_by_one-values d negated ps t ty (v ∷ vs) h =
-    rw (eqb-suc-zero (length vs)) (behind-none (one Unsafe) unsafe-values (then-values (around-values (codes "(") (among_sql d negated) h) (before-text (listed-values ty v vs) (codes "))"))))
+    rw (eqb-suc-zero (length vs))
+    (behind-none (one Unsafe) unsafe-values
+    (then-values (around-values (codes "(") (among_sql d negated) h)
+    (before-text (listed-values ty v vs) (codes "))"))))
 
-membership-values : (d : Dialect) (negated : Bool) (ps : List Piece) (t : g.Expression Bound) (ty : SqlType) (vs : List Value) → ExprValues ps t
+membership-values : (d : Dialect) (negated : Bool) (ps : List Piece) (t : g.Expression Bound) (ty : SqlType)
+    (vs : List Value)
+    → ExprValues ps t
     → ExprValues (p.among_pieces d negated ps ty vs) (f.among d negated t (ManyValues ty vs) (map (OneValue ty) vs))
-membership-values Pg negated ps t ty vs h = then-values (around-values (codes "(") (among_sql Pg negated) h) (before-text (bind-values (ManyValues ty vs)) (codes "))"))
+membership-values Pg negated ps t ty vs h =
+    then-values (around-values (codes "(") (among_sql Pg negated) h)
+    (before-text (bind-values (ManyValues ty vs)) (codes "))"))
 membership-values Mysql negated ps t ty vs h = one_by_one-values Mysql negated ps t ty vs h
 membership-values Sqlite negated ps t ty vs h = one_by_one-values Sqlite negated ps t ty vs h
 
@@ -249,66 +281,102 @@ module _ (d : Dialect) where
     expr-law count_star k = (sql-values _, tt)
     expr-law (nullable e) k = expr-law e k
     expr-law (not_of e) k = (around-values (codes "NOT (") (codes ")") (lead-values d e k.0 (expr-law e k.1)), tt)
-    expr-law (null_test b e) k = (around-values (codes "(") (null_test_sql b) (lead-values d e k.0 (expr-law e k.1)), tt)
+    expr-law (null_test b e) k =
+        (around-values (codes "(") (null_test_sql b) (lead-values d e k.0 (expr-law e k.1)), tt)
     expr-law (count e) k = (around-values (codes "COUNT(") (codes ")") (lead-values d e k.0 (expr-law e k.1)), tt)
-    expr-law (compared by a b) k =
-        (then-values (around-values (codes "(") (comparison_sql by) (lead-values d a k.0.0 (expr-law a k.0.1))) (before-text (lead-values d b k.1.0 (expr-law b k.1.1)) (codes ")")), tt)
-    expr-law (joined by a b) k =
-        (then-values (around-values (codes "(") (logic_sql by) (lead-values d a k.0.0 (expr-law a k.0.1))) (before-text (lead-values d b k.1.0 (expr-law b k.1.1)) (codes ")")), tt)
+    expr-law (compared by a b) k = (
+      then-values (around-values (codes "(") (comparison_sql by) (lead-values d a k.0.0 (expr-law a k.0.1)))
+          (before-text (lead-values d b k.1.0 (expr-law b k.1.1)) (codes ")")),
+      tt,
+    )
+    expr-law (joined by a b) k = (
+      then-values (around-values (codes "(") (logic_sql by) (lead-values d a k.0.0 (expr-law a k.0.1)))
+          (before-text (lead-values d b k.1.0 (expr-law b k.1.1)) (codes ")")),
+      tt,
+    )
     expr-law (exists q) k = (around-values (codes "EXISTS (") (codes ")") (query-law q k), tt)
     expr-law (single q) k = (around-values (codes "(") (codes ")") (query-law q k), tt)
     expr-law (among_values b e t vs) k = (membership-values d b _ _ t vs (lead-values d e k.0 (expr-law e k.1)), tt)
-    expr-law (among_rows b e q) k =
-        (then-values (around-values (codes "(") (among_sql d b) (lead-values d e k.0.0 (expr-law e k.0.1))) (before-text (query-law q k.1) (codes "))")), tt)
+    expr-law (among_rows b e q) k = (
+      then-values (around-values (codes "(") (among_sql d b) (lead-values d e k.0.0 (expr-law e k.0.1)))
+          (before-text (query-law q k.1) (codes "))")),
+      tt,
+    )
 
     exprs-law : (es : Exprs) → ExprsHaveText d es → EachValues (exprs_parts d es) (trees_in d es)
     exprs-law no_exprs k = tt
-    exprs-law (more_exprs e es) k = append-values (each (expr_parts d e)) (exprs_parts d es) (trees d e) (trees_in d es) (expr-law e k.0) (exprs-law es k.1)
+    exprs-law (more_exprs e es) k =
+        append-values (each (expr_parts d e)) (exprs_parts d es) (trees d e) (trees_in d es) (expr-law e k.0)
+        (exprs-law es k.1)
 
     items-law : (is : Items) → ItemsHaveText d is → ItemsValues (p.items_pieces d is) (item_trees d is)
     items-law no_items k = tt
-    items-law (more_items e by is) k = (before-none (direction_pieces by) (lead-values d e k.0.0 (expr-law e k.0.1)) (direction-values by), items-law is k.1)
+    items-law (more_items e by is) k = (
+      before-none (direction_pieces by) (lead-values d e k.0.0 (expr-law e k.0.1)) (direction-values by),
+      items-law is k.1,
+    )
 
     source-law : (s : Source) → SourceHasText d s → Has (p.source_pieces d s) (values_source (f.source_tree d s))
-    source-law (of_table t only s) k = behind-none (only_pieces only) (only-values only) (behind-none (table_pieces t) (path-values t.schema t.sql_name) (sample-values s))
-    source-law (of_alias a t) k = behind-none (table_pieces t) (path-values t.schema t.sql_name) (behind-text (codes " AS ") (name-values a))
+    source-law (of_table t only s) k =
+        behind-none (only_pieces only) (only-values only)
+        (behind-none (table_pieces t) (path-values t.schema t.sql_name) (sample-values s))
+    source-law (of_alias a t) k =
+        behind-none (table_pieces t) (path-values t.schema t.sql_name) (behind-text (codes " AS ") (name-values a))
     source-law (join by l r no_expr) k = absurd k.2
     source-law (join by l r (an_expr e)) k =
         same-values (simp append_assoc)
-        (behind-text (codes "(") (then-values (then-values (source-law l k.0) (behind-text (join_sql by) (source-law r k.1))) (around-values (codes " ON ") (codes ")") (lead-values d e k.2.0 (expr-law e k.2.1)))))
+        (behind-text (codes "(")
+        (then-values (then-values (source-law l k.0) (behind-text (join_sql by) (source-law r k.1)))
+        (around-values (codes " ON ") (codes ")") (lead-values d e k.2.0 (expr-law e k.2.1)))))
 
     from-law : (s : From) → FromHasText d s → Has (p.from_pieces d s) (values_maybe_source (f.from_tree d s))
     from-law no_source k = no-values
     from-law (from s) k = behind-text (codes " FROM ") (source-law s k)
 
-    maybe-law : (t : List ℕ) (e : MaybeExpr) → MaybeHasText d e → Has (p.maybe_pieces d t e) (values_maybe (f.maybe_tree d e))
+    maybe-law : (t : List ℕ) (e : MaybeExpr) → MaybeHasText d e
+        → Has (p.maybe_pieces d t e) (values_maybe (f.maybe_tree d e))
     maybe-law t no_expr k = no-values
     maybe-law t (an_expr e) k = behind-text t (lead-values d e k.0 (expr-law e k.1))
 
-    group-law : (e : MaybeExpr) → GroupHasText d e → Has (p.maybe_pieces d p.group_by e) (values_maybe_expressions (f.group_tree d e))
+    group-law : (e : MaybeExpr) → GroupHasText d e
+        → Has (p.maybe_pieces d p.group_by e) (values_maybe_expressions (f.group_tree d e))
     group-law no_expr k = no-values
-    group-law (an_expr e) k = behind-text p.group_by (elements-values (expr_parts d e) _ (has-parts d e k.0) (expr-law e k.1))
+    group-law (an_expr e) k =
+        behind-text p.group_by (elements-values (expr_parts d e) _ (has-parts d e k.0) (expr-law e k.1))
 
-    distinct-law : (u : Distinct) → DistinctHasText d u → Has (p.distinct_pieces d u) (values_distinct (f.distinct_tree d u))
+    distinct-law : (u : Distinct) → DistinctHasText d u
+        → Has (p.distinct_pieces d u) (values_distinct (f.distinct_tree d u))
     distinct-law every k = no-values
     distinct-law distinct k = sql-values _
-    distinct-law (distinct_on e) k = around-values p.distinct_on_open (codes ") ") (elements-values (expr_parts d e) _ (has-parts d e k.1) (expr-law e k.2))
+    distinct-law (distinct_on e) k =
+        around-values p.distinct_on_open (codes ") ")
+        (elements-values (expr_parts d e) _ (has-parts d e k.1) (expr-law e k.2))
 
     order-law : (o : Order) → OrderHasText d o → Has (p.order_pieces d o) (values_maybe_items (f.order_tree d o))
     order-law no_order k = no-values
     order-law (order_by no_items) k = absurd k.0
     order-law (order_by (more_items e by is)) k =
         behind-text p.order_by_sql
-        (items-values (expr_pieces d e ++ direction_pieces by) (p.items_pieces d is) (lead (trees d e), words.direction_of by) (item_trees d is)
-        (before-none (direction_pieces by) (lead-values d e k.1.0.0 (expr-law e k.1.0.1)) (direction-values by)) (items-law is k.1.1))
+        (items-values (expr_pieces d e ++ direction_pieces by) (p.items_pieces d is)
+        (lead (trees d e), words.direction_of by) (item_trees d is)
+        (before-none (direction_pieces by) (lead-values d e k.1.0.0 (expr-law e k.1.0.1)) (direction-values by))
+        (items-law is k.1.1))
 
     query-law : (s : Statement) → HasText d s → Has (pieces d s) (values_query (filled d s))
     query-law (select default e s u w o rows by h form marks) k =
-        behind-text (codes "SELECT ") (then-values (distinct-law u k.0) (then-values (elements-values (expr_parts d e) _ (has-parts d e k.1.0) (expr-law e k.1.1)) (then-values (from-law s k.2) (then-values (maybe-law (codes " WHERE ") w k.3)
-        (then-values (group-law by k.4) (then-values (maybe-law (codes " HAVING ") h k.5) (then-values (order-law o k.6) (end-values d form rows))))))))
+        behind-text (codes "SELECT ")
+        (then-values (distinct-law u k.0)
+        (then-values (elements-values (expr_parts d e) _ (has-parts d e k.1.0) (expr-law e k.1.1))
+        (then-values (from-law s k.2) (then-values (maybe-law (codes " WHERE ") w k.3)
+        (then-values (group-law by k.4)
+        (then-values (maybe-law (codes " HAVING ") h k.5)
+        (then-values (order-law o k.6) (end-values d form rows))))))))
     query-law (combination by all a b o rows) k =
-        then-values (around-values (side_open d) (codes ")") (query-law a k.0)) (behind-text (combinator_sql by) (behind-none (all_pieces all) (all-values all)
-        (then-values (around-values (side_open d) (codes ")") (query-law b k.2)) (behind-none (positions_pieces o) (places-values o) (page-values d false rows.limit_clause rows.offset_clause)))))
+        then-values (around-values (side_open d) (codes ")") (query-law a k.0))
+        (behind-text (combinator_sql by) (behind-none (all_pieces all) (all-values all)
+        (then-values (around-values (side_open d) (codes ")") (query-law b k.2))
+        (behind-none (positions_pieces o) (places-values o)
+        (page-values d false rows.limit_clause rows.offset_clause)))))
 
 pub value-law : (d : Dialect) (s : Statement) → HasText d s → values_of (pieces d s) ≡ values_query (filled d s)
 value-law d s k = (query-law d s k).says

@@ -18,8 +18,11 @@ use Rattle.sql_reading.specs.Filled.{normal}
 use Rattle.sql_reading.specs.HasText.{HasText, HasNumbers}
 use Rattle.sql_reading.proofs.ReadingLaws.{only_reading}
 
-read-as : (d : Dialect) (s : Statement) (text : List ℕ) (q : Query) → HasText d s → HasNumbers d (length (values_of (pieces d s))) → text_of d 0 (pieces d s) ≡ text → normal d s ≡ q → OnlyReading d text q
-read-as d s text q h k w e = subst (λ t. OnlyReading d t q) w (subst (λ t. OnlyReading d (text_of d 0 (pieces d s)) t) e (only_reading d s h k))
+read-as : (d : Dialect) (s : Statement) (text : List ℕ) (q : Query) → HasText d s
+    → HasNumbers d (length (values_of (pieces d s))) → text_of d 0 (pieces d s) ≡ text → normal d s ≡ q
+    → OnlyReading d text q
+read-as d s text q h k w e =
+    subst (λ t. OnlyReading d t q) w (subst (λ t. OnlyReading d (text_of d 0 (pieces d s)) t) e (only_reading d s h k))
 
 digit-1 : decimal 1 ≡ codes "1"
 digit-1 = decimal_digit 1 (omega arith)

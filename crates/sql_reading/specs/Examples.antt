@@ -23,7 +23,8 @@ abbrev pub whole_number : SqlType
 whole_number = record { base = base.Integer; nullable = false }
 
 abbrev pub table : Option (List ℕ) → List ℕ → List ColumnDecl → TableDecl
-table schema name columns = record { name = name; sql_name = name; schema = schema; columns = columns; primary_key = [] }
+table schema name columns =
+    record { name = name; sql_name = name; schema = schema; columns = columns; primary_key = [] }
 
 abbrev pub decl : List ℕ → ColumnDecl
 decl name = record { name = name; sql_name = name; ty = whole_number; max_length = None }
@@ -46,12 +47,16 @@ author = column (record { alias = None; table = posts }) (decl (codes "user_id")
 
 abbrev pub users_and_posts : Source
 users_and_posts =
-    join LeftOuter (of_alias (codes "u") users) (of_table posts true (Some (record { method = SystemMethod; portion = pos 10; seed = None }))) (an_expr (compared Eq user_id author))
+    join LeftOuter (of_alias (codes "u") users)
+    (of_table posts true (Some (record { method = SystemMethod; portion = pos 10; seed = None })))
+    (an_expr (compared Eq user_id author))
 
 abbrev pub pg_statement : Statement
 pg_statement =
-    select false (list (more_exprs user_id (more_exprs count_star no_exprs))) (from users_and_posts) (distinct_on user_id)
-    (an_expr (among_values false user_id whole_number (v.Integer (pos 1) ∷ v.Integer (pos 2) ∷ []))) (order_by (more_items user_id Desc no_items))
+    select false (list (more_exprs user_id (more_exprs count_star no_exprs))) (from users_and_posts)
+    (distinct_on user_id)
+    (an_expr (among_values false user_id whole_number (v.Integer (pos 1) ∷ v.Integer (pos 2) ∷ [])))
+    (order_by (more_items user_id Desc no_items))
     (rows (Some (pos 5)) None) no_expr no_expr (unboxed (Locked ForUpdate SkipLocked)) unmarked
 
 -- On Mysql: a union of two selections, one with a list and one with an offset alone, in the order of its first column.
@@ -62,27 +67,33 @@ abbrev pub column_x : Expr
 column_x = column (record { alias = None; table = letters }) (decl (codes "x"))
 
 abbrev pub select_x : Option ℤ → MaybeExpr → MaybeExpr → MaybeExpr → Form → Statement
-select_x offset w by h form = select false column_x (from (of_table letters false None)) every w no_order (rows None offset) by h form unmarked
+select_x offset w by h form =
+    select false column_x (from (of_table letters false None)) every w no_order (rows None offset) by h form unmarked
 
 abbrev pub mysql_statement : Statement
 mysql_statement =
     combination Union All
-    (select_x None (an_expr (among_values true column_x whole_number (v.Integer (pos 1) ∷ v.Integer (pos 2) ∷ []))) no_expr no_expr (unboxed NoLockingClause))
-    (select_x (Some (pos 7)) no_expr no_expr no_expr (boxed Mysql false)) (Some (record { column = record { 0 = 1 }; direction = Desc } ∷ [])) (rows None None)
+    (select_x None (an_expr (among_values true column_x whole_number (v.Integer (pos 1) ∷ v.Integer (pos 2) ∷ [])))
+    no_expr no_expr (unboxed NoLockingClause))
+    (select_x (Some (pos 7)) no_expr no_expr no_expr (boxed Mysql false))
+    (Some (record { column = record { 0 = 1 }; direction = Desc } ∷ [])) (rows None None)
 
 -- On Sqlite: groups, without what a selection gives whose condition is false whatever the row.
 abbrev pub sqlite_statement : Statement
 sqlite_statement =
     combination Except DistinctRows
-    (select_x None no_expr (an_expr column_x) (an_expr (compared Gt count_star (value whole_number (v.Integer (pos 3))))) (unboxed NoLockingClause))
-    (select false (value whole_number (v.Integer (pos 4))) no_source every (an_expr (among_values false column_x whole_number [])) no_order (rows None None) no_expr no_expr
+    (select_x None no_expr (an_expr column_x)
+    (an_expr (compared Gt count_star (value whole_number (v.Integer (pos 3))))) (unboxed NoLockingClause))
+    (select false (value whole_number (v.Integer (pos 4))) no_source every
+    (an_expr (among_values false column_x whole_number [])) no_order (rows None None) no_expr no_expr
     (unboxed NoLockingClause) unmarked) None (rows None (Some (pos 2)))
 
 -- ---- their texts
 
 abbrev pub pg_text : List ℕ
 pg_text =
-    codes "SELECT DISTINCT ON (\"u\".\"id\") \"u\".\"id\", COUNT(*) FROM (\"users\" AS \"u\" LEFT OUTER JOIN  ONLY \"blog\".\"posts\""
+    codes
+    "SELECT DISTINCT ON (\"u\".\"id\") \"u\".\"id\", COUNT(*) FROM (\"users\" AS \"u\" LEFT OUTER JOIN  ONLY \"blog\".\"posts\""
     ++ (codes " TABLESAMPLE SYSTEM($1) ON (\"u\".\"id\" = \"blog\".\"posts\".\"user_id\"))"
     ++ codes " WHERE (\"u\".\"id\" = ANY($2)) ORDER BY \"u\".\"id\" DESC LIMIT $3 FOR UPDATE SKIP LOCKED")
 

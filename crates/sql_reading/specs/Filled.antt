@@ -2,6 +2,7 @@
 -- (PostgreSQL, SELECT and 4.2 Value Expressions; MySQL, SELECT Statement; SQLite, SELECT). Where a list stands as an operand,
 -- a list is empty or a join has no condition there is no production, and COUNT(*) stands for what is missing.
 use Rattle.std.specs.Prelude.{ℕ, List, [], ◌∷◌, ◌++◌, map, Option, Some, None, option_map, decimal, Bool}
+use Rattle.sql_dialect.specs.Supports.{is_all}
 use Rattle.sql_dialect.specs.declared.backend.Dialect.{Dialect}
 use Rattle.sql_dialect.specs.declared.backend.Dialect.TheVariants.{Pg, Mysql, Sqlite}
 use Rattle.sql_schema.specs.declared.declaration.TableDecl.{TableDecl}
@@ -9,12 +10,12 @@ use Rattle.sql_grammar.specs.Numbering.{numbered}
 use Rattle.sql_grammar.specs.Tree as g
 use Rattle.sql_pass.specs.declared.value.Bound.{Bound}
 use Rattle.sql_pass.specs.declared.value.Bound.TheVariants.{Value as OneValue, List as ManyValues}
-use Rattle.sql_leaf.specs.Numbers.{small, integer, big}
+use Rattle.sql_pass.specs.Bounds.{of_i16, of_i32, of_i64}
 use Rattle.sql_leaf.specs.declared.limit_offset.LimitOffsetClause.{LimitOffsetClause}
 use Rattle.sql_leaf.specs.declared.position.PositionalItem.{PositionalItem}
 use Rattle.sql_leaf.specs.declared.table_source.Tablesample.{Tablesample}
 use Rattle.sql_node.specs.Tree.{Form, unboxed, boxed, Expr, column, value, list, count_star, nullable, not_of, null_test, count, compared, joined, exists, single, among_values, among_rows, Exprs, no_exprs, more_exprs, Items, no_items, more_items, MaybeExpr, no_expr, an_expr, Source, of_table, of_alias, join, From, no_source, from, Distinct, every, distinct, distinct_on, Order, no_order, order_by, Statement, select, combination}
-use Rattle.sql_reading.specs.Words.{comparison_of, logic_of, direction_of, kind_of, method_of, lock_of, operator_of, is_all}
+use Rattle.sql_reading.specs.Words.{comparison_of, logic_of, direction_of, kind_of, method_of, lock_of, operator_of}
 
 -- ---- names
 
@@ -85,10 +86,10 @@ among Sqlite negated x all each = one_by_one negated x each
 
 abbrev pub sample_of : Option Tablesample → g.Sample Bound
 sample_of None = g.Whole
-sample_of (Some s) = g.Sampled (method_of s.method) (small s.portion) (option_map integer s.seed)
+sample_of (Some s) = g.Sampled (method_of s.method) (of_i16 s.portion) (option_map of_i32 s.seed)
 
 abbrev pub page_of : LimitOffsetClause → g.Page Bound
-page_of rows = g.PageBy (option_map big rows.limit_clause) (option_map big rows.offset_clause)
+page_of rows = g.PageBy (option_map of_i64 rows.limit_clause) (option_map of_i64 rows.offset_clause)
 
 abbrev pub lock_in : Form → g.Lock
 lock_in (unboxed lock) = lock_of lock
@@ -111,7 +112,8 @@ abbrev mutual
   trees d (joined by a b) = g.Connected (logic_of by) (lead (trees d a)) (lead (trees d b)) ∷ []
   trees d (exists q) = g.Exists (filled d q) ∷ []
   trees d (single q) = g.SingleValue (filled d q) ∷ []
-  trees d (among_values negated e t vs) = among d negated (lead (trees d e)) (ManyValues t vs) (map (OneValue t) vs) ∷ []
+  trees d (among_values negated e t vs) =
+      among d negated (lead (trees d e)) (ManyValues t vs) (map (OneValue t) vs) ∷ []
   trees d (among_rows negated e q) = g.InQuery negated (lead (trees d e)) (filled d q) ∷ []
 
   pub trees_in : Dialect → Exprs → List (g.Expression Bound)
@@ -137,7 +139,8 @@ abbrev mutual
   on_tree d (an_expr e) = lead (trees d e)
 
   pub source_tree : Dialect → Source → g.Source Bound
-  source_tree d (of_table t only sample) = g.Table (first_name t.schema t.sql_name) (more_names t.schema t.sql_name []) only (sample_of sample)
+  source_tree d (of_table t only sample) =
+      g.Table (first_name t.schema t.sql_name) (more_names t.schema t.sql_name []) only (sample_of sample)
   source_tree d (of_alias name t) = g.Alias (first_name t.schema t.sql_name) (more_names t.schema t.sql_name []) name
   source_tree d (join kind l r on) = g.Join (kind_of kind) (source_tree d l) (source_tree d r) (on_tree d on)
 
@@ -156,8 +159,10 @@ abbrev mutual
 
   pub filled : Dialect → Statement → g.Query Bound
   filled d (select default e f u w o rows by h form marks) =
-      g.Select (distinct_tree d u) (expressions_of (trees d e)) (from_tree d f) (maybe_tree d w) (group_tree d by) (maybe_tree d h) (order_tree d o) (page_of rows) (lock_in form)
-  filled d (combination by all a b o rows) = g.Combined (filled d a) (operator_of by) (is_all all) (filled d b) (places_of o) (page_of rows)
+      g.Select (distinct_tree d u) (expressions_of (trees d e)) (from_tree d f) (maybe_tree d w) (group_tree d by)
+      (maybe_tree d h) (order_tree d o) (page_of rows) (lock_in form)
+  filled d (combination by all a b o rows) =
+      g.Combined (filled d a) (operator_of by) (is_all all) (filled d b) (places_of o) (page_of rows)
 
 -- The normal tree: with a placeholder for each value, numbered from left to right where the dialect numbers them.
 abbrev pub normal : Dialect → Statement → g.Query g.Mark

@@ -115,10 +115,12 @@ abbrev mutual
 
   pub HasText : Dialect → Statement → Type 0
   HasText d (select default e f u w o rows by h form marks) =
-      DistinctHasText d u × (HasElement e × ExprHasText d e) × FromHasText d f × MaybeHasText d w × GroupHasText d by × MaybeHasText d h × OrderHasText d o
+      DistinctHasText d u × (HasElement e × ExprHasText d e) × FromHasText d f × MaybeHasText d w × GroupHasText d by
+      × MaybeHasText d h × OrderHasText d o
       × PageHasText d (is_boxed form) rows.limit_clause rows.offset_clause × FitsLock d (lock_in form)
   HasText d (combination by all a b o rows) =
-      HasText d a × IsTrue (combines d by all) × HasText d b × PlacesHaveText o × PageHasText d false rows.limit_clause rows.offset_clause
+      HasText d a × IsTrue (combines d by all) × HasText d b × PlacesHaveText o
+      × PageHasText d false rows.limit_clause rows.offset_clause
 
 -- Where placeholders have numbers, there is one for each of so many values.
 abbrev pub HasNumbers : Dialect → ℕ → Type 0

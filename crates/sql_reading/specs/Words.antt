@@ -1,9 +1,6 @@
 -- The words of a statement as the words of its tree.
-use Rattle.std.specs.Prelude.{Bool, true, false}
 use Rattle.sql_dialect.specs.declared.combination.Combinator.{Combinator}
 use Rattle.sql_dialect.specs.declared.combination.Combinator.TheVariants as combinator
-use Rattle.sql_dialect.specs.declared.combination.DuplicateRule.{DuplicateRule}
-use Rattle.sql_dialect.specs.declared.combination.DuplicateRule.TheVariants as duplicates
 use Rattle.sql_grammar.specs.Token as token
 use Rattle.sql_grammar.specs.Tree as g
 use Rattle.sql_leaf.specs.declared.locking.LockMode.{LockMode}
@@ -64,8 +61,3 @@ abbrev pub operator_of : Combinator → g.SetOperator
 operator_of combinator.Union = g.Union
 operator_of combinator.Intersect = g.Intersect
 operator_of combinator.Except = g.Except
-
--- whether ALL stands behind the operator
-abbrev pub is_all : DuplicateRule → Bool
-is_all duplicates.Distinct = false
-is_all duplicates.All = true

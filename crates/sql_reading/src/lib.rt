@@ -23,7 +23,8 @@ ghost use Rattle.sql_reading.specs.HasText.{HasText, HasNumbers};
 /// The text of a statement that has one is read as the statement's normal tree, and as no other tree: whoever takes it apart
 /// by the grammar of its dialect finds each name, operand and clause where the statement has it.
 pub fn only_reading()
-    ensures { (d : Dialect) (s : Statement) → HasText d s → HasNumbers d (length (values_of (pieces d s))) →
+    ensures { (d : Dialect) (s : Statement) → HasText d s
+        → HasNumbers d (length (values_of (pieces d s))) →
         OnlyReading d (text_of d 0 (pieces d s)) (normal d s) }
 {}
 
@@ -39,8 +40,11 @@ pub fn filled_by_values()
 /// What a filled tree doesn't show: whether a selection is the default one, whether the statement is boxed, the marks that
 /// calls left, nullables, and lists inside lists.
 pub fn leaves_no_trace()
-    ensures selects { (d : Dialect) (default other_default : Bool) (e : Expr) (f : From) (u : Distinct) (w : MaybeExpr) (o : Order)
-        (rows : LimitOffsetClause) (by h : MaybeExpr) (b : Dialect) (all_nullable : Bool) (marks other_marks : Marks) →
+    ensures selects { (d : Dialect) (default other_default : Bool) (e : Expr) (f : From)
+        (u : Distinct) (w : MaybeExpr) (o : Order)
+        (rows : LimitOffsetClause) (by h : MaybeExpr) (b : Dialect) (all_nullable : Bool)
+        (marks other_marks : Marks)
+        →
         filled d (select default e f u w o rows by h (boxed b all_nullable) marks)
         ≡ filled d (select other_default e f u w o rows by h (unboxed NoLockingClause) other_marks) }
     ensures nullables { (d : Dialect) (e : Expr) → trees d (nullable e) ≡ trees d e }

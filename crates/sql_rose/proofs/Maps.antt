@@ -12,12 +12,19 @@ module _ {K J N M : Type 0} (make : K → ℕ → N) (turned : J → ℕ → M) 
     sizes-map (more t ts) = λ i. size-map t i + sizes-map ts i
 
   mutual
-    flat-map : (n : ℕ) (t : Rose K) (rest : List N) → flat turned n (rose_map f t) (map g rest) ≡ map g (flat make n t rest)
-    flat-map n (node k ts) rest = (λ i. turned (f k) (n + suc (sizes-map ts i)) ∷ flats-map (n + 1) ts rest i) ∙ ap (λ x. x ∷ map g (flats make (n + 1) ts rest)) (sym (g-make k (n + suc (sizes ts))))
+    flat-map : (n : ℕ) (t : Rose K) (rest : List N)
+        → flat turned n (rose_map f t) (map g rest) ≡ map g (flat make n t rest)
+    flat-map n (node k ts) rest =
+        (λ i. turned (f k) (n + suc (sizes-map ts i)) ∷ flats-map (n + 1) ts rest i)
+        ∙ ap (λ x. x ∷ map g (flats make (n + 1) ts rest)) (sym (g-make k (n + suc (sizes ts))))
 
-    flats-map : (n : ℕ) (ts : Roses K) (rest : List N) → flats turned n (roses_map f ts) (map g rest) ≡ map g (flats make n ts rest)
+    flats-map : (n : ℕ) (ts : Roses K) (rest : List N)
+        → flats turned n (roses_map f ts) (map g rest) ≡ map g (flats make n ts rest)
     flats-map n none rest = refl
-    flats-map n (more t ts) rest = (λ i. flat turned n (rose_map f t) (flats turned (n + size-map t i) (roses_map f ts) (map g rest))) ∙ ap (flat turned n (rose_map f t)) (flats-map (n + size t) ts rest) ∙ flat-map n t (flats make (n + size t) ts rest)
+    flats-map n (more t ts) rest =
+        (λ i. flat turned n (rose_map f t) (flats turned (n + size-map t i) (roses_map f ts) (map g rest)))
+        ∙ ap (flat turned n (rose_map f t)) (flats-map (n + size t) ts rest)
+        ∙ flat-map n t (flats make (n + size t) ts rest)
 
   pub list-map : (t : Rose K) → flat turned 0 (rose_map f t) [] ≡ map g (flat make 0 t [])
   list-map t = flat-map 0 t []

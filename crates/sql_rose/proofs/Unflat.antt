@@ -54,18 +54,29 @@ module _ {K N : Type 0} (make : K → ℕ → N) (kind : N → K) (end : N → �
 
   module _ (kind-make : (k : K) (e : ℕ) → kind (make k e) ≡ k) (end-make : (k : K) (e : ℕ) → end (make k e) ≡ e) where
     mutual
-      pub flat-law : (n : ℕ) (t : Rose K) (rest : List N) → fold n (flat make n t rest) ≡ (n, t) ∷ fold (n + size t) rest
+      pub flat-law : (n : ℕ) (t : Rose K) (rest : List N)
+          → fold n (flat make n t rest) ≡ (n, t) ∷ fold (n + size t) rest
       flat-law n (node k ts) rest =
-          let h : until (n + suc (sizes ts)) (fold (n + 1) (flats make (n + 1) ts rest)) ≡ (ts, fold (n + suc (sizes ts)) rest) = ap (until (n + suc (sizes ts))) (flats-law (n + 1) ts rest ∙ ap (λ m. put (n + 1) ts (fold m rest)) (omega arith)) ∙ until-put (n + 1) (n + suc (sizes ts)) ts (fold (n + suc (sizes ts)) rest) (omega arith) (fold-begins (n + suc (sizes ts)) rest) in
+          let h : until (n + suc (sizes ts)) (fold (n + 1) (flats make (n + 1) ts rest))
+          ≡ (ts, fold (n + suc (sizes ts)) rest) =
+          ap (until (n + suc (sizes ts)))
+          (flats-law (n + 1) ts rest ∙ ap (λ m. put (n + 1) ts (fold m rest)) (omega arith))
+          ∙ until-put (n + 1) (n + suc (sizes ts)) ts (fold (n + suc (sizes ts)) rest) (omega arith)
+          (fold-begins (n + suc (sizes ts)) rest) in
           rw (kind-make k (n + suc (sizes ts)), end-make k (n + suc (sizes ts)), h) refl
 
-      pub flats-law : (n : ℕ) (ts : Roses K) (rest : List N) → fold n (flats make n ts rest) ≡ put n ts (fold (n + sizes ts) rest)
+      pub flats-law : (n : ℕ) (ts : Roses K) (rest : List N)
+          → fold n (flats make n ts rest) ≡ put n ts (fold (n + sizes ts) rest)
       flats-law n none rest = ap (λ m. fold m rest) (omega arith)
-      flats-law n (more t ts) rest = flat-law n t (flats make (n + size t) ts rest) ∙ ap (λ σ. (n, t) ∷ σ) (flats-law (n + size t) ts rest ∙ ap (λ m. put (n + size t) ts (fold m rest)) (omega arith))
+      flats-law n (more t ts) rest =
+          flat-law n t (flats make (n + size t) ts rest)
+          ∙ ap (λ σ. (n, t) ∷ σ)
+          (flats-law (n + size t) ts rest ∙ ap (λ m. put (n + size t) ts (fold m rest)) (omega arith))
 
     -- one tree to a list
     pub one-tree : (a b : Rose K) → flat make 0 a [] ≡ flat make 0 b [] → a ≡ b
-    one-tree a b h = let p : (0, a) ∷ [] ≡ (0, b) ∷ [] = sym (flat-law 0 a []) ∙ ap (fold 0) h ∙ flat-law 0 b [] in ap (top a) p
+    one-tree a b h =
+        let p : (0, a) ∷ [] ≡ (0, b) ∷ [] = sym (flat-law 0 a []) ∙ ap (fold 0) h ∙ flat-law 0 b [] in ap (top a) p
       where
         top : Rose K → Stack → Rose K
         top a [] = a

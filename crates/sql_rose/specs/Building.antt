@@ -13,8 +13,12 @@ module _ {K N : Type 0} (make : K → ℕ → N) where
 
   -- nothing, but the node at a place got its end, the list's length
   pub data Closes (old : List N) (at : ℕ) (new : List N) : Type 0 where
-    closes : ((k : K) (e : ℕ) (before behind : List N) → old ≡ before ++ make k e ∷ behind → at ≡ length before → new ≡ before ++ make k (length old) ∷ behind) → Closes old at new
+    closes : ((k : K) (e : ℕ) (before behind : List N) → old ≡ before ++ make k e ∷ behind → at ≡ length before
+        → new ≡ before ++ make k (length old) ∷ behind)
+        → Closes old at new
 
   -- the last children of the node that was opened at a place, and its end
   pub data Finishes (old : List N) (at : ℕ) (us : Roses K) (new : List N) : Type 0 where
-    finishes : ((before : List N) (k : K) (ts : Roses K) → Opens before k ts at old → Adds before (one (node k (joined ts us))) new) → Finishes old at us new
+    finishes : ((before : List N) (k : K) (ts : Roses K) → Opens before k ts at old
+        → Adds before (one (node k (joined ts us))) new)
+        → Finishes old at us new

@@ -20,11 +20,14 @@ path o c = exposed_path o ++ c.sql_name ∷ []
 
 -- The path without its last part is the end of what the leaf exposes, and the last part is a column of the leaf's table.
 abbrev pub Names : List (List ℕ) → Origin → Type 0
-Names p leaf = (front : List (List ℕ)) × (last : List ℕ) × (p ≡ front ++ last ∷ []) × IsSuffix front (exposed_path leaf) × AnyOf (λ d. d.sql_name ≡ last) leaf.table.columns
+Names p leaf =
+    (front : List (List ℕ)) × (last : List ℕ) × (p ≡ front ++ last ∷ []) × IsSuffix front (exposed_path leaf)
+    × AnyOf (λ d. d.sql_name ≡ last) leaf.table.columns
 
 -- A path names exactly one leaf of a view, at a place k, and that leaf is this one.
 abbrev pub NamesOnly : View → List (List ℕ) → Origin → Type 0
-NamesOnly v p o = (k : ℕ) × (slice_get v k ≡ Some o) × Names p o × ((j : ℕ) (l : Origin) → slice_get v j ≡ Some l → Names p l → j ≡ k)
+NamesOnly v p o =
+    (k : ℕ) × (slice_get v k ≡ Some o) × Names p o × ((j : ℕ) (l : Origin) → slice_get v j ≡ Some l → Names p l → j ≡ k)
 
 abbrev pub IsNamed : View → Expr → Type 0
 IsNamed v (column o c) = NamesOnly v (path o c) o

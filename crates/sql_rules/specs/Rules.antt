@@ -57,7 +57,8 @@ IsUnknownColumn schema _ = ⊥
 
 -- UnknownName: nor is a table
 abbrev pub HasUnknownName : Declarations → View → Select → Type 0
-HasUnknownName schema outer s = AnyOf (λ o. ¬ IsTable schema o.table) (own s) ⊎ AnyExpr (λ v. IsUnknownColumn schema) outer s
+HasUnknownName schema outer s =
+    AnyOf (λ o. ¬ IsTable schema o.table) (own s) ⊎ AnyExpr (λ v. IsUnknownColumn schema) outer s
 
 -- NotTogether: two tables differ and may not stand in one statement (diesel, `TableNotEqual`)
 abbrev pub MayNotMeet : Declarations → Origin → Origin → Type 0
@@ -106,7 +107,8 @@ misuse m = m.no_source || (m.find_source || (m.second_lock || (m.no_lock || m.bo
 -- Incompatible (diesel, `LockingDsl`, `HavingDsl`; PostgreSQL, SELECT, The Locking Clause)
 abbrev pub IsIncompatible : Select → Type 0
 IsIncompatible s =
-    IsTrue (misuse s.marks) ⊎ ((HasLock s.form × (IsDistinct s.distinctness ⊎ (Present s.group_by ⊎ Present s.having_by)))
+    IsTrue (misuse s.marks)
+    ⊎ ((HasLock s.form × (IsDistinct s.distinctness ⊎ (Present s.group_by ⊎ Present s.having_by)))
     ⊎ (Present s.having_by × ¬ Present s.group_by))
 
 -- ---- lists
@@ -167,7 +169,8 @@ IsBool (Some t) = t.base ≡ BoolBase
 -- TypeMismatch: an expression has no type, a value does not fit its own, or a condition is not Bool (diesel, `Expression`,
 -- `AsExpression`, `BoolOrNullableBool`)
 abbrev pub IsIllTypedClause : Clause → Type 0
-IsIllTypedClause c = AnyOf (λ e. AnyOf IsIllTyped (nodes e)) (tops c.place c.expr) ⊎ (IsCondition c.place × ¬ IsBool (type_of c.expr))
+IsIllTypedClause c =
+    AnyOf (λ e. AnyOf IsIllTyped (nodes e)) (tops c.place c.expr) ⊎ (IsCondition c.place × ¬ IsBool (type_of c.expr))
 
 -- ---- outer joins
 
@@ -200,7 +203,9 @@ IsSelected _ = ⊥
 
 -- the source's rows may be missing; one that is found twice is left to Ambiguous
 abbrev pub IsPadded : Select → Origin → Type 0
-IsPadded s o = AnyOf (λ l. (l.origin ≡ o) × IsTrue (is_padded l)) (leaves_of s.source) × ¬ AnyPair (λ a b. (a ≡ o) × (b ≡ o)) (own s)
+IsPadded s o =
+    AnyOf (λ l. (l.origin ≡ o) × IsTrue (is_padded l)) (leaves_of s.source)
+    × ¬ AnyPair (λ a b. (a ≡ o) × (b ≡ o)) (own s)
 
 -- NeedsNullable: a column that may be NULL for want of its row is selected as it is (diesel, `SelectableExpression` for
 -- `Join`)
@@ -234,7 +239,8 @@ distinct_verdict g (distinct_on e) = verdict g e
 -- The order of a boxed statement is not looked at.
 abbrev pub IsMisgrouped : Select → Type 0
 IsMisgrouped s =
-    (HasAggregate s.where_by ⊎ HasAggregate s.group_by) ⊎ (((verdict s.group_by s.selection ≡ NoVerdict) ⊎ (distinct_verdict s.group_by s.distinctness ≡ NoVerdict))
+    (HasAggregate s.where_by ⊎ HasAggregate s.group_by)
+    ⊎ (((verdict s.group_by s.selection ≡ NoVerdict) ⊎ (distinct_verdict s.group_by s.distinctness ≡ NoVerdict))
     ⊎ (IsUnboxed s.form × ((mix (verdict s.group_by s.selection) (order_verdict s.group_by s.order) ≡ NoVerdict)
     ⊎ (mix (verdict s.group_by s.selection) (distinct_verdict s.group_by s.distinctness) ≡ NoVerdict))))
 
@@ -243,7 +249,8 @@ IsMisgrouped s =
 -- InvalidDistinctOrder: an item of the order is not the expression of DISTINCT ON at its place, values and lengths of value
 -- lists aside (PostgreSQL, SELECT, DISTINCT Clause; diesel, `ValidOrderingForDistinct`)
 abbrev pub OrderDiffers : Form → Distinct → Order → Type 0
-OrderDiffers (unboxed l) (distinct_on e) (order_by is) = Differ (λ x y. expr_shape x ≢ expr_shape y) (flat e) (flat_items is)
+OrderDiffers (unboxed l) (distinct_on e) (order_by is) =
+    Differ (λ x y. expr_shape x ≢ expr_shape y) (flat e) (flat_items is)
 OrderDiffers _ _ _ = ⊥
 
 -- ---- what a dialect has
@@ -295,7 +302,8 @@ FromHasMarks (from f) = HasTableMarks f
 -- can write an offset alone in a boxed statement.
 abbrev pub IsSelectUnsupported : Dialect → Select → Type 0
 IsSelectUnsupported d s =
-    (IsNotPg d × (IsDistinctOn s.distinctness ⊎ FromHasMarks s.source)) ⊎ (LacksForm d s.form ⊎ (IsMysql d × (IsUnboxed s.form × IsOffsetAlone s.rows)))
+    (IsNotPg d × (IsDistinctOn s.distinctness ⊎ FromHasMarks s.source))
+    ⊎ (LacksForm d s.form ⊎ (IsMysql d × (IsUnboxed s.form × IsOffsetAlone s.rows)))
 
 abbrev pub IsCombinationUnsupported : Dialect → Combination → Type 0
 IsCombinationUnsupported d c = (combines d c.combinator c.duplicates ≡ false) ⊎ (IsMysql d × IsOffsetAlone c.rows)
@@ -346,5 +354,7 @@ Accepted schema d s = (r : Rule) → ¬ Broken r schema d s
 -- in the order in which they are told
 abbrev pub all_rules : List Rule
 all_rules =
-    R.UnknownName ∷ (R.Incompatible ∷ (R.EmptyList ∷ (R.NoRelation ∷ (R.Ambiguous ∷ (R.NotTogether ∷ (R.NameClash ∷ (R.NotInScope ∷ (R.TypeMismatch
+    R.UnknownName
+    ∷ (R.Incompatible
+    ∷ (R.EmptyList ∷ (R.NoRelation ∷ (R.Ambiguous ∷ (R.NotTogether ∷ (R.NameClash ∷ (R.NotInScope ∷ (R.TypeMismatch
     ∷ (R.NeedsNullable ∷ (R.Grouping ∷ (R.InvalidDistinctOrder ∷ (R.Unsupported ∷ (R.TooManyBinds ∷ [])))))))))))))

@@ -113,11 +113,24 @@ abbrev mutual
   -- the statement and those inside it, in the order in which they are written
   pub parts : View → Statement → List Part
   parts outer (select default e f u w o rows g h form marks) =
-      a_select outer (record { selection = e; source = f; distinctness = u; where_by = w; order = o; rows = rows; group_by = g; having_by = h; form = form; marks = marks })
+      a_select outer
+      (record {
+        selection = e;
+        source = f;
+        distinctness = u;
+        where_by = w;
+        order = o;
+        rows = rows;
+        group_by = g;
+        having_by = h;
+        form = form;
+        marks = marks;
+      })
       ∷ (in_distinct (origins_of f) u ++ (in_expr (origins_of f) e ++ (in_from f ++ (in_maybe (widest form f outer) w
       ++ (in_maybe (origins_of f) g ++ (in_maybe (origins_of f) h ++ in_order (origins_of f) o))))))
   parts outer (combination by all a b o rows) =
-      a_combination (record { combinator = by; duplicates = all; left = a; right = b; order = o; rows = rows }) ∷ (parts outer a ++ parts outer b)
+      a_combination (record { combinator = by; duplicates = all; left = a; right = b; order = o; rows = rows })
+      ∷ (parts outer a ++ parts outer b)
 
 -- ---- the clauses of a select statement
 
@@ -169,7 +182,8 @@ own s = origins_of s.source
 -- in the order in which they are written: WHERE sees the second view, ON the leaves of its two sides, each other clause the first
 abbrev pub clauses_by : View → View → Select → List Clause
 clauses_by v w s =
-    distinct_clause v s.distinctness ++ (record { place = in_selection; view = v; expr = s.selection } ∷ (ons_of s.source
+    distinct_clause v s.distinctness
+    ++ (record { place = in_selection; view = v; expr = s.selection } ∷ (ons_of s.source
     ++ (maybe_clause in_where w s.where_by ++ (maybe_clause in_group_by v s.group_by
     ++ (maybe_clause in_having v s.having_by ++ order_clauses v s.order)))))
 

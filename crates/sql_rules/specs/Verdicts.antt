@@ -64,7 +64,8 @@ mix NoVerdict v = NoVerdict
 -- of a column, by the group by list: that list has the column itself, or the whole primary key of its source
 abbrev pub column_verdict : MaybeExpr → Origin → ColumnDecl → Verdict
 column_verdict no_expr o c = No
-column_verdict (an_expr group) o c = if holds_column (fields group) o c.name || holds_key (fields group) o then Yes else NoVerdict
+column_verdict (an_expr group) o c =
+    if holds_column (fields group) o c.name || holds_key (fields group) o then Yes else NoVerdict
 
 -- of an expression, and of a list the mix of its elements'
 abbrev mutual

@@ -30,7 +30,7 @@ pub enum Rule {
     InvalidDistinctOrder,
     /// What the dialect lacks.
     Unsupported,
-    /// More placeholders than PostgreSQL's can be numbered.
+    /// More values than PostgreSQL has numbers for placeholders.
     TooManyBinds,
 }
 

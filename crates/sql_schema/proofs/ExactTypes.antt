@@ -24,5 +24,7 @@ exact-base a b h = same_true the_type tt a b h
 pub exact-type : IsExact (type_eq.ghosts).eq
 exact-type a b h =
     let p = exact-base a.base b.base (first_so ((base_eq.ghosts).eq a.base b.base) (beq a.nullable b.nullable) h) in
-    let q = exact-bool a.nullable b.nullable (second_so ((base_eq.ghosts).eq a.base b.base) (beq a.nullable b.nullable) h) in
+    let q =
+    exact-bool a.nullable b.nullable
+    (second_so ((base_eq.ghosts).eq a.base b.base) (beq a.nullable b.nullable) h) in
     λ i. record { base = p i; nullable = q i }

@@ -14,7 +14,8 @@ pub record IsUnrefused (s : Declarations) : Type 0 where
   pub know_tables : names_unknown_table s ≡ false
   pub relate_well : has_bad_joinable s ≡ false
 
-not-refused : {X : Type 0} (b : Bool) (e : X) (o : Option X) → (if b then Some e else o) ≡ None → (b ≡ false) × (o ≡ None)
+not-refused : {X : Type 0} (b : Bool) (e : X) (o : Option X) → (if b then Some e else o) ≡ None
+    → (b ≡ false) × (o ≡ None)
 not-refused true e o h = cc
 not-refused false e o h = (refl, h)
 
@@ -27,7 +28,14 @@ none-refused s h =
     let four = not-refused (list_any lacks_key s.tables) UnknownKey _ three.1 in
     let five = not-refused (names_unknown_table s) UnknownTable _ four.1 in
     let six = not-refused (has_bad_joinable s) BadJoinable _ five.1 in
-    record { tables_differ = one.0; have_columns = two.0; columns_differ = three.0; have_keys = four.0; know_tables = five.0; relate_well = six.0 }
+    record {
+      tables_differ = one.0;
+      have_columns = two.0;
+      columns_differ = three.0;
+      have_keys = four.0;
+      know_tables = five.0;
+      relate_well = six.0;
+    }
 
 -- a table with nothing wrong
 sound : (b c d : Bool) → b ≡ false → c ≡ false → d ≡ false → (b || (c || d)) ≡ false
@@ -37,13 +45,16 @@ neither : (b c : Bool) → (b || c) ≡ false → (b ≡ false) × (c ≡ false)
 neither true c h = cc
 neither false c h = (refl, h)
 
-all-sound : (tables : List TableDecl) → list_any lacks_columns tables ≡ false → list_any has_duplicate_column tables ≡ false → list_any lacks_key tables ≡ false → list_any is_unsound tables ≡ false
+all-sound : (tables : List TableDecl) → list_any lacks_columns tables ≡ false
+    → list_any has_duplicate_column tables ≡ false → list_any lacks_key tables ≡ false
+    → list_any is_unsound tables ≡ false
 all-sound [] p q r = refl
 all-sound (t ∷ ts) p q r =
     let a = neither (lacks_columns t) (list_any lacks_columns ts) p in
     let b = neither (has_duplicate_column t) (list_any has_duplicate_column ts) q in
     let c = neither (lacks_key t) (list_any lacks_key ts) r in
-    ap (λ x. x || list_any is_unsound ts) (sound (lacks_columns t) (has_duplicate_column t) (lacks_key t) a.0 b.0 c.0) ∙ all-sound ts a.1 b.1 c.1
+    ap (λ x. x || list_any is_unsound ts) (sound (lacks_columns t) (has_duplicate_column t) (lacks_key t) a.0 b.0 c.0)
+    ∙ all-sound ts a.1 b.1 c.1
 
 pub none-sound : (s : Declarations) → least_refusal s ≡ None → list_any is_unsound s.tables ≡ false
 none-sound s h = let u = none-refused s h in all-sound s.tables u.have_columns u.columns_differ u.have_keys

@@ -62,13 +62,15 @@ lacks_table tables a b = not (has_table tables a) || not (has_table tables b)
 
 abbrev pub names_unknown_table : Declarations → Bool
 names_unknown_table s =
-    list_any (λ j. lacks_table s.tables j.child j.parent) s.joinables || list_any (λ p. lacks_table s.tables p.0 p.1) s.together
+    list_any (λ j. lacks_table s.tables j.child j.parent) s.joinables
+    || list_any (λ p. lacks_table s.tables p.0 p.1) s.together
 
 -- ---- six: a relation that can't stand
 
 -- one table to the other, or the other to the one
 abbrev pub relate_alike : JoinableDecl → JoinableDecl → Bool
-relate_alike a b = (bytes_eq a.child b.child && bytes_eq a.parent b.parent) || (bytes_eq a.child b.parent && bytes_eq a.parent b.child)
+relate_alike a b =
+    (bytes_eq a.child b.child && bytes_eq a.parent b.parent) || (bytes_eq a.child b.parent && bytes_eq a.parent b.child)
 
 abbrev pub same_base : Base → Base → Bool
 same_base = (base_eq.ghosts).eq
@@ -89,11 +91,13 @@ bases_agree (Some c) (Some k) = same_base c.ty.base k.ty.base
 abbrev pub refers : Option TableDecl → Option TableDecl → List ℕ → Bool
 refers None parent key = true
 refers (Some child) None key = true
-refers (Some child) (Some parent) key = bases_agree (column_named child.columns key) (single_column parent.primary_key parent.columns)
+refers (Some child) (Some parent) key =
+    bases_agree (column_named child.columns key) (single_column parent.primary_key parent.columns)
 
 -- the child and the parent are one table, or the column doesn't refer to the key
 abbrev pub is_bad_joinable : List TableDecl → JoinableDecl → Bool
-is_bad_joinable tables j = bytes_eq j.child j.parent || not (refers (table_named tables j.child) (table_named tables j.parent) j.key)
+is_bad_joinable tables j =
+    bytes_eq j.child j.parent || not (refers (table_named tables j.child) (table_named tables j.parent) j.key)
 
 abbrev pub has_bad_joinable : Declarations → Bool
 has_bad_joinable s = list_any (λ j. is_bad_joinable s.tables j) s.joinables || any_two relate_alike s.joinables

@@ -147,7 +147,8 @@ fn find_single<'d>(key: &[SqlText], columns: &'d [ColumnDecl]) -> Option<&'d Col
 }
 
 fn bases_agree(column: Option<&ColumnDecl>, key: Option<&ColumnDecl>) -> bool
-    ensures { result ≡ agree (option_map (λ c. c.now) column.entry) (option_map (λ c. c.now) key.entry) }
+    ensures { result
+        ≡ agree (option_map (λ c. c.now) column.entry) (option_map (λ c. c.now) key.entry) }
 {
     match column {
         None => false,
@@ -159,7 +160,9 @@ fn bases_agree(column: Option<&ColumnDecl>, key: Option<&ColumnDecl>) -> bool
 }
 
 fn refers(child: Option<&TableDecl>, parent: Option<&TableDecl>, key: &SqlText) -> bool
-    ensures { result ≡ referring (option_map (λ t. t.now) child.entry) (option_map (λ t. t.now) parent.entry) key.now }
+    ensures { result
+        ≡ referring (option_map (λ t. t.now) child.entry) (option_map (λ t. t.now) parent.entry)
+        key.now }
 {
     match child {
         None => true,
@@ -212,13 +215,19 @@ fn names_unknown_table(
     joinables: &[JoinableDecl],
     together: &[(SqlText, SqlText)],
 ) -> bool
-    ensures { result ≡ table_unknown (record { tables = tables.now; joinables = joinables.now; together = together.now }) }
+    ensures { result
+        ≡ table_unknown (record {
+          tables = tables.now;
+          joinables = joinables.now;
+          together = together.now;
+        }) }
 {
     any_relation_lacks_table(tables, joinables) || any_pair_lacks_table(tables, together)
 }
 
 fn has_bad_joinable(tables: &[TableDecl], joinables: &[JoinableDecl]) -> bool
-    ensures { result ≡ (list_any (λ j. bad tables.now j) joinables.now || any_two relate_alike joinables.now) }
+    ensures { result
+        ≡ (list_any (λ j. bad tables.now j) joinables.now || any_two relate_alike joinables.now) }
 {
     any_is_bad(tables, joinables) || any_two_clash(joinables)
 }
@@ -230,7 +239,12 @@ pub(crate) fn refusal(
     joinables: &[JoinableDecl],
     together: &[(SqlText, SqlText)],
 ) -> Option<SchemaError>
-    ensures { result ≡ least_refusal (record { tables = tables.now; joinables = joinables.now; together = together.now }) }
+    ensures { result
+        ≡ least_refusal (record {
+          tables = tables.now;
+          joinables = joinables.now;
+          together = together.now;
+        }) }
 {
     if any_two_clash(tables) {
         return Some(SchemaError::DuplicateTable);

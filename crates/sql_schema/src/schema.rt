@@ -23,7 +23,11 @@ impl Model for SchemaBuilder {
 
     ghost Value = { Declarations };
 
-    ghost view = { λ b. record { tables = b.tables.items; joinables = b.joinables.items; together = b.together.items } };
+    ghost view = { λ b. record {
+      tables = b.tables.items;
+      joinables = b.joinables.items;
+      together = b.together.items;
+    } };
 }
 
 fn copied(alloc: Global, text: &str) -> Result<SqlText, NoMemory>
@@ -52,7 +56,8 @@ impl SchemaBuilder {
 
     /// Declares a table.
     pub fn table(&mut self, decl: TableDecl) -> Result<(), NoMemory>
-        ensures ok { OnOk result (self.new ≡ record self.old { tables = self.old.tables ++ decl ∷ [] }) }
+        ensures ok { OnOk result
+            (self.new ≡ record self.old { tables = self.old.tables ++ decl ∷ [] }) }
         ensures err { OnErr result (self.new ≡ self.old) }
     {
         self.tables.push(decl)?;
@@ -61,7 +66,14 @@ impl SchemaBuilder {
 
     /// Declares that the column `key` of `child` refers to the key of `parent`, so that joins of the two know their ON.
     pub fn joinable(&mut self, child: &str, key: &str, parent: &str) -> Result<(), NoMemory>
-        ensures ok { OnOk result (self.new ≡ record self.old { joinables = self.old.joinables ++ (record { child = child.now; key = key.now; parent = parent.now }) ∷ [] }) }
+        ensures ok { OnOk result
+            (self.new
+            ≡ record self.old {
+              joinables =
+                  self.old.joinables
+                  ++ (record { child = child.now; key = key.now; parent = parent.now })
+                  ∷ [];
+            }) }
         ensures err { OnErr result (self.new ≡ self.old) }
     {
         let child = copied(self.alloc, child)?;
@@ -73,7 +85,8 @@ impl SchemaBuilder {
 
     /// Declares that the two tables may stand in one statement.
     pub fn together(&mut self, a: &str, b: &str) -> Result<(), NoMemory>
-        ensures ok { OnOk result (self.new ≡ record self.old { together = self.old.together ++ (a.now, b.now) ∷ [] }) }
+        ensures ok { OnOk result
+            (self.new ≡ record self.old { together = self.old.together ++ (a.now, b.now) ∷ [] }) }
         ensures err { OnErr result (self.new ≡ self.old) }
     {
         let a = copied(self.alloc, a)?;
@@ -135,9 +148,18 @@ impl Model for Schema {
 
     ghost Value = { Declarations };
 
-    ghost view = { λ s. record { tables = s.tables.items; joinables = s.joinables.items; together = s.together.items } };
+    ghost view = { λ s. record {
+      tables = s.tables.items;
+      joinables = s.joinables.items;
+      together = s.together.items;
+    } };
 
-    ghost invariant = { λ s. least_refusal (record { tables = s.tables.items; joinables = s.joinables.items; together = s.together.items }) ≡ None };
+    ghost invariant = { λ s. least_refusal (record {
+      tables = s.tables.items;
+      joinables = s.joinables.items;
+      together = s.together.items;
+    })
+        ≡ None };
 }
 
 impl Schema {

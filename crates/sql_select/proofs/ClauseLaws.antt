@@ -9,12 +9,26 @@ use Rattle.sql_select.specs.Clauses.{Clauses, statement_of, changed, rows_change
 use Rattle.sql_select.specs.Changes.{columns_as_selected, filtered, items_then, items_in, ordered, ordered_then, selected}
 use Rattle.sql_select.specs.Parts.{clauses_of}
 
-pub twice : (f g h : Clauses → Clauses) → ((c : Clauses) → f (g c) ≡ h c) → (s : Statement) → changed f (changed g s) ≡ changed h s
+pub twice : (f g h : Clauses → Clauses) → ((c : Clauses) → f (g c) ≡ h c) → (s : Statement)
+    → changed f (changed g s) ≡ changed h s
 twice f g h is (select d e s u w o r x y form m) =
-    ap statement_of (is (record { selection = (d, e); source = s; distinct = u; condition = w; order = o; rows = r; group_by = x; having = y; form = form; marks = m }))
+    ap statement_of
+    (is (record {
+      selection = (d, e);
+      source = s;
+      distinct = u;
+      condition = w;
+      order = o;
+      rows = r;
+      group_by = x;
+      having = y;
+      form = form;
+      marks = m;
+    }))
 twice f g h is (combination by all a b o r) = refl
 
-pub rows-twice : (f g h : LimitOffsetClause → LimitOffsetClause) → ((r : LimitOffsetClause) → f (g r) ≡ h r) → (s : Statement) → rows_changed f (rows_changed g s) ≡ rows_changed h s
+pub rows-twice : (f g h : LimitOffsetClause → LimitOffsetClause) → ((r : LimitOffsetClause) → f (g r) ≡ h r)
+    → (s : Statement) → rows_changed f (rows_changed g s) ≡ rows_changed h s
 rows-twice f g h is (select d e s u w o r x y form m) = ap (λ q. select d e s u w o q x y form m) (is r)
 rows-twice f g h is (combination by all a b o r) = ap (λ q. combination by all a b o q) (is r)
 
@@ -41,14 +55,18 @@ ordered_in is c = record c { order = order_by (items_then (items_in c.order) is)
 ordered_in-append : (is js : Items) (c : Clauses) → ordered_in js (ordered_in is c) ≡ ordered_in (items_then is js) c
 ordered_in-append is js c = ap (λ all. record c { order = order_by all }) (items-append (items_in c.order) is js)
 
-pub ordered-append : (is js : Items) (s : Statement) → ordered_then js (ordered_then is s) ≡ ordered_then (items_then is js) s
+pub ordered-append : (is js : Items) (s : Statement)
+    → ordered_then js (ordered_then is s) ≡ ordered_then (items_then is js) s
 ordered-append is js = twice (ordered_in js) (ordered_in is) (ordered_in (items_then is js)) (ordered_in-append is js)
 
-pub or-filter : (a b : Expr) (s : Statement) → option_map (λ c. c.condition) (clauses_of s) ≡ Some no_expr → filtered Or b (filtered And a s) ≡ filtered And (joined Or a b) s
+pub or-filter : (a b : Expr) (s : Statement) → option_map (λ c. c.condition) (clauses_of s) ≡ Some no_expr
+    → filtered Or b (filtered And a s) ≡ filtered And (joined Or a b) s
 or-filter a b (select d e s u no_expr o r x y form m) is = refl
 or-filter a b (select d e s u (an_expr w) o r x y form m) is = cc
 or-filter a b (combination by all l r o rows) is = refl
 
-pub filter-append : (a b : Expr) (s : Statement) → option_map (λ c. c.condition) (clauses_of (filtered And b (filtered And a s))) ≡ option_map (λ c. an_expr (joined And (beside And c.condition a) b)) (clauses_of s)
+pub filter-append : (a b : Expr) (s : Statement)
+    → option_map (λ c. c.condition) (clauses_of (filtered And b (filtered And a s)))
+    ≡ option_map (λ c. an_expr (joined And (beside And c.condition a) b)) (clauses_of s)
 filter-append a b (select d e s u w o r x y form m) = refl
 filter-append a b (combination by all l r o rows) = refl

@@ -21,12 +21,24 @@ pub record Clauses : Type 0 where
   pub marks : Marks
 
 abbrev pub statement_of : Clauses → Statement
-statement_of c = select c.selection.0 c.selection.1 c.source c.distinct c.condition c.order c.rows c.group_by c.having c.form c.marks
+statement_of c =
+    select c.selection.0 c.selection.1 c.source c.distinct c.condition c.order c.rows c.group_by c.having c.form c.marks
 
 -- A select statement with its clauses changed. A combination has none of them, and stays.
 abbrev pub changed : (Clauses → Clauses) → Statement → Statement
 changed f (select d e s u w o r g h form m) =
-    statement_of (f (record { selection = (d, e); source = s; distinct = u; condition = w; order = o; rows = r; group_by = g; having = h; form = form; marks = m }))
+    statement_of (f (record {
+      selection = (d, e);
+      source = s;
+      distinct = u;
+      condition = w;
+      order = o;
+      rows = r;
+      group_by = g;
+      having = h;
+      form = form;
+      marks = m;
+    }))
 changed f (combination by all a b o r) = combination by all a b o r
 
 -- Limit and offset changed, which a combination has as well.

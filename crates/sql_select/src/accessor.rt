@@ -13,39 +13,48 @@ use sql_expr::{
 pub trait SelectStatementAccessor: Query {
     /// What is selected: by default or as given.
     fn select_clause(&self) -> &SelectClause
-        ensures { Some (select_clause_tree result.now) ≡ option_map (λ c. c.selection) (clauses_of (Self.statement self.now)) };
+        ensures { Some (select_clause_tree result.now)
+            ≡ option_map (λ c. c.selection) (clauses_of (Self.statement self.now)) };
 
     /// The source, where there is one.
     fn from_clause(&self) -> &FromClause
-        ensures { Some (from_clause_tree result.now) ≡ option_map (λ c. c.source) (clauses_of (Self.statement self.now)) };
+        ensures { Some (from_clause_tree result.now)
+            ≡ option_map (λ c. c.source) (clauses_of (Self.statement self.now)) };
 
     /// Whether equal rows are given once.
     fn distinct_clause(&self) -> &DistinctClause
-        ensures { Some (distinct_clause_tree result.now) ≡ option_map (λ c. c.distinct) (clauses_of (Self.statement self.now)) };
+        ensures { Some (distinct_clause_tree result.now)
+            ≡ option_map (λ c. c.distinct) (clauses_of (Self.statement self.now)) };
 
     /// The condition on rows, where there is one.
     fn where_clause(&self) -> &WhereClause
-        ensures { Some (where_clause_tree result.now) ≡ option_map (λ c. c.condition) (clauses_of (Self.statement self.now)) };
+        ensures { Some (where_clause_tree result.now)
+            ≡ option_map (λ c. c.condition) (clauses_of (Self.statement self.now)) };
 
     /// The order, where there is one.
     fn order_clause(&self) -> &OrderClause
-        ensures { Some (order_clause_tree result.now) ≡ option_map (λ c. c.order) (clauses_of (Self.statement self.now)) };
+        ensures { Some (order_clause_tree result.now)
+            ≡ option_map (λ c. c.order) (clauses_of (Self.statement self.now)) };
 
     /// Limit and offset, each where there is one.
     fn limit_offset_clause(&self) -> &LimitOffsetClause
-        ensures { Some result.now ≡ option_map (λ c. c.rows) (clauses_of (Self.statement self.now)) };
+        ensures { Some result.now
+            ≡ option_map (λ c. c.rows) (clauses_of (Self.statement self.now)) };
 
     /// What groups are made by, where there are groups.
     fn group_by_clause(&self) -> &GroupByClause
-        ensures { Some (group_by_clause_tree result.now) ≡ option_map (λ c. c.group_by) (clauses_of (Self.statement self.now)) };
+        ensures { Some (group_by_clause_tree result.now)
+            ≡ option_map (λ c. c.group_by) (clauses_of (Self.statement self.now)) };
 
     /// The condition on groups, where there is one.
     fn having_clause(&self) -> &HavingClause
-        ensures { Some (having_clause_tree result.now) ≡ option_map (λ c. c.having) (clauses_of (Self.statement self.now)) };
+        ensures { Some (having_clause_tree result.now)
+            ≡ option_map (λ c. c.having) (clauses_of (Self.statement self.now)) };
 
     /// The lock, where there is one.
     fn locking_clause(&self) -> &LockingClause
-        ensures { Some (unboxed result.now) ≡ option_map (λ c. c.form) (clauses_of (Self.statement self.now)) };
+        ensures { Some (unboxed result.now)
+            ≡ option_map (λ c. c.form) (clauses_of (Self.statement self.now)) };
 }
 
 impl SelectStatementAccessor for SelectStatement {

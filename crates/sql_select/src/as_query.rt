@@ -17,7 +17,8 @@ use std::alloc::Global;
 
 /// A statement with this selection and source, and no other clause.
 fn bare_select(select: SelectClause, from: FromClause) -> SelectStatement
-    ensures { select_statement_tree result ≡ bare (select_clause_tree select).0 (select_clause_tree select).1 (from_clause_tree from) }
+    ensures { select_statement_tree result
+        ≡ bare (select_clause_tree select).0 (select_clause_tree select).1 (from_clause_tree from) }
 {
     SelectStatement {
         select,

@@ -1,6 +1,6 @@
 #![tactic(auto)]
 
-ghost use Rattle.std.specs.Prelude.{◌≡◌, IfOk, Ok};
+ghost use Rattle.std.specs.Prelude.{◌≡◌, IfOk, IsOk, Ok};
 
 use sql_schema::NoMemory;
 
@@ -14,6 +14,7 @@ pub(crate) fn beside<S: Drop, T>(
 ) -> Result<(S, T), NoMemory>
     ensures statement { IfOk result (λ p. p.0 ≡ statement) }
     ensures made { IfOk result (λ p. made ≡ Ok p.1) }
+    ensures kept { IsOk made → IsOk result }
 {
     match made {
         Ok(made) => Ok((statement, made)),

@@ -20,7 +20,7 @@ use sql_pass::{AstPass, PassError, QueryFragment};
 pub trait IntoBoxedClause {
     ghost rows: { Self → LimitOffsetClause };
 
-    /// In MySQL and SQLite an offset alone is then written behind the greatest limit.
+    /// In MySQL an offset alone is then written behind the greatest limit: ` LIMIT 18446744073709551615 OFFSET ?`.
     fn into_boxed(self) -> BoxedLimitOffset
         ensures { result.0 ≡ rows self };
 }
@@ -37,7 +37,9 @@ pub trait BoxedDsl: Query {
 pub trait BoxedQueryHelper: Query {
     /// Writes the statement, as `walk_ast` does.
     fn build_query<DB: Backend>(&self, pass: &mut AstPass<DB>) -> Result<(), PassError>
-        ensures { Walks DB.speaks (held DB.QueryBuilder.text DB.QueryBuilder.count pass.old) (pieces DB.speaks (Self.statement self.now)) result (held DB.QueryBuilder.text DB.QueryBuilder.count pass.new) };
+        ensures { Walks DB.speaks (held DB.QueryBuilder.text DB.QueryBuilder.count pass.old)
+            (pieces DB.speaks (Self.statement self.now)) result
+            (held DB.QueryBuilder.text DB.QueryBuilder.count pass.new) };
 }
 
 impl IntoBoxedClause for LimitOffsetClause {

@@ -26,7 +26,8 @@ fn combine(
     source: Statement,
     rhs: Statement,
 ) -> Result<CombinationClause, NoMemory>
-    ensures { IfOk result (λ c. combination_clause_tree c ≡ combined combinator duplicate_rule (statement_tree source) (statement_tree rhs)) }
+    ensures { IfOk result (λ c. combination_clause_tree c
+        ≡ combined combinator duplicate_rule (statement_tree source) (statement_tree rhs)) }
 {
     Ok(CombinationClause {
         combinator,
@@ -48,7 +49,8 @@ fn distinct(
     source: Statement,
     rhs: Statement,
 ) -> Result<CombinationClause, NoMemory>
-    ensures { IfOk result (λ c. combination_clause_tree c ≡ combined combinator rule.Distinct (statement_tree source) (statement_tree rhs)) }
+    ensures { IfOk result (λ c. combination_clause_tree c
+        ≡ combined combinator rule.Distinct (statement_tree source) (statement_tree rhs)) }
 {
     combine(alloc, combinator, DuplicateRule::Distinct, source, rhs)
 }
@@ -60,7 +62,8 @@ fn all(
     source: Statement,
     rhs: Statement,
 ) -> Result<CombinationClause, NoMemory>
-    ensures { IfOk result (λ c. combination_clause_tree c ≡ combined combinator rule.All (statement_tree source) (statement_tree rhs)) }
+    ensures { IfOk result (λ c. combination_clause_tree c
+        ≡ combined combinator rule.All (statement_tree source) (statement_tree rhs)) }
 {
     combine(alloc, combinator, DuplicateRule::All, source, rhs)
 }
@@ -69,46 +72,53 @@ fn all(
 pub trait CombineDsl: Query {
     /// The rows of either, equal ones once.
     final fn union(self, alloc: Global, rhs: Statement) -> Result<CombinationClause, NoMemory>
-        ensures { IfOk result (λ c. combination_clause_tree c ≡ combined by.Union rule.Distinct (Self.statement self) (statement_tree rhs)) }
+        ensures { IfOk result (λ c. combination_clause_tree c
+            ≡ combined by.Union rule.Distinct (Self.statement self) (statement_tree rhs)) }
     {
         distinct(alloc, Combinator::Union, self.into_statement(), rhs)
     }
 
     /// The rows of either, each as often as both have it together.
     final fn union_all(self, alloc: Global, rhs: Statement) -> Result<CombinationClause, NoMemory>
-        ensures { IfOk result (λ c. combination_clause_tree c ≡ combined by.Union rule.All (Self.statement self) (statement_tree rhs)) }
+        ensures { IfOk result (λ c. combination_clause_tree c
+            ≡ combined by.Union rule.All (Self.statement self) (statement_tree rhs)) }
     {
         all(alloc, Combinator::Union, self.into_statement(), rhs)
     }
 
-    /// The rows of both, equal ones once.
+    /// The rows of both, equal ones once. MySQL lacks it.
     final fn intersect(self, alloc: Global, rhs: Statement) -> Result<CombinationClause, NoMemory>
-        ensures { IfOk result (λ c. combination_clause_tree c ≡ combined by.Intersect rule.Distinct (Self.statement self) (statement_tree rhs)) }
+        ensures { IfOk result (λ c. combination_clause_tree c
+            ≡ combined by.Intersect rule.Distinct (Self.statement self) (statement_tree rhs)) }
     {
         distinct(alloc, Combinator::Intersect, self.into_statement(), rhs)
     }
 
-    /// The rows of both, each as often as the one that has it less often. SQLite lacks it.
+    /// The rows of both, each as often as the one that has it less often. MySQL and SQLite lack it.
     final fn intersect_all(
         self,
         alloc: Global,
         rhs: Statement,
     ) -> Result<CombinationClause, NoMemory>
-        ensures { IfOk result (λ c. combination_clause_tree c ≡ combined by.Intersect rule.All (Self.statement self) (statement_tree rhs)) }
+        ensures { IfOk result (λ c. combination_clause_tree c
+            ≡ combined by.Intersect rule.All (Self.statement self) (statement_tree rhs)) }
     {
         all(alloc, Combinator::Intersect, self.into_statement(), rhs)
     }
 
-    /// The rows of this statement that the other lacks, equal ones once.
+    /// The rows of this statement that the other lacks, equal ones once. MySQL lacks it.
     final fn except(self, alloc: Global, rhs: Statement) -> Result<CombinationClause, NoMemory>
-        ensures { IfOk result (λ c. combination_clause_tree c ≡ combined by.Except rule.Distinct (Self.statement self) (statement_tree rhs)) }
+        ensures { IfOk result (λ c. combination_clause_tree c
+            ≡ combined by.Except rule.Distinct (Self.statement self) (statement_tree rhs)) }
     {
         distinct(alloc, Combinator::Except, self.into_statement(), rhs)
     }
 
-    /// The rows of this statement, each as often as it has it more often than the other. SQLite lacks it.
+    /// The rows of this statement, each as often as it has it more often than the other. MySQL and SQLite
+    /// lack it.
     final fn except_all(self, alloc: Global, rhs: Statement) -> Result<CombinationClause, NoMemory>
-        ensures { IfOk result (λ c. combination_clause_tree c ≡ combined by.Except rule.All (Self.statement self) (statement_tree rhs)) }
+        ensures { IfOk result (λ c. combination_clause_tree c
+            ≡ combined by.Except rule.All (Self.statement self) (statement_tree rhs)) }
     {
         all(alloc, Combinator::Except, self.into_statement(), rhs)
     }

@@ -1,9 +1,11 @@
 #![tactic(auto, using(sql_node::proofs::Trees::opens_select_statement, sql_node::proofs::Trees::opens_boxed_select_statement, sql_node::proofs::Trees::opens_group_by_clause, sql_node::proofs::Trees::opens_having_clause))]
 
-ghost use Rattle.std.specs.Prelude.{◌≡◌, IfOk};
+ghost use Rattle.std.specs.Prelude.{◌≡◌, IfOk, IsOk};
+ghost use Rattle.sql_node.specs.Tree.{no_expr};
 ghost use Rattle.sql_node.specs.View.{expr_tree};
 ghost use Rattle.sql_node.specs.Words as by;
 ghost use Rattle.sql_select.specs.Changes.{filtered, grouped, with_having};
+ghost use Rattle.sql_select.specs.Parts.{condition_of};
 
 use crate::beside::beside;
 use crate::query::Query;
@@ -19,14 +21,18 @@ use std::mem;
 pub trait FilterDsl: Query {
     /// ` WHERE (old AND new)`. The first condition stands alone and takes no memory.
     fn filter(self, alloc: Global, predicate: Expr) -> Result<Self, NoMemory>
-        ensures { IfOk result (λ s. Self.statement s ≡ filtered by.And (expr_tree predicate) (Self.statement self)) };
+        ensures whole { IfOk result (λ s. Self.statement s
+            ≡ filtered by.And (expr_tree predicate) (Self.statement self)) }
+        ensures first { condition_of (Self.statement self) ≡ no_expr → IsOk result };
 }
 
 /// Conditions of which one has to hold.
 pub trait OrFilterDsl: Query {
     /// ` WHERE (old OR new)`. The first condition stands alone and takes no memory.
     fn or_filter(self, alloc: Global, predicate: Expr) -> Result<Self, NoMemory>
-        ensures { IfOk result (λ s. Self.statement s ≡ filtered by.Or (expr_tree predicate) (Self.statement self)) };
+        ensures whole { IfOk result (λ s. Self.statement s
+            ≡ filtered by.Or (expr_tree predicate) (Self.statement self)) }
+        ensures first { condition_of (Self.statement self) ≡ no_expr → IsOk result };
 }
 
 /// One row for each group.

@@ -19,7 +19,8 @@ pub trait DistinctDsl: Query {
 pub trait DistinctOnDsl: Query {
     /// `SELECT DISTINCT ON (a) ..`, in place of an earlier DISTINCT or DISTINCT ON. PostgreSQL alone has it.
     fn distinct_on(self, on: Expr) -> Self
-        ensures { Self.statement result ≡ with_distinct (tree.distinct_on (expr_tree on)) (Self.statement self) };
+        ensures { Self.statement result
+            ≡ with_distinct (tree.distinct_on (expr_tree on)) (Self.statement self) };
 }
 
 impl DistinctDsl for SelectStatement {

@@ -21,7 +21,8 @@ pub trait FindDsl: Query {
     /// place. Where the source is not one table or alias, or there are more or fewer values than columns of the key, it leaves
     /// a mark, and the statement is refused once it is checked.
     fn find(self, alloc: Global, key: Vec<Expr>) -> Result<Self, NoMemory>
-        ensures { IfOk result (λ s. Self.statement s ≡ found (map expr_tree key.items) (Self.statement self)) };
+        ensures { IfOk result (λ s. Self.statement s
+            ≡ found (map expr_tree key.items) (Self.statement self)) };
 }
 
 /// The table or alias that is the whole source.
@@ -60,7 +61,9 @@ fn equal_then(
     value: Expr,
     behind: Option<Expr>,
 ) -> Result<Expr, NoMemory>
-    ensures { IfOk result (λ e. expr_tree e ≡ and_then (compared Eq (expr_tree column) (expr_tree value)) (maybe_of (option_map expr_tree behind))) }
+    ensures { IfOk result (λ e. expr_tree e
+        ≡ and_then (compared Eq (expr_tree column) (expr_tree value))
+        (maybe_of (option_map expr_tree behind))) }
 {
     let equal = column.eq(alloc, value)?;
     match behind {
@@ -76,7 +79,9 @@ fn equal_to(
     mut values: Vec<Expr>,
 ) -> Result<Option<Expr>, NoMemory>
     requires { length columns.items ≡ length values.items }
-    ensures { IfOk result (λ o. maybe_of (option_map expr_tree o) ≡ all_before (equal_each (map expr_tree columns.items) (map expr_tree values.items)) no_expr) }
+    ensures { IfOk result (λ o. maybe_of (option_map expr_tree o)
+        ≡ all_before (equal_each (map expr_tree columns.items) (map expr_tree values.items))
+        no_expr) }
 {
     let mut condition = None;
     while let Some(column) = columns.pop() {

@@ -24,7 +24,8 @@ pub trait HasQuery {
 
     /// The base query with that selection.
     fn query(&self, alloc: Global) -> Result<SelectStatement, NoMemory>
-        ensures { IfOk result (λ s. select_statement_tree s ≡ selected (wanted self.now) (base self.now)) }
+        ensures { IfOk result (λ s. select_statement_tree s
+            ≡ selected (wanted self.now) (base self.now)) }
     {
         let selection = self.as_select(alloc)?;
         Ok(self.base_query(alloc)?.select(selection))

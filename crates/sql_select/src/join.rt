@@ -28,7 +28,8 @@ pub trait JoinWithImplicitOnClause: Query {
         rhs: JoinRhs,
         kind: JoinKind,
     ) -> Result<Self, NoMemory>
-        ensures { IfOk result (λ s. Self.statement s ≡ joined schema.now kind (side_tree rhs) (Self.statement self)) };
+        ensures { IfOk result (λ s. Self.statement s
+            ≡ joined schema.now kind (side_tree rhs) (Self.statement self)) };
 }
 
 /// Joins on a condition that the caller knows.
@@ -42,7 +43,9 @@ pub trait InternalJoinDsl: Query {
         kind: JoinKind,
         on: Option<Expr>,
     ) -> Result<Self, NoMemory>
-        ensures { IfOk result (λ s. Self.statement s ≡ joined_on kind (record { source = source_tree rhs; on = option_map expr_tree on }) (Self.statement self)) };
+        ensures { IfOk result (λ s. Self.statement s
+            ≡ joined_on kind (record { source = source_tree rhs; on = option_map expr_tree on })
+            (Self.statement self)) };
 }
 
 fn join_from(
@@ -52,7 +55,11 @@ fn join_from(
     kind: JoinKind,
     on: Option<Expr>,
 ) -> Result<FromClause, NoMemory>
-    ensures { IfOk result (λ f. from_clause_tree f ≡ from_map (λ left. joined_with kind left (record { source = source_tree rhs; on = option_map expr_tree on })) (from_clause_tree from)) }
+    ensures { IfOk result (λ f. from_clause_tree f
+        ≡ from_map
+        (λ left. joined_with kind left
+        (record { source = source_tree rhs; on = option_map expr_tree on }))
+        (from_clause_tree from)) }
 {
     match from {
         FromClause::NoFromClause => Ok(FromClause::NoFromClause),
@@ -70,7 +77,9 @@ fn join_from_implicitly(
     rhs: JoinRhs,
     kind: JoinKind,
 ) -> Result<FromClause, NoMemory>
-    ensures { IfOk result (λ f. from_clause_tree f ≡ from_map (λ left. (joined_by schema.now kind (alone left) (side_tree rhs)).source) (from_clause_tree from)) }
+    ensures { IfOk result (λ f. from_clause_tree f
+        ≡ from_map (λ left. (joined_by schema.now kind (alone left) (side_tree rhs)).source)
+        (from_clause_tree from)) }
 {
     match from {
         FromClause::NoFromClause => Ok(FromClause::NoFromClause),
@@ -84,7 +93,9 @@ fn join_from_implicitly(
 
 /// A default selection becomes that of the source; one that was given stays.
 fn select_anew(alloc: Global, select: &mut SelectClause, from: &FromClause) -> Result<(), NoMemory>
-    ensures { OnOk result (select_clause_tree select.new ≡ default_over (from_clause_tree from.now) (select_clause_tree select.old)) }
+    ensures { OnOk result
+        (select_clause_tree select.new
+        ≡ default_over (from_clause_tree from.now) (select_clause_tree select.old)) }
 {
     match (from, select) {
         (FromClause::FromClause(source), SelectClause::DefaultSelectClause(selection)) => {
@@ -116,8 +127,13 @@ fn join_and_select(
     kind: JoinKind,
     on: Option<Expr>,
 ) -> Result<FromClause, NoMemory>
-    ensures from { IfOk result (λ f. from_clause_tree f ≡ from_map (λ left. joined_with kind left (record { source = source_tree rhs; on = option_map expr_tree on })) (from_clause_tree from)) }
-    ensures select { IfOk result (λ f. select_clause_tree select.new ≡ default_over (from_clause_tree f) (select_clause_tree select.old)) }
+    ensures from { IfOk result (λ f. from_clause_tree f
+        ≡ from_map
+        (λ left. joined_with kind left
+        (record { source = source_tree rhs; on = option_map expr_tree on }))
+        (from_clause_tree from)) }
+    ensures select { IfOk result (λ f. select_clause_tree select.new
+        ≡ default_over (from_clause_tree f) (select_clause_tree select.old)) }
 {
     let from = join_from(alloc, from, rhs, kind, on)?;
     select_anew(alloc, select, &from)?;
@@ -133,8 +149,11 @@ fn join_and_select_implicitly(
     rhs: JoinRhs,
     kind: JoinKind,
 ) -> Result<FromClause, NoMemory>
-    ensures from { IfOk result (λ f. from_clause_tree f ≡ from_map (λ left. (joined_by schema.now kind (alone left) (side_tree rhs)).source) (from_clause_tree from)) }
-    ensures select { IfOk result (λ f. select_clause_tree select.new ≡ default_over (from_clause_tree f) (select_clause_tree select.old)) }
+    ensures from { IfOk result (λ f. from_clause_tree f
+        ≡ from_map (λ left. (joined_by schema.now kind (alone left) (side_tree rhs)).source)
+        (from_clause_tree from)) }
+    ensures select { IfOk result (λ f. select_clause_tree select.new
+        ≡ default_over (from_clause_tree f) (select_clause_tree select.old)) }
 {
     let from = join_from_implicitly(alloc, schema, from, rhs, kind)?;
     select_anew(alloc, select, &from)?;

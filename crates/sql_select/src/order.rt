@@ -16,19 +16,23 @@ use std::mem;
 pub trait OrderDsl: Query {
     /// ` ORDER BY a, b DESC`, in place of an earlier order.
     fn order(self, items: Vec<OrderItem>) -> Self
-        ensures { Self.statement result ≡ ordered (items_of (map order_item_tree items.items)) (Self.statement self) };
+        ensures { Self.statement result
+            ≡ ordered (items_of (map order_item_tree items.items)) (Self.statement self) };
 }
 
 /// The order of rows that are alike so far.
 pub trait ThenOrderDsl: Query {
     /// ` ORDER BY old, a, b DESC`: more items behind those that the order has, where it has any.
     fn then_order_by(self, alloc: Global, items: Vec<OrderItem>) -> Result<Self, NoMemory>
-        ensures { IfOk result (λ s. Self.statement s ≡ ordered_then (items_of (map order_item_tree items.items)) (Self.statement self)) };
+        ensures { IfOk result (λ s. Self.statement s
+            ≡ ordered_then (items_of (map order_item_tree items.items)) (Self.statement self)) };
 }
 
 #[tactic(auto, using(sql_node::proofs::Trees::opens_order_clause, crate::proofs::OrderLaws::appends))]
 fn order_then(order: OrderClause, mut items: Vec<OrderItem>) -> Result<OrderClause, NoMemory>
-    ensures { IfOk result (λ o. order_clause_tree o ≡ tree.order_by (items_then (items_in (order_clause_tree order)) (items_of (map order_item_tree items.items)))) }
+    ensures { IfOk result (λ o. order_clause_tree o
+        ≡ tree.order_by (items_then (items_in (order_clause_tree order))
+        (items_of (map order_item_tree items.items)))) }
 {
     match order {
         OrderClause::NoOrderClause => Ok(OrderClause::OrderClause(SqlList::from(items))),

@@ -1,4 +1,4 @@
-ghost use Rattle.std.specs.Prelude.{◌≡◌, IfOk, map, option_map};
+ghost use Rattle.std.specs.Prelude.{◌≡◌, IfOk, IsOk, map, option_map};
 ghost use Rattle.sql_expr.specs.Joining.{side_tree};
 ghost use Rattle.sql_leaf.specs.declared.locking.LockMode.TheVariants as lock;
 ghost use Rattle.sql_leaf.specs.declared.locking.Modifier.TheVariants as way;
@@ -9,6 +9,7 @@ ghost use Rattle.sql_node.specs.Words as by;
 ghost use Rattle.sql_select.specs.Changes.{boxed_for, filtered, grouped, limited, locked, modified, nulled, offset_by, ordered, ordered_then, selected, single_value_of, with_distinct, with_having};
 ghost use Rattle.sql_select.specs.Finding.{found};
 ghost use Rattle.sql_select.specs.Joins.{joined, joined_on};
+ghost use Rattle.sql_select.specs.Parts.{condition_of};
 
 use crate::methods::{
     BoxedDsl, DistinctDsl, DistinctOnDsl, FilterDsl, FindDsl, GroupByDsl, HavingDsl,
@@ -39,7 +40,8 @@ pub trait QueryDsl: Query {
     final fn distinct_on(self, on: Expr) -> Self
     where
         Self: DistinctOnDsl,
-        ensures { Self.statement result ≡ with_distinct (tree.distinct_on (expr_tree on)) (Self.statement self) }
+        ensures { Self.statement result
+            ≡ with_distinct (tree.distinct_on (expr_tree on)) (Self.statement self) }
     {
         DistinctOnDsl::distinct_on(self, on)
     }
@@ -71,7 +73,8 @@ pub trait QueryDsl: Query {
     ) -> Result<Self, NoMemory>
     where
         Self: JoinWithImplicitOnClause,
-        ensures { IfOk result (λ s. Self.statement s ≡ joined schema.now join_kind.Inner (side_tree rhs) (Self.statement self)) }
+        ensures { IfOk result (λ s. Self.statement s
+            ≡ joined schema.now join_kind.Inner (side_tree rhs) (Self.statement self)) }
     {
         JoinWithImplicitOnClause::join_with_implicit_on_clause(
             self,
@@ -91,7 +94,8 @@ pub trait QueryDsl: Query {
     ) -> Result<Self, NoMemory>
     where
         Self: JoinWithImplicitOnClause,
-        ensures { IfOk result (λ s. Self.statement s ≡ joined schema.now join_kind.LeftOuter (side_tree rhs) (Self.statement self)) }
+        ensures { IfOk result (λ s. Self.statement s
+            ≡ joined schema.now join_kind.LeftOuter (side_tree rhs) (Self.statement self)) }
     {
         JoinWithImplicitOnClause::join_with_implicit_on_clause(
             self,
@@ -106,7 +110,8 @@ pub trait QueryDsl: Query {
     final fn left_join(self, alloc: Global, schema: &Schema, rhs: JoinRhs) -> Result<Self, NoMemory>
     where
         Self: JoinWithImplicitOnClause,
-        ensures { IfOk result (λ s. Self.statement s ≡ joined schema.now join_kind.LeftOuter (side_tree rhs) (Self.statement self)) }
+        ensures { IfOk result (λ s. Self.statement s
+            ≡ joined schema.now join_kind.LeftOuter (side_tree rhs) (Self.statement self)) }
     {
         self.left_outer_join(alloc, schema, rhs)
     }
@@ -121,7 +126,8 @@ pub trait QueryDsl: Query {
     ) -> Result<Self, NoMemory>
     where
         Self: JoinWithImplicitOnClause,
-        ensures { IfOk result (λ s. Self.statement s ≡ joined schema.now kind (side_tree rhs) (Self.statement self)) }
+        ensures { IfOk result (λ s. Self.statement s
+            ≡ joined schema.now kind (side_tree rhs) (Self.statement self)) }
     {
         JoinWithImplicitOnClause::join_with_implicit_on_clause(self, alloc, schema, rhs, kind)
     }
@@ -136,7 +142,9 @@ pub trait QueryDsl: Query {
     ) -> Result<Self, NoMemory>
     where
         Self: InternalJoinDsl,
-        ensures { IfOk result (λ s. Self.statement s ≡ joined_on kind (record { source = source_tree rhs; on = option_map expr_tree on }) (Self.statement self)) }
+        ensures { IfOk result (λ s. Self.statement s
+            ≡ joined_on kind (record { source = source_tree rhs; on = option_map expr_tree on })
+            (Self.statement self)) }
     {
         InternalJoinDsl::join(self, alloc, rhs, kind, on)
     }
@@ -145,7 +153,9 @@ pub trait QueryDsl: Query {
     final fn filter(self, alloc: Global, predicate: Expr) -> Result<Self, NoMemory>
     where
         Self: FilterDsl,
-        ensures { IfOk result (λ s. Self.statement s ≡ filtered by.And (expr_tree predicate) (Self.statement self)) }
+        ensures whole { IfOk result (λ s. Self.statement s
+            ≡ filtered by.And (expr_tree predicate) (Self.statement self)) }
+        ensures first { condition_of (Self.statement self) ≡ tree.no_expr → IsOk result }
     {
         FilterDsl::filter(self, alloc, predicate)
     }
@@ -154,7 +164,9 @@ pub trait QueryDsl: Query {
     final fn or_filter(self, alloc: Global, predicate: Expr) -> Result<Self, NoMemory>
     where
         Self: OrFilterDsl,
-        ensures { IfOk result (λ s. Self.statement s ≡ filtered by.Or (expr_tree predicate) (Self.statement self)) }
+        ensures whole { IfOk result (λ s. Self.statement s
+            ≡ filtered by.Or (expr_tree predicate) (Self.statement self)) }
+        ensures first { condition_of (Self.statement self) ≡ tree.no_expr → IsOk result }
     {
         OrFilterDsl::or_filter(self, alloc, predicate)
     }
@@ -163,7 +175,8 @@ pub trait QueryDsl: Query {
     final fn find(self, alloc: Global, key: Vec<Expr>) -> Result<Self, NoMemory>
     where
         Self: FindDsl,
-        ensures { IfOk result (λ s. Self.statement s ≡ found (map expr_tree key.items) (Self.statement self)) }
+        ensures { IfOk result (λ s. Self.statement s
+            ≡ found (map expr_tree key.items) (Self.statement self)) }
     {
         FindDsl::find(self, alloc, key)
     }
@@ -172,7 +185,8 @@ pub trait QueryDsl: Query {
     final fn order(self, items: Vec<OrderItem>) -> Self
     where
         Self: OrderDsl,
-        ensures { Self.statement result ≡ ordered (items_of (map order_item_tree items.items)) (Self.statement self) }
+        ensures { Self.statement result
+            ≡ ordered (items_of (map order_item_tree items.items)) (Self.statement self) }
     {
         OrderDsl::order(self, items)
     }
@@ -181,7 +195,8 @@ pub trait QueryDsl: Query {
     final fn order_by(self, items: Vec<OrderItem>) -> Self
     where
         Self: OrderDsl,
-        ensures { Self.statement result ≡ ordered (items_of (map order_item_tree items.items)) (Self.statement self) }
+        ensures { Self.statement result
+            ≡ ordered (items_of (map order_item_tree items.items)) (Self.statement self) }
     {
         OrderDsl::order(self, items)
     }
@@ -190,7 +205,8 @@ pub trait QueryDsl: Query {
     final fn then_order_by(self, alloc: Global, items: Vec<OrderItem>) -> Result<Self, NoMemory>
     where
         Self: ThenOrderDsl,
-        ensures { IfOk result (λ s. Self.statement s ≡ ordered_then (items_of (map order_item_tree items.items)) (Self.statement self)) }
+        ensures { IfOk result (λ s. Self.statement s
+            ≡ ordered_then (items_of (map order_item_tree items.items)) (Self.statement self)) }
     {
         ThenOrderDsl::then_order_by(self, alloc, items)
     }

@@ -15,5 +15,6 @@ text d a b h = blank.text d a b (one-shape a b h)
 pub safe : (d : Dialect) (a b : Statement) → shape a ≡ shape b → is_safe (pieces d a) ≡ is_safe (pieces d b)
 safe d a b h = blank.safe d a b (one-shape a b h)
 
-pub values : (d : Dialect) (a b : Statement) → shape a ≡ shape b → map blank_bound (values_of (pieces d a)) ≡ map blank_bound (values_of (pieces d b))
+pub values : (d : Dialect) (a b : Statement) → shape a ≡ shape b
+    → map blank_bound (values_of (pieces d a)) ≡ map blank_bound (values_of (pieces d b))
 values d a b h = blank.values d a b (one-shape a b h)

@@ -1,5 +1,6 @@
 -- The statement of a statement's shape is that statement, with NULL for each value and 0 for each number.
 use Rattle.std.proofs.Common.{◌≡◌, ℕ, ℤ, Bool, true, false, List, [], ◌∷◌, map, length, Option, Some, None, option_map, refl, sym, ap, ◌∙◌}
+use Rattle.sql_dialect.specs.Supports.{is_all}
 use Rattle.sql_dialect.specs.declared.combination.Combinator.{Combinator}
 use Rattle.sql_dialect.specs.declared.combination.Combinator.TheVariants.{Union, Intersect, Except}
 use Rattle.sql_dialect.specs.declared.combination.DuplicateRule.{DuplicateRule}
@@ -7,7 +8,7 @@ use Rattle.sql_dialect.specs.declared.combination.DuplicateRule.TheVariants.{Dis
 use Rattle.sql_pass.specs.declared.value.Bound.{Bound}
 use Rattle.sql_pass.specs.declared.value.Value.{Value}
 use Rattle.sql_pass.specs.declared.value.Value.TheVariants.{Null}
-use Rattle.sql_leaf.specs.Numbers.{small, integer, big}
+use Rattle.sql_pass.specs.Bounds.{of_i16, of_i32, of_i64}
 use Rattle.sql_leaf.specs.declared.limit_offset.LimitOffsetClause.{LimitOffsetClause}
 use Rattle.sql_leaf.specs.declared.locking.LockMode.TheVariants as mode
 use Rattle.sql_leaf.specs.declared.locking.LockingClause.TheVariants as lock
@@ -27,7 +28,7 @@ use Rattle.sql_rose.specs.Rose.{Rose, node, Roses, none, more, roses_of}
 use Rattle.sql_key.specs.declared.kind.KeyKind.{KeyKind}
 use Rattle.sql_key.specs.declared.kind.KeyKind.TheVariants as K
 use Rattle.sql_key.specs.Shape as key
-use Rattle.sql_key.specs.Shape.{NodeKind, blanked, all_blanked, expr_rose, exprs_roses, items_roses, maybe_rose, source_rose, from_rose, distinct_rose, order_rose, rose, number_rose, form_rose, sample_rose, positional_rose, position_rose, comparison_kind, logic_kind, null_test_kind, among_kind, item_kind, combination_kind, all_rows, join_kind}
+use Rattle.sql_key.specs.Shape.{NodeKind, blanked, all_blanked, expr_rose, exprs_roses, items_roses, maybe_rose, source_rose, from_rose, distinct_rose, order_rose, rose, number_rose, form_rose, sample_rose, positional_rose, position_rose, comparison_kind, logic_kind, null_test_kind, among_kind, item_kind, combination_kind, join_kind}
 use Rattle.sql_law.specs.Shape.{blank, blank_values, blank_rows, blank_sample, shape_expr, shape_exprs, shape_items, shape_maybe, shape_source, shape_from, shape_distinct, shape_order, shape}
 use Rattle.sql_shape_law.proofs.Unshape.{root, nulls, un_number, un_direction, un_form, un_seed, un_sample, un_places, un_positions, un_all, maybe_of, from_of, among_of, second_root, un_expr, un_exprs, un_items, un_source, un_distinct, un_order, un_statement, un_both}
 
@@ -37,15 +38,21 @@ nulls-of : (vs : List Value) → nulls (length vs) ≡ map (λ (x : Value). Null
 nulls-of [] = refl
 nulls-of (v ∷ vs) = ap (λ l. Null ∷ l) (nulls-of vs)
 
-big-of : (o : Option ℤ) → un_number (root (blanked (number_rose big o))) ≡ option_map blank o
+big-of : (o : Option ℤ) → un_number (root (blanked (number_rose of_i64 o))) ≡ option_map blank o
 big-of None = refl
 big-of (Some n) = refl
 
-seed-of : (o : Option ℤ) → un_number (root (blanked (number_rose integer o))) ≡ option_map blank o
+seed-of : (o : Option ℤ) → un_number (root (blanked (number_rose of_i32 o))) ≡ option_map blank o
 seed-of None = refl
 seed-of (Some n) = refl
 
-rows-of : (r : LimitOffsetClause) → Path LimitOffsetClause (record { limit_clause = un_number (root (blanked (number_rose big r.limit_clause))); offset_clause = un_number (root (blanked (number_rose big r.offset_clause))) }) (blank_rows r)
+rows-of : (r : LimitOffsetClause)
+    → Path LimitOffsetClause
+    (record {
+      limit_clause = un_number (root (blanked (number_rose of_i64 r.limit_clause)));
+      offset_clause = un_number (root (blanked (number_rose of_i64 r.offset_clause)));
+    })
+    (blank_rows r)
 rows-of r = λ i. record { limit_clause = big-of r.limit_clause i; offset_clause = big-of r.offset_clause i }
 
 direction-of : (by : Direction) → un_direction (item_kind by) ≡ by
@@ -53,7 +60,7 @@ direction-of direction.None = refl
 direction-of direction.Asc = refl
 direction-of direction.Desc = refl
 
-all-of : (all : DuplicateRule) → un_all (all_rows all) ≡ all
+all-of : (all : DuplicateRule) → un_all (is_all all) ≡ all
 all-of DistinctRows = refl
 all-of All = refl
 
@@ -74,7 +81,8 @@ form-of (unboxed (lock.LockingClause mode.ForKeyShare modifier.SkipLocked)) = re
 form-of (unboxed (lock.LockingClause mode.ForKeyShare modifier.NoWait)) = refl
 
 sample-from : (m : TablesampleMethod) (p : ℤ) (o : Option ℤ) →
-    un_sample (more (blanked (sample_rose (Some (record { method = m; portion = p; seed = o })))) none) ≡ Some (blank_sample (record { method = m; portion = p; seed = o }))
+    un_sample (more (blanked (sample_rose (Some (record { method = m; portion = p; seed = o })))) none)
+    ≡ Some (blank_sample (record { method = m; portion = p; seed = o }))
 sample-from BernoulliMethod p o = λ i. Some (record { method = BernoulliMethod; portion = ℤ.pos 0; seed = seed-of o i })
 sample-from SystemMethod p o = λ i. Some (record { method = SystemMethod; portion = ℤ.pos 0; seed = seed-of o i })
 
@@ -136,7 +144,8 @@ test-node : (n : Bool) (t : Rose KeyKind) → un_expr (node (null_test_kind n) (
 test-node false t = refl
 test-node true t = refl
 
-compared-node : (by : Comparison) (t u : Rose KeyKind) → un_expr (node (comparison_kind by) (more t (more u none))) ≡ compared by (un_expr t) (un_expr u)
+compared-node : (by : Comparison) (t u : Rose KeyKind)
+    → un_expr (node (comparison_kind by) (more t (more u none))) ≡ compared by (un_expr t) (un_expr u)
 compared-node Eq t u = refl
 compared-node Ne t u = refl
 compared-node Lt t u = refl
@@ -144,19 +153,24 @@ compared-node Le t u = refl
 compared-node Gt t u = refl
 compared-node Ge t u = refl
 
-joined-node : (by : Logic) (t u : Rose KeyKind) → un_expr (node (logic_kind by) (more t (more u none))) ≡ joined by (un_expr t) (un_expr u)
+joined-node : (by : Logic) (t u : Rose KeyKind)
+    → un_expr (node (logic_kind by) (more t (more u none))) ≡ joined by (un_expr t) (un_expr u)
 joined-node And t u = refl
 joined-node Or t u = refl
 
-among-node : (n : Bool) (t u : Rose KeyKind) → un_expr (node (among_kind n) (more t (more u none))) ≡ among_of n (un_expr t) (root u) (un_statement u)
+among-node : (n : Bool) (t u : Rose KeyKind)
+    → un_expr (node (among_kind n) (more t (more u none))) ≡ among_of n (un_expr t) (root u) (un_statement u)
 among-node false t u = refl
 among-node true t u = refl
 
-join-node : (k : JoinKind) (l r on : Rose KeyKind) → un_source (node (join_kind k) (more l (more r (more on none)))) ≡ join k (un_source l) (un_source r) (maybe_of (root on) (un_expr on))
+join-node : (k : JoinKind) (l r on : Rose KeyKind)
+    → un_source (node (join_kind k) (more l (more r (more on none))))
+    ≡ join k (un_source l) (un_source r) (maybe_of (root on) (un_expr on))
 join-node Inner l r on = refl
 join-node LeftOuter l r on = refl
 
-combination-node : (by : Combinator) (all : Bool) (ts : Roses KeyKind) → un_statement (node (combination_kind by all) ts) ≡ un_both by all ts
+combination-node : (by : Combinator) (all : Bool) (ts : Roses KeyKind)
+    → un_statement (node (combination_kind by all) ts) ≡ un_both by all ts
 combination-node Union all ts = refl
 combination-node Intersect all ts = refl
 combination-node Except all ts = refl
@@ -173,13 +187,19 @@ mutual
   expr-of (not_of e) = ap not_of (expr-of e)
   expr-of (null_test n e) = test-node n (blanked (expr_rose e)) ∙ ap (null_test n) (expr-of e)
   expr-of (count e) = ap count (expr-of e)
-  expr-of (compared by a b) = compared-node by (blanked (expr_rose a)) (blanked (expr_rose b)) ∙ (λ i. compared by (expr-of a i) (expr-of b i))
-  expr-of (joined by a b) = joined-node by (blanked (expr_rose a)) (blanked (expr_rose b)) ∙ (λ i. joined by (expr-of a i) (expr-of b i))
+  expr-of (compared by a b) =
+      compared-node by (blanked (expr_rose a)) (blanked (expr_rose b)) ∙ (λ i. compared by (expr-of a i) (expr-of b i))
+  expr-of (joined by a b) =
+      joined-node by (blanked (expr_rose a)) (blanked (expr_rose b)) ∙ (λ i. joined by (expr-of a i) (expr-of b i))
   expr-of (exists q) = ap exists (statement-of q)
   expr-of (single q) = ap single (statement-of q)
-  expr-of (among_values n e t vs) = among-node n (blanked (expr_rose e)) (node (K.Values t (length vs)) none) ∙ (λ i. among_values n (expr-of e i) t (nulls-of vs i))
+  expr-of (among_values n e t vs) =
+      among-node n (blanked (expr_rose e)) (node (K.Values t (length vs)) none)
+      ∙ (λ i. among_values n (expr-of e i) t (nulls-of vs i))
   expr-of (among_rows n e q) =
-      among-node n (blanked (expr_rose e)) (blanked (rose q)) ∙ query-among n (un_expr (blanked (expr_rose e))) q (un_statement (blanked (rose q))) ∙ (λ i. among_rows n (expr-of e i) (statement-of q i))
+      among-node n (blanked (expr_rose e)) (blanked (rose q))
+      ∙ query-among n (un_expr (blanked (expr_rose e))) q (un_statement (blanked (rose q)))
+      ∙ (λ i. among_rows n (expr-of e i) (statement-of q i))
 
   exprs-of : (es : Exprs) → un_exprs (all_blanked (exprs_roses es)) ≡ shape_exprs es
   exprs-of no_exprs = refl
@@ -189,14 +209,17 @@ mutual
   items-of no_items = refl
   items-of (more_items e by is) = λ i. more_items (expr-of e i) (direction-of by i) (items-of is i)
 
-  maybe-of : (e : MaybeExpr) → maybe_of (root (blanked (maybe_rose e))) (un_expr (blanked (maybe_rose e))) ≡ shape_maybe e
+  maybe-of : (e : MaybeExpr)
+      → maybe_of (root (blanked (maybe_rose e))) (un_expr (blanked (maybe_rose e))) ≡ shape_maybe e
   maybe-of no_expr = refl
   maybe-of (an_expr e) = present-expr e (un_expr (blanked (expr_rose e))) ∙ ap an_expr (expr-of e)
 
   source-of : (s : Source) → un_source (blanked (source_rose s)) ≡ shape_source s
   source-of (of_table t only sample) = ap (of_table t only) (sample-of sample)
   source-of (of_alias a t) = refl
-  source-of (join k l r on) = join-node k (blanked (source_rose l)) (blanked (source_rose r)) (blanked (maybe_rose on)) ∙ (λ i. join k (source-of l i) (source-of r i) (maybe-of on i))
+  source-of (join k l r on) =
+      join-node k (blanked (source_rose l)) (blanked (source_rose r)) (blanked (maybe_rose on))
+      ∙ (λ i. join k (source-of l i) (source-of r i) (maybe-of on i))
 
   from-of : (f : From) → from_of (root (blanked (from_rose f))) (un_source (blanked (from_rose f))) ≡ shape_from f
   from-of no_source = refl
@@ -213,9 +236,14 @@ mutual
 
   pub statement-of : (s : Statement) → un_statement (key.shape s) ≡ shape s
   statement-of (select default e f u w o rows g h form marks) =
-      λ i. select default (expr-of e i) (from-of f i) (distinct-of u i) (maybe-of w i) (order-of o i) (rows-of rows i) (maybe-of g i) (maybe-of h i) (form-of form i) marks
+      λ i. select default (expr-of e i) (from-of f i) (distinct-of u i) (maybe-of w i) (order-of o i) (rows-of rows i)
+      (maybe-of g i) (maybe-of h i) (form-of form i) marks
   statement-of (combination by all a b o rows) =
-      combination-node by (all_rows all) (all_blanked (more (rose a) (more (rose b) (more (positional_rose o) (more (number_rose big rows.limit_clause) (more (number_rose big rows.offset_clause) none))))))
+      combination-node by (is_all all)
+      (all_blanked (more (rose a)
+      (more (rose b)
+      (more (positional_rose o)
+      (more (number_rose of_i64 rows.limit_clause) (more (number_rose of_i64 rows.offset_clause) none))))))
       ∙ (λ i. combination by (all-of all i) (statement-of a i) (statement-of b i) (positions-of o i) (rows-of rows i))
 
 -- statements of one shape are one but for values

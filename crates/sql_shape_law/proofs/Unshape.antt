@@ -36,7 +36,15 @@ abbrev pub un_column : KeyColumn → ColumnDecl
 un_column c = record { name = c.name; sql_name = c.sql_name; ty = c.ty; max_length = c.max_length }
 
 abbrev pub un_marks : KeyMarks → Marks
-un_marks m = record { no_source = m.no_source; find_source = m.find_source; key_count = m.key_count; second_lock = m.second_lock; no_lock = m.no_lock; boxed_lock = m.boxed_lock }
+un_marks m =
+    record {
+      no_source = m.no_source;
+      find_source = m.find_source;
+      key_count = m.key_count;
+      second_lock = m.second_lock;
+      no_lock = m.no_lock;
+      boxed_lock = m.boxed_lock;
+    }
 
 abbrev pub nulls : ℕ → List Value
 nulls zero = []
@@ -76,7 +84,8 @@ un_seed (more p (more s ts)) = un_number (root s)
 
 abbrev pub un_sample : Roses KeyKind → Option Tablesample
 un_sample none = None
-un_sample (more (node K.Bernoulli ts) us) = Some (record { method = BernoulliMethod; portion = ℤ.pos 0; seed = un_seed ts })
+un_sample (more (node K.Bernoulli ts) us) =
+    Some (record { method = BernoulliMethod; portion = ℤ.pos 0; seed = un_seed ts })
 un_sample (more (node K.System ts) us) = Some (record { method = SystemMethod; portion = ℤ.pos 0; seed = un_seed ts })
 un_sample (more (node k ts) us) = None
 
@@ -87,7 +96,8 @@ un_place (more (node k ts) us) = 0
 
 abbrev pub un_places : Roses KeyKind → List PositionalItem
 un_places none = []
-un_places (more (node k ts) ps) = record { column = record { 0 = un_place ts }; direction = un_direction k } ∷ un_places ps
+un_places (more (node k ts) ps) =
+    record { column = record { 0 = un_place ts }; direction = un_direction k } ∷ un_places ps
 
 abbrev pub un_positions : Rose KeyKind → Option (List PositionalItem)
 un_positions (node K.OrderBy ts) = Some (un_places ts)
@@ -116,10 +126,20 @@ abbrev no_rows : LimitOffsetClause
 no_rows = record { limit_clause = None; offset_clause = None }
 
 abbrev no_marks : Marks
-no_marks = record { no_source = false; find_source = false; key_count = false; second_lock = false; no_lock = false; boxed_lock = false }
+no_marks =
+    record {
+      no_source = false;
+      find_source = false;
+      key_count = false;
+      second_lock = false;
+      no_lock = false;
+      boxed_lock = false;
+    }
 
 abbrev no_statement : Statement
-no_statement = select false count_star no_source every no_expr no_order no_rows no_expr no_expr (unboxed lock.NoLockingClause) no_marks
+no_statement =
+    select false count_star no_source every no_expr no_order no_rows no_expr no_expr (unboxed lock.NoLockingClause)
+    no_marks
 
 abbrev no_table : Source
 no_table = of_alias [] (record { name = []; sql_name = []; schema = None; columns = []; primary_key = [] })
@@ -181,8 +201,10 @@ abbrev mutual
   pub un_source : Rose KeyKind → Source
   un_source (node (K.Table t only) ts) = of_table t only (un_sample ts)
   un_source (node (K.Alias a t) ts) = of_alias a t
-  un_source (node K.InnerJoin (more l (more r (more on ts)))) = join Inner (un_source l) (un_source r) (maybe_of (root on) (un_expr on))
-  un_source (node K.LeftOuterJoin (more l (more r (more on ts)))) = join LeftOuter (un_source l) (un_source r) (maybe_of (root on) (un_expr on))
+  un_source (node K.InnerJoin (more l (more r (more on ts)))) =
+      join Inner (un_source l) (un_source r) (maybe_of (root on) (un_expr on))
+  un_source (node K.LeftOuterJoin (more l (more r (more on ts)))) =
+      join LeftOuter (un_source l) (un_source r) (maybe_of (root on) (un_expr on))
   un_source (node k ts) = no_table
 
   pub un_distinct : Rose KeyKind → Distinct
@@ -195,13 +217,19 @@ abbrev mutual
   un_order (node k ts) = no_order
 
   pub un_statement : Rose KeyKind → Statement
-  un_statement (node (K.Select default m) (more form (more e (more f (more u (more w (more o (more l (more p (more g (more h ts))))))))))) =
-      select default (un_expr e) (from_of (root f) (un_source f)) (un_distinct u) (maybe_of (root w) (un_expr w)) (un_order o) (un_rows l p) (maybe_of (root g) (un_expr g)) (maybe_of (root h) (un_expr h)) (un_form form) (un_marks m)
+  un_statement
+      (node (K.Select default m)
+      (more form (more e (more f (more u (more w (more o (more l (more p (more g (more h ts)))))))))))
+      =
+      select default (un_expr e) (from_of (root f) (un_source f)) (un_distinct u) (maybe_of (root w) (un_expr w))
+      (un_order o) (un_rows l p) (maybe_of (root g) (un_expr g)) (maybe_of (root h) (un_expr h)) (un_form form)
+      (un_marks m)
   un_statement (node (K.Union all) ts) = un_both Union all ts
   un_statement (node (K.Intersect all) ts) = un_both Intersect all ts
   un_statement (node (K.Except all) ts) = un_both Except all ts
   un_statement (node k ts) = no_statement
 
   pub un_both : Combinator → Bool → Roses KeyKind → Statement
-  un_both by all (more a (more b (more o (more l (more p ts))))) = combination by (un_all all) (un_statement a) (un_statement b) (un_positions o) (un_rows l p)
+  un_both by all (more a (more b (more o (more l (more p ts))))) =
+      combination by (un_all all) (un_statement a) (un_statement b) (un_positions o) (un_rows l p)
   un_both by all ts = no_statement

@@ -36,25 +36,31 @@ cut-sum (suc zero) (suc (suc n)) = many-right 1 n
 cut-sum (suc (suc m)) n = many-left m n ∙ sym (many-left 0 (number (cut n)))
 
 -- paddings count for nothing
-same_count : (o : Origin) (k : JoinKind) (ls : List Leaf) → count_by (λ l. same_origin o l.origin) (map (in_right_side k) ls) ≡ count_by (λ l. same_origin o l.origin) ls
+same_count : (o : Origin) (k : JoinKind) (ls : List Leaf)
+    → count_by (λ l. same_origin o l.origin) (map (in_right_side k) ls) ≡ count_by (λ l. same_origin o l.origin) ls
 same_count o Inner ls = fold-map (λ n l. n + cond (same_origin o l.origin) 1 0) (in_right_side Inner) 0 ls
 same_count o LeftOuter ls = fold-map (λ n l. n + cond (same_origin o l.origin) 1 0) (in_right_side LeftOuter) 0 ls
 
-pub appearances-join : (o : Origin) (k : JoinKind) (l r : Source) (on : MaybeExpr) → appearances o (join k l r on) ≡ sum_of (appearances o l) (appearances o r)
+pub appearances-join : (o : Origin) (k : JoinKind) (l r : Source) (on : MaybeExpr)
+    → appearances o (join k l r on) ≡ sum_of (appearances o l) (appearances o r)
 unfolding appearances
 appearances-join o k l r on =
-    ap cut (sum_by-append (λ l. cond (same_origin o l.origin) 1 0) (leaves l) (map (in_right_side k) (leaves r)) ∙ ap (λ n. count_by (λ l. same_origin o l.origin) (leaves l) + n) (same_count o k (leaves r)))
+    ap cut
+    (sum_by-append (λ l. cond (same_origin o l.origin) 1 0) (leaves l) (map (in_right_side k) (leaves r))
+    ∙ ap (λ n. count_by (λ l. same_origin o l.origin) (leaves l) + n) (same_count o k (leaves r)))
     ∙ cut-sum (count_by (λ l. same_origin o l.origin) (leaves l)) (count_by (λ l. same_origin o l.origin) (leaves r))
 
 one : (b : Bool) → cut (0 + cond b 1 0) ≡ once_if b
 one true = refl
 one false = refl
 
-pub appearances-table : (o : Origin) (t : TableDecl) (only : Bool) (sample : Option Tablesample) → appearances o (of_table t only sample) ≡ once_if (same_origin o (a_table t))
+pub appearances-table : (o : Origin) (t : TableDecl) (only : Bool) (sample : Option Tablesample)
+    → appearances o (of_table t only sample) ≡ once_if (same_origin o (a_table t))
 unfolding appearances
 appearances-table o t only sample = one (same_origin o (a_table t))
 
-pub appearances-alias : (o : Origin) (a : List ℕ) (t : TableDecl) → appearances o (of_alias a t) ≡ once_if (same_origin o (an_alias a t))
+pub appearances-alias : (o : Origin) (a : List ℕ) (t : TableDecl)
+    → appearances o (of_alias a t) ≡ once_if (same_origin o (an_alias a t))
 unfolding appearances
 appearances-alias o a t = one (same_origin o (an_alias a t))
 

@@ -49,15 +49,23 @@ exact-table a b h =
     let l = second_so (option_eq bytes_eq a.schema b.schema) (shaped a b) k in
     let p = exact-text a.name b.name (first_so (bytes_eq a.name b.name) (written a b) h) in
     let q = exact-text a.sql_name b.sql_name (first_so (bytes_eq a.sql_name b.sql_name) (placed a b) g) in
-    let r = exact-option exact-text a.schema b.schema (first_so (option_eq bytes_eq a.schema b.schema) (shaped a b) k) in
-    let s = exact-list exact-column a.columns b.columns (first_so (pointwise same_column a.columns b.columns) (keyed a b) l) in
-    let t = exact-list exact-text a.primary_key b.primary_key (second_so (pointwise same_column a.columns b.columns) (keyed a b) l) in
+    let r =
+    exact-option exact-text a.schema b.schema (first_so (option_eq bytes_eq a.schema b.schema) (shaped a b) k) in
+    let s =
+    exact-list exact-column a.columns b.columns
+    (first_so (pointwise same_column a.columns b.columns) (keyed a b) l) in
+    let t =
+    exact-list exact-text a.primary_key b.primary_key
+    (second_so (pointwise same_column a.columns b.columns) (keyed a b) l) in
     λ i. record { name = p i; sql_name = q i; schema = r i; columns = s i; primary_key = t i }
 
 pub exact-origin : IsExact same_origin
 exact-origin a b h =
-    let p = exact-option exact-text a.alias b.alias (first_so (option_eq bytes_eq a.alias b.alias) (same_table a.table b.table) h) in
-    let q = exact-table a.table b.table (second_so (option_eq bytes_eq a.alias b.alias) (same_table a.table b.table) h) in
+    let p =
+    exact-option exact-text a.alias b.alias
+    (first_so (option_eq bytes_eq a.alias b.alias) (same_table a.table b.table) h) in
+    let q =
+    exact-table a.table b.table (second_so (option_eq bytes_eq a.alias b.alias) (same_table a.table b.table) h) in
     λ i. record { alias = p i; table = q i }
 
 -- ---- what is equal is the same
@@ -69,7 +77,9 @@ pub same-table_itself : (t : TableDecl) → same_table t t ≡ true
 same-table_itself t = laws-law.refl t
 
 pub same-origin_itself : (o : Origin) → same_origin o o ≡ true
-same-origin_itself o = and_from (option_eq bytes_eq o.alias o.alias) (same_table o.table o.table) (same-alias o.alias) (same-table_itself o.table)
+same-origin_itself o =
+    and_from (option_eq bytes_eq o.alias o.alias) (same_table o.table o.table) (same-alias o.alias)
+    (same-table_itself o.table)
 
 pub other-origin : (a b : Origin) → ¬ (a ≡ b) → same_origin a b ≡ false
 other-origin a b n = false_from_ne_true (same_origin a b) (λ e. n (exact-origin a b e))

@@ -7,18 +7,20 @@ use Rattle.sql_leaf.specs.declared.table_source.JoinKind.{JoinKind}
 use Rattle.sql_leaf.specs.declared.table_source.JoinKind.TheVariants.{Inner, LeftOuter}
 use Rattle.sql_leaf.specs.declared.table_source.Tablesample.{Tablesample}
 use Rattle.sql_schema.specs.declared.declaration.TableDecl.{TableDecl}
-use Rattle.sql_node.specs.Tree.{Expr, nullable, Source, of_table, of_alias, join, MaybeExpr}
+use Rattle.sql_node.specs.Tree.{Expr, nullable, under, Source, of_table, of_alias, join, MaybeExpr}
 use Rattle.sql_node.specs.View.{expr_tree}
 use Rattle.sql_node.specs.declared.expr.Expr.{Expr as Rust}
 use Rattle.sql_source.specs.Leaves.{Leaf, leaves, in_right_side}
 use Rattle.sql_source.specs.Origins.{a_table, an_alias}
-use Rattle.sql_source.specs.Selections.{nullables, leaf_columns, origin_columns, padded, selected}
+use Rattle.sql_source.specs.Selections.{leaf_columns, origin_columns, padded, selected}
 
-once_more : (l : Leaf) (es : List Expr) → map (λ e. nullables (suc l.paddings) e) es ≡ map nullable (map (λ e. nullables l.paddings e) es)
+once_more : (l : Leaf) (es : List Expr)
+    → map (λ e. under (suc l.paddings) e) es ≡ map nullable (map (λ e. under l.paddings e) es)
 once_more l [] = refl
-once_more l (e ∷ es) = ap (λ x. nullable (nullables l.paddings e) ∷ x) (once_more l es)
+once_more l (e ∷ es) = ap (λ x. nullable (under l.paddings e) ∷ x) (once_more l es)
 
-right-columns : (k : JoinKind) (ls : List Leaf) → flat_map leaf_columns (map (in_right_side k) ls) ≡ padded k (flat_map leaf_columns ls)
+right-columns : (k : JoinKind) (ls : List Leaf)
+    → flat_map leaf_columns (map (in_right_side k) ls) ≡ padded k (flat_map leaf_columns ls)
 right-columns Inner [] = refl
 right-columns LeftOuter [] = refl
 right-columns Inner (l ∷ ls) = ap (λ x. leaf_columns l ++ x) (right-columns Inner ls)
@@ -27,16 +29,20 @@ right-columns LeftOuter (l ∷ ls) =
     ∙ ap (λ x. map nullable (leaf_columns l) ++ x) (right-columns LeftOuter ls)
     ∙ sym (map-append nullable (leaf_columns l) (flat_map leaf_columns ls))
 
-pub selected-join : (k : JoinKind) (l r : Source) (on : MaybeExpr) → selected (join k l r on) ≡ selected l ++ padded k (selected r)
+pub selected-join : (k : JoinKind) (l r : Source) (on : MaybeExpr)
+    → selected (join k l r on) ≡ selected l ++ padded k (selected r)
 unfolding selected
-selected-join k l r on = flat_map-append leaf_columns (leaves l) (map (in_right_side k) (leaves r)) ∙ ap (λ x. flat_map leaf_columns (leaves l) ++ x) (right-columns k (leaves r))
+selected-join k l r on =
+    flat_map-append leaf_columns (leaves l) (map (in_right_side k) (leaves r))
+    ∙ ap (λ x. flat_map leaf_columns (leaves l) ++ x) (right-columns k (leaves r))
 
 -- the columns of a leaf alone stand under no nullable
-bare : (es : List Expr) → map (λ e. nullables 0 e) es ++ [] ≡ es
+bare : (es : List Expr) → map (λ e. under 0 e) es ++ [] ≡ es
 bare [] = refl
 bare (e ∷ es) = ap (λ x. e ∷ x) (bare es)
 
-pub selected-table : (t : TableDecl) (only : Bool) (sample : Option Tablesample) → selected (of_table t only sample) ≡ origin_columns (a_table t)
+pub selected-table : (t : TableDecl) (only : Bool) (sample : Option Tablesample)
+    → selected (of_table t only sample) ≡ origin_columns (a_table t)
 unfolding selected
 selected-table t only sample = bare (origin_columns (a_table t))
 

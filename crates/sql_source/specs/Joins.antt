@@ -46,7 +46,8 @@ key_column t = option_map (λ c. column_of t c) (single_column t.primary_key t.c
 
 -- `child.key = parent.key`, each under its alias where it has one, and both under nullable
 abbrev pub equal_keys : Option (List ℕ) → Option DeclaredColumn → Option (List ℕ) → Option DeclaredColumn → Option Expr
-equal_keys child (Some key) parent (Some id) = Some (compared Eq (nullable (column_under child key)) (nullable (column_under parent id)))
+equal_keys child (Some key) parent (Some id) =
+    Some (compared Eq (nullable (column_under child key)) (nullable (column_under parent id)))
 equal_keys child (Some key) parent None = None
 equal_keys child None parent id = None
 
@@ -60,7 +61,8 @@ on_relation a b (Some j) = if refers_from a.table b.table j then equal_by j.key 
 
 -- the condition on which two tables of the schema, or aliases of them, are joined
 abbrev pub related_on : Declarations → Origin → Origin → Option Expr
-related_on s a b = if is_declared s a.table && is_declared s b.table then on_relation a b (relation s a.table b.table) else None
+related_on s a b =
+    if is_declared s a.table && is_declared s b.table then on_relation a b (relation s a.table b.table) else None
 
 abbrev pub on_between : Declarations → Option Origin → Option Origin → Option Expr
 on_between s (Some a) (Some b) = related_on s a b
@@ -84,7 +86,11 @@ joined_with k left right = join k left right.source (maybe_of right.on)
 
 -- a source, and its condition, joined with a side; its own condition stays
 abbrev pub joined_by : Declarations → JoinKind → Side → Side → Side
-joined_by s k left right = record { source = joined_with k left.source (record { source = right.source; on = on_for s left.source right }); on = left.on }
+joined_by s k left right =
+    record {
+      source = joined_with k left.source (record { source = right.source; on = on_for s left.source right });
+      on = left.on;
+    }
 
 abbrev pub alone : Source → Side
 alone s = record { source = s; on = None }

@@ -6,7 +6,12 @@ use Rattle.sql_leaf.specs.declared.table_source.TablesampleMethod.{TablesampleMe
 
 -- a sample of so many rows of a hundred, in place of an earlier one
 abbrev pub sampled : TablesampleMethod → ℤ → TableSource → TableSource
-sampled method portion t = record { table = t.table; only = t.only; sample = Some (record { method = method; portion = portion; seed = None }) }
+sampled method portion t =
+    record {
+      table = t.table;
+      only = t.only;
+      sample = Some (record { method = method; portion = portion; seed = None });
+    }
 
 abbrev pub with_seed : ℤ → Tablesample → Tablesample
 with_seed seed s = record { method = s.method; portion = s.portion; seed = Some seed }

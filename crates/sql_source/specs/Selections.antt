@@ -1,18 +1,13 @@
 -- What a source selects by default: the columns of each leaf in order (PostgreSQL, SELECT, SELECT List; diesel,
 -- `QuerySource::default_selection`).
-use Rattle.std.specs.Prelude.{ℕ, zero, suc, List, [], ◌∷◌, ◌++◌, map, flat_map}
+use Rattle.std.specs.Prelude.{List, [], ◌∷◌, ◌++◌, map, flat_map}
 use Rattle.sql_schema.specs.Columns.{columns_in}
 use Rattle.sql_leaf.specs.declared.table_source.JoinKind.{JoinKind}
 use Rattle.sql_leaf.specs.declared.table_source.JoinKind.TheVariants.{Inner, LeftOuter}
-use Rattle.sql_node.specs.Tree.{Origin, Expr, nullable, list, Source}
+use Rattle.sql_node.specs.Tree.{Origin, Expr, nullable, list, under, Source}
 use Rattle.sql_node.specs.View.{exprs_of}
 use Rattle.sql_source.specs.Leaves.{Leaf, leaves}
 use Rattle.sql_source.specs.Origins.{column_under}
-
--- an expression under so many nullables
-abbrev pub nullables : ℕ → Expr → Expr
-nullables zero e = e
-nullables (suc n) e = nullable (nullables n e)
 
 -- the columns of a table, or the fields of an alias
 abbrev pub origin_columns : Origin → List Expr
@@ -20,7 +15,7 @@ origin_columns o = map (λ c. column_under o.alias c) (columns_in o.table)
 
 -- the columns of a leaf, nullable once for each left outer join that it lies in the right side of
 abbrev pub leaf_columns : Leaf → List Expr
-leaf_columns l = map (λ e. nullables l.paddings e) (origin_columns l.origin)
+leaf_columns l = map (λ e. under l.paddings e) (origin_columns l.origin)
 
 unfoldable pub selected : Source → List Expr
 selected s = flat_map leaf_columns (leaves s)

@@ -40,12 +40,14 @@ pub trait AliasFields {
 
     /// The column under the alias: `"u2"."id"`. It should be a column of the aliased table.
     fn field(&self, alloc: Global, column: &Column) -> Result<AliasedField, NoMemory>
-        ensures { IfOk result (λ f. f ≡ record { alias = (alias self.now).name; column = column.now }) };
+        ensures { IfOk result (λ f. f
+            ≡ record { alias = (alias self.now).name; column = column.now }) };
 
     /// The same expression with `"u2"."id"` in place of `"users"."id"`, for each column of the table. What stands in a
     /// subselect stays, and so do other tables' columns and aliased fields.
     fn fields(&self, alloc: Global, expr: Expr) -> Result<Expr, NoMemory>
-        ensures { IfOk result (λ e. expr_tree e ≡ fields_in (alias self.now).name (alias self.now).table (expr_tree expr)) };
+        ensures { IfOk result (λ e. expr_tree e
+            ≡ fields_in (alias self.now).name (alias self.now).table (expr_tree expr)) };
 }
 
 impl NewAlias for Alias {
@@ -94,7 +96,9 @@ struct Renaming<'a> {
 
 impl Renaming<'_> {
     fn column(self, column: &Column) -> Result<Expr, NoMemory>
-        ensures { IfOk result (λ e. expr_tree e ≡ fields_in self.entry.alias.now.name self.entry.alias.now.table (column_of column.now)) }
+        ensures { IfOk result (λ e. expr_tree e
+            ≡ fields_in self.entry.alias.now.name self.entry.alias.now.table
+            (column_of column.now)) }
     {
         let column = column.try_clone(self.alloc)?;
         if same_table(&self.alias.table, column.table()) {
@@ -107,14 +111,17 @@ impl Renaming<'_> {
 
     #[cycle(renaming)]
     fn boxed(self, expr: &Expr) -> Result<Box<Expr>, NoMemory>
-        ensures { IfOk result (λ b. expr_tree b.value ≡ fields_in self.entry.alias.now.name self.entry.alias.now.table (expr_tree expr.now)) }
+        ensures { IfOk result (λ b. expr_tree b.value
+            ≡ fields_in self.entry.alias.now.name self.entry.alias.now.table (expr_tree expr.now)) }
     {
         Ok(Box::new(self.alloc, self.expr(expr)?)?)
     }
 
     #[cycle(renaming)]
     fn each(self, exprs: &[Expr]) -> Result<Vec<Expr>, NoMemory>
-        ensures { IfOk result (λ v. map expr_tree v.items ≡ map (fields_in self.entry.alias.now.name self.entry.alias.now.table) (map expr_tree exprs.now)) }
+        ensures { IfOk result (λ v. map expr_tree v.items
+            ≡ map (fields_in self.entry.alias.now.name self.entry.alias.now.table)
+            (map expr_tree exprs.now)) }
     {
         let mut all = Vec::new(self.alloc);
         for expr in exprs {
@@ -125,7 +132,8 @@ impl Renaming<'_> {
 
     #[cycle(renaming)]
     fn expr(self, expr: &Expr) -> Result<Expr, NoMemory>
-        ensures { IfOk result (λ e. expr_tree e ≡ fields_in self.entry.alias.now.name self.entry.alias.now.table (expr_tree expr.now)) }
+        ensures { IfOk result (λ e. expr_tree e
+            ≡ fields_in self.entry.alias.now.name self.entry.alias.now.table (expr_tree expr.now)) }
     {
         match expr {
             Expr::Column(column) => self.column(column),

@@ -31,14 +31,16 @@ pub trait JoinOnDsl {
 
     /// The source with the condition on which it is to be joined: `"posts" ON ("posts"."user_id" = "users"."id")`.
     fn on(self, on: Expr) -> OnClauseWrapper
-        ensures { wrapper_tree result ≡ record { source = unconditional self; on = Some (expr_tree on) } };
+        ensures { wrapper_tree result
+            ≡ record { source = unconditional self; on = Some (expr_tree on) } };
 }
 
 /// The makers of wrappers.
 pub trait NewOnClauseWrapper {
     /// The source with the condition on which it is to be joined.
     fn new(source: Source, on: Expr) -> OnClauseWrapper
-        ensures { wrapper_tree result ≡ record { source = source_tree source; on = Some (expr_tree on) } };
+        ensures { wrapper_tree result
+            ≡ record { source = source_tree source; on = Some (expr_tree on) } };
 }
 
 /// Sources, alone or with a condition, that are joined with others.
@@ -49,15 +51,18 @@ pub trait JoinDsl: Sized {
     /// `("users" INNER JOIN "posts" ON ("posts"."user_id" = "users"."id"))`. Without a condition of its own, the right side is
     /// joined on the relation that the schema declares; where there is none, the join has no condition.
     fn inner_join(self, alloc: Global, schema: &Schema, rhs: JoinRhs) -> Result<Self, NoMemory>
-        ensures { IfOk result (λ s. side s ≡ joined_by schema.now kind.Inner (side self) (side_tree rhs)) };
+        ensures { IfOk result (λ s. side s
+            ≡ joined_by schema.now kind.Inner (side self) (side_tree rhs)) };
 
     /// `("users" LEFT OUTER JOIN "posts" ON ("posts"."user_id" = "users"."id"))`, on the same condition.
     fn left_outer_join(self, alloc: Global, schema: &Schema, rhs: JoinRhs) -> Result<Self, NoMemory>
-        ensures { IfOk result (λ s. side s ≡ joined_by schema.now kind.LeftOuter (side self) (side_tree rhs)) };
+        ensures { IfOk result (λ s. side s
+            ≡ joined_by schema.now kind.LeftOuter (side self) (side_tree rhs)) };
 
     /// The same as `left_outer_join`.
     fn left_join(self, alloc: Global, schema: &Schema, rhs: JoinRhs) -> Result<Self, NoMemory>
-        ensures { IfOk result (λ s. side s ≡ joined_by schema.now kind.LeftOuter (side self) (side_tree rhs)) }
+        ensures { IfOk result (λ s. side s
+            ≡ joined_by schema.now kind.LeftOuter (side self) (side_tree rhs)) }
     {
         self.left_outer_join(alloc, schema, rhs)
     }
@@ -76,7 +81,8 @@ pub trait InternalJoinDsl: Sized {
         kind: JoinKind,
         on: Option<Expr>,
     ) -> Result<Self, NoMemory>
-        ensures { IfOk result (λ s. joins_as self (source_tree rhs) kind (option_map expr_tree on) s) };
+        ensures { IfOk result (λ s. joins_as self (source_tree rhs) kind (option_map expr_tree on)
+            s) };
 }
 
 /// The condition on which two sources are joined.
@@ -90,7 +96,8 @@ pub trait JoinTo {
         rhs: JoinRhs,
     ) -> Result<(Source, Option<Expr>), NoMemory>
         ensures source { IfOk result (λ r. source_tree r.0 ≡ (side_tree rhs).source) }
-        ensures on { IfOk result (λ r. option_map expr_tree r.1 ≡ on_for schema.now (source_tree left.now) (side_tree rhs)) };
+        ensures on { IfOk result (λ r. option_map expr_tree r.1
+            ≡ on_for schema.now (source_tree left.now) (side_tree rhs)) };
 }
 
 #[cycle(inner)]
@@ -160,7 +167,8 @@ impl JoinTo for Source {
 }
 
 impl InternalJoinDsl for Source {
-    ghost joins_as = { λ l r k on j. source_tree j ≡ joined_with k (source_tree l) (record { source = r; on = on }) };
+    ghost joins_as = { λ l r k on j. source_tree j
+        ≡ joined_with k (source_tree l) (record { source = r; on = on }) };
 
     fn join(
         self,
@@ -186,7 +194,8 @@ fn joined_to(
     rhs: JoinRhs,
     kind: JoinKind,
 ) -> Result<Source, NoMemory>
-    ensures { IfOk result (λ s. source_tree s ≡ (joined_by schema.now kind (alone (source_tree left)) (side_tree rhs)).source) }
+    ensures { IfOk result (λ s. source_tree s
+        ≡ (joined_by schema.now kind (alone (source_tree left)) (side_tree rhs)).source) }
 {
     let (right, on) = Source::join_target(alloc, schema, &left, rhs)?;
     left.join(alloc, right, kind, on)
@@ -216,7 +225,8 @@ fn wrapper_joined_to(
     rhs: JoinRhs,
     kind: JoinKind,
 ) -> Result<OnClauseWrapper, NoMemory>
-    ensures { IfOk result (λ w. wrapper_tree w ≡ joined_by schema.now kind (wrapper_tree left) (side_tree rhs)) }
+    ensures { IfOk result (λ w. wrapper_tree w
+        ≡ joined_by schema.now kind (wrapper_tree left) (side_tree rhs)) }
 {
     let source = joined_to(alloc, schema, left.source, rhs, kind)?;
     Ok(OnClauseWrapper {
@@ -250,7 +260,11 @@ impl JoinDsl for OnClauseWrapper {
 
 /// Its source is joined, and its condition stays.
 impl InternalJoinDsl for OnClauseWrapper {
-    ghost joins_as = { λ w r k on j. wrapper_tree j ≡ record (wrapper_tree w) { source = joined_with k (wrapper_tree w).source (record { source = r; on = on }) } };
+    ghost joins_as = { λ w r k on j. wrapper_tree j
+        ≡ record (wrapper_tree w) {
+          source =
+              joined_with k (wrapper_tree w).source (record { source = r; on = on });
+        } };
 
     fn join(
         self,

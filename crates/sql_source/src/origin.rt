@@ -68,7 +68,8 @@ impl<'s> Origin<'s> {
 
     /// `"users"."id"`, or `"u2"."id"` of an alias.
     pub fn column(self, alloc: Global, column: Column) -> Result<Expr, NoMemory>
-        ensures { IfOk result (λ e. expr_tree e ≡ column_under (origin_of self.entry).alias column) }
+        ensures { IfOk result (λ e. expr_tree e
+            ≡ column_under (origin_of self.entry).alias column) }
     {
         match self.alias {
             None => Ok(Expr::Column(column)),

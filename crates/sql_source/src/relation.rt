@@ -55,7 +55,9 @@ fn equal(
     parent: Origin,
     id: Column,
 ) -> Result<Expr, NoMemory>
-    ensures { IfOk result (λ e. expr_tree e ≡ tree.compared by.Eq (tree.nullable (column_under (origin_of child.entry).alias key)) (tree.nullable (column_under (origin_of parent.entry).alias id))) }
+    ensures { IfOk result (λ e. expr_tree e
+        ≡ tree.compared by.Eq (tree.nullable (column_under (origin_of child.entry).alias key))
+        (tree.nullable (column_under (origin_of parent.entry).alias id))) }
 {
     let key = child.column(alloc, key)?.nullable(alloc)?;
     let id = parent.column(alloc, id)?.nullable(alloc)?;
@@ -69,7 +71,8 @@ fn equal_keys(
     key: &str,
     parent: Origin,
 ) -> Result<Option<Expr>, NoMemory>
-    ensures { IfOk result (λ o. option_map expr_tree o ≡ equal_by key.now (origin_of child.entry) (origin_of parent.entry)) }
+    ensures { IfOk result (λ o. option_map expr_tree o
+        ≡ equal_by key.now (origin_of child.entry) (origin_of parent.entry)) }
 {
     let Some(key) = child.table.column(alloc, key)? else {
         return Ok(None);
@@ -87,7 +90,8 @@ fn related_on(
     left: Origin,
     right: Origin,
 ) -> Result<Option<Expr>, NoMemory>
-    ensures { IfOk result (λ o. option_map expr_tree o ≡ on_of schema.now (origin_of left.entry) (origin_of right.entry)) }
+    ensures { IfOk result (λ o. option_map expr_tree o
+        ≡ on_of schema.now (origin_of left.entry) (origin_of right.entry)) }
 {
     if !is_declared(schema, left.table) || !is_declared(schema, right.table) {
         return Ok(None);
@@ -122,7 +126,8 @@ pub(crate) fn implicit_on(
     left: &Source,
     right: &Source,
 ) -> Result<Option<Expr>, NoMemory>
-    ensures { IfOk result (λ o. option_map expr_tree o ≡ implicit schema.now (source_tree left.now) (source_tree right.now)) }
+    ensures { IfOk result (λ o. option_map expr_tree o
+        ≡ implicit schema.now (source_tree left.now) (source_tree right.now)) }
 {
     related_on(alloc, schema, leftmost(left), leftmost(right))
 }

@@ -34,7 +34,8 @@ pub trait AppendSelection {
 
     /// The list of all columns, and the expression as its last element.
     fn append_selection(&self, alloc: Global, selection: Expr) -> Result<Expr, NoMemory>
-        ensures { IfOk result (λ e. expr_tree e ≡ appended_list (appends_to self.now) (expr_tree selection)) };
+        ensures { IfOk result (λ e. expr_tree e
+            ≡ appended_list (appends_to self.now) (expr_tree selection)) };
 }
 
 /// The columns of a table, or the fields of an alias.
@@ -49,7 +50,8 @@ fn columns(alloc: Global, origin: Origin) -> Result<Vec<Expr>, NoMemory>
 }
 
 fn nullable_each(alloc: Global, exprs: Vec<Expr>) -> Result<Vec<Expr>, NoMemory>
-    ensures { IfOk result (λ v. map expr_tree v.items ≡ map tree.nullable (map expr_tree exprs.items)) }
+    ensures { IfOk result (λ v. map expr_tree v.items
+        ≡ map tree.nullable (map expr_tree exprs.items)) }
 {
     let mut all = Vec::new(alloc);
     for expr in exprs {

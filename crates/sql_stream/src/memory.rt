@@ -26,7 +26,13 @@ impl Model for MemorySource {
 
     ghost Value = { Supply };
 
-    ghost view = { λ s. record { left = drop s.at s.bytes.items; piece = s.piece.value; failing = s.failing.items; calls = s.calls; faults = s.faults } };
+    ghost view = { λ s. record {
+      left = drop s.at s.bytes.items;
+      piece = s.piece.value;
+      failing = s.failing.items;
+      calls = s.calls;
+      faults = s.faults;
+    } };
 
     ghost invariant = { λ s. s.at ≤ length s.bytes.items };
 }
@@ -34,7 +40,14 @@ impl Model for MemorySource {
 impl MemorySource {
     /// A source of these bytes. Calls are numbered from 1.
     pub fn new(bytes: Vec<u8>, piece: NonZeroUsize, failing: Vec<u64>) -> MemorySource
-        ensures { result ≡ record { left = bytes.items; piece = piece.value; failing = failing.items; calls = 0; faults = 0 } }
+        ensures { result
+            ≡ record {
+              left = bytes.items;
+              piece = piece.value;
+              failing = failing.items;
+              calls = 0;
+              faults = 0;
+            } }
     {
         MemorySource {
             bytes,
@@ -58,9 +71,16 @@ impl Source for MemorySource {
         ensures cause { HasCause self.old.faults self.new.faults result }
         // It fails at the calls that were named, and gives as much as it can at any other.
         ensures fails { IsErr result ↔ Contains self.old.failing (counted self.old.calls) }
-        ensures count { IfOk result (λ n. n ≡ min (min (length self.old.left) (length out.old)) self.old.piece) }
-        ensures ok { IfOk result (λ n. self.new ≡ record self.old { left = drop n self.old.left; calls = counted self.old.calls }) }
-        ensures err { OnErr result (self.new ≡ record self.old { calls = counted self.old.calls; faults = counted self.old.faults }) }
+        ensures count { IfOk result (λ n. n
+            ≡ min (min (length self.old.left) (length out.old)) self.old.piece) }
+        ensures ok { IfOk result (λ n. self.new
+            ≡ record self.old { left = drop n self.old.left; calls = counted self.old.calls }) }
+        ensures err { OnErr result
+            (self.new
+            ≡ record self.old {
+              calls = counted self.old.calls;
+              faults = counted self.old.faults;
+            }) }
     {
         self.calls = self.calls.saturating_add(1);
         if self.failing.contains(&self.calls) {
@@ -92,7 +112,14 @@ impl Model for MemorySink {
 
     ghost Value = { Store };
 
-    ghost view = { λ s. record { held = s.bytes.items; room = s.room; piece = s.piece.value; failing = s.failing.items; calls = s.calls; faults = s.faults } };
+    ghost view = { λ s. record {
+      held = s.bytes.items;
+      room = s.room;
+      piece = s.piece.value;
+      failing = s.failing.items;
+      calls = s.calls;
+      faults = s.faults;
+    } };
 
     ghost invariant = { λ s. s.room ≤ vec_capacity s.bytes };
 }
@@ -105,7 +132,15 @@ impl MemorySink {
         piece: NonZeroUsize,
         failing: Vec<u64>,
     ) -> Result<MemorySink, AllocError>
-        ensures { IfOk result (λ sink. sink ≡ record { held = []; room = room; piece = piece.value; failing = failing.items; calls = 0; faults = 0 }) }
+        ensures { IfOk result (λ sink. sink
+            ≡ record {
+              held = [];
+              room = room;
+              piece = piece.value;
+              failing = failing.items;
+              calls = 0;
+              faults = 0;
+            }) }
     {
         let bytes = Vec::with_capacity(alloc, room)?;
         Ok(MemorySink {
@@ -139,9 +174,16 @@ impl Sink for MemorySink {
         // It fails at the calls that were named, and at a piece that isn't empty where no room is left.
         ensures fails { IsErr result ↔ (Contains self.old.failing (counted self.old.calls)
             ⊎ ((0 < length piece.now) × (self.old.room ≤ length self.old.held))) }
-        ensures count { IfOk result (λ n. n ≡ min (min (length piece.now) (self.old.room - length self.old.held)) self.old.piece) }
-        ensures ok { IfOk result (λ n. self.new ≡ record self.old { held = self.new.held; calls = counted self.old.calls }) }
-        ensures err { OnErr result (self.new ≡ record self.old { calls = counted self.old.calls; faults = counted self.old.faults }) }
+        ensures count { IfOk result (λ n. n
+            ≡ min (min (length piece.now) (self.old.room - length self.old.held)) self.old.piece) }
+        ensures ok { IfOk result (λ n. self.new
+            ≡ record self.old { held = self.new.held; calls = counted self.old.calls }) }
+        ensures err { OnErr result
+            (self.new
+            ≡ record self.old {
+              calls = counted self.old.calls;
+              faults = counted self.old.faults;
+            }) }
     {
         self.calls = self.calls.saturating_add(1);
         if self.failing.contains(&self.calls) {

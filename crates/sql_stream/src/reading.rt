@@ -41,10 +41,13 @@ pub fn read_all<S: Source>(
     ensures all { IfOk result (λ bytes. Consumes (S.left source.old) (S.left source.new) bytes.items
         × IsAtEnd (S.left source.new) × (length bytes.items ≤ limit)) }
     // What it had given before an error: more than the limit exactly where that is the error.
-    ensures given { IfErr result (λ e. (given : List ℕ) × Consumes (S.left source.old) (S.left source.new) given
+    ensures given { IfErr result (λ e. (given : List ℕ)
+        × Consumes (S.left source.old) (S.left source.new) given
         × ((e ≡ TooLarge) ↔ (limit < length given))) }
-    ensures fault { IfErr result (λ e. e ≡ Fault → Rose (S.faults source.old) (S.faults source.new)) }
-    ensures no_fault { IfErr result (λ e. (e ≡ Fault → ⊥) → S.faults source.new ≡ S.faults source.old) }
+    ensures fault { IfErr result (λ e. e ≡ Fault
+        → Rose (S.faults source.old) (S.faults source.new)) }
+    ensures no_fault { IfErr result (λ e. (e ≡ Fault → ⊥)
+        → S.faults source.new ≡ S.faults source.old) }
     ensures ok { OnOk result (S.faults source.new ≡ S.faults source.old) }
 {
     let mut bytes = Vec::new(alloc);

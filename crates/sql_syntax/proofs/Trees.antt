@@ -35,13 +35,20 @@ use Rattle.sql_syntax.specs.declared.expr.Membership.TheVariants as Membership-V
 use Rattle.sql_syntax.specs.declared.query.QueryStart.TheVariants as QueryStart-V
 use Rattle.sql_syntax.specs.declared.source.Source.TheVariants as Source-V
 
-pub order_item-out : (s : OrderItem) → order_item_tree s ≡ (expr_tree (out-OrderItem s).expr, (out-OrderItem s).direction)
-order_item-out = fold_out-OrderItem t.Call t.Expr t.Membership t.Start t.Source Item t.Query t.Source call_level expr_level membership_level query_start_level source_level order_item_level query_level join_level
+pub order_item-out : (s : OrderItem)
+    → order_item_tree s ≡ (expr_tree (out-OrderItem s).expr, (out-OrderItem s).direction)
+order_item-out =
+    fold_out-OrderItem t.Call t.Expr t.Membership t.Start t.Source Item t.Query t.Source call_level expr_level
+    membership_level query_start_level source_level order_item_level query_level join_level
 
-pub query-out : (s : Query) → query_tree s ≡ t.query (query_start_tree (out-Query s).start) (calls_of (map call_tree (out-Query s).calls))
+pub query-out : (s : Query)
+    → query_tree s ≡ t.query (query_start_tree (out-Query s).start) (calls_of (map call_tree (out-Query s).calls))
 query-out s = search (rules, the_lemmas, fold_out-Query)
 
-pub join-out : (s : Join) → join_tree s ≡ t.join (out-Join s).kind (source_tree (out-Join s).left) (source_tree (out-Join s).right) (maybe_of (option_map expr_tree (out-Join s).on))
+pub join-out : (s : Join)
+    → join_tree s
+    ≡ t.join (out-Join s).kind (source_tree (out-Join s).left) (source_tree (out-Join s).right)
+    (maybe_of (option_map expr_tree (out-Join s).on))
 join-out s = search (rules, the_lemmas, fold_out-Join)
 
 pub call-of_Plain : (x : PlainCall) → call_tree (Call-V.Plain x) ≡ t.plain x
@@ -50,7 +57,8 @@ call-of_Plain x = search (rules, the_lemmas)
 pub call-of_Clause : (x : ClauseCall) → (y : Expr) → call_tree (Call-V.Clause x y) ≡ t.clause x (expr_tree y)
 call-of_Clause x y = search (rules, the_lemmas)
 
-pub call-of_Join : (x : JoinKind) → (y : Source) → (z : Option Expr) → call_tree (Call-V.Join x y z) ≡ t.join_with x (source_tree y) (maybe_of (option_map expr_tree z))
+pub call-of_Join : (x : JoinKind) → (y : Source) → (z : Option Expr)
+    → call_tree (Call-V.Join x y z) ≡ t.join_with x (source_tree y) (maybe_of (option_map expr_tree z))
 call-of_Join x y z = search (rules, the_lemmas)
 
 pub call-of_Find : (x : List Expr) → call_tree (Call-V.Find x) ≡ t.find (exprs_of (map expr_tree x))
@@ -59,7 +67,8 @@ call-of_Find x = search (rules, the_lemmas)
 pub call-of_Order : (x : List OrderItem) → call_tree (Call-V.Order x) ≡ t.order (items_of (map order_item_tree x))
 call-of_Order x = search (rules, the_lemmas)
 
-pub call-of_ThenOrderBy : (x : List OrderItem) → call_tree (Call-V.ThenOrderBy x) ≡ t.then_order_by (items_of (map order_item_tree x))
+pub call-of_ThenOrderBy : (x : List OrderItem)
+    → call_tree (Call-V.ThenOrderBy x) ≡ t.then_order_by (items_of (map order_item_tree x))
 call-of_ThenOrderBy x = search (rules, the_lemmas)
 
 pub call-of_Limit : (x : ℤ) → call_tree (Call-V.Limit x) ≡ t.limit x
@@ -71,10 +80,12 @@ call-of_Offset x = search (rules, the_lemmas)
 pub call-of_IntoBoxed : (x : Option Dialect) → call_tree (Call-V.IntoBoxed x) ≡ t.into_boxed x
 call-of_IntoBoxed x = search (rules, the_lemmas)
 
-pub call-of_Combine : (x : Combinator) → (y : DuplicateRule) → (z : Query) → call_tree (Call-V.Combine x y z) ≡ t.combine x y (query_tree z)
+pub call-of_Combine : (x : Combinator) → (y : DuplicateRule) → (z : Query)
+    → call_tree (Call-V.Combine x y z) ≡ t.combine x y (query_tree z)
 call-of_Combine x y z = search (rules, the_lemmas)
 
-pub call-of_PositionalOrderBy : (x : List PositionalItem) → call_tree (Call-V.PositionalOrderBy x) ≡ t.positional_order_by x
+pub call-of_PositionalOrderBy : (x : List PositionalItem)
+    → call_tree (Call-V.PositionalOrderBy x) ≡ t.positional_order_by x
 call-of_PositionalOrderBy x = search (rules, the_lemmas)
 
 pub expr-of_List : (x : List Expr) → expr_tree (Expr-V.List x) ≡ t.list (exprs_of (map expr_tree x))
@@ -92,19 +103,23 @@ expr-of_Field x = search (rules, the_lemmas)
 pub expr-of_Bind : (x : SqlType) → (y : Value) → expr_tree (Expr-V.Bind x y) ≡ t.bind x y
 expr-of_Bind x y = search (rules, the_lemmas)
 
-pub expr-of_Unary : (x : UnaryOperator) → (y : Box Expr Global) → expr_tree (Expr-V.Unary x y) ≡ t.unary x (expr_tree y.value)
+pub expr-of_Unary : (x : UnaryOperator) → (y : Box Expr Global)
+    → expr_tree (Expr-V.Unary x y) ≡ t.unary x (expr_tree y.value)
 expr-of_Unary x y = search (rules, the_lemmas)
 
-pub expr-of_Binary : (x : BinaryOperator) → (y : Box Expr Global) → (z : Box Expr Global) → expr_tree (Expr-V.Binary x y z) ≡ t.binary x (expr_tree y.value) (expr_tree z.value)
+pub expr-of_Binary : (x : BinaryOperator) → (y : Box Expr Global) → (z : Box Expr Global)
+    → expr_tree (Expr-V.Binary x y z) ≡ t.binary x (expr_tree y.value) (expr_tree z.value)
 expr-of_Binary x y z = search (rules, the_lemmas)
 
 pub expr-of_Exists : (x : Box Query Global) → expr_tree (Expr-V.Exists x) ≡ t.exists (query_tree x.value)
 expr-of_Exists x = search (rules, the_lemmas)
 
-pub expr-of_SingleValue : (x : Box Query Global) → expr_tree (Expr-V.SingleValue x) ≡ t.single_value (query_tree x.value)
+pub expr-of_SingleValue : (x : Box Query Global)
+    → expr_tree (Expr-V.SingleValue x) ≡ t.single_value (query_tree x.value)
 expr-of_SingleValue x = search (rules, the_lemmas)
 
-pub expr-of_Quantified : (x : Quantified) → (y : Box Expr Global) → (z : Membership) → expr_tree (Expr-V.Quantified x y z) ≡ t.quantified x (expr_tree y.value) (membership_tree z)
+pub expr-of_Quantified : (x : Quantified) → (y : Box Expr Global) → (z : Membership)
+    → expr_tree (Expr-V.Quantified x y z) ≡ t.quantified x (expr_tree y.value) (membership_tree z)
 expr-of_Quantified x y z = search (rules, the_lemmas)
 
 pub membership-of_Values : (x : SqlType) → (y : List Value) → membership_tree (Membership-V.Values x y) ≡ t.values x y

@@ -81,25 +81,41 @@ abbrev pub join_level : Level Join-F → t.Source
 join_level j = t.join j.kind j.left j.right (maybe_of j.on)
 
 abbrev pub call_tree : Call → t.Call
-call_tree = fold-Call t.Call t.Expr t.Membership t.Start t.Source Item t.Query t.Source call_level expr_level membership_level query_start_level source_level order_item_level query_level join_level
+call_tree =
+    fold-Call t.Call t.Expr t.Membership t.Start t.Source Item t.Query t.Source call_level expr_level membership_level
+    query_start_level source_level order_item_level query_level join_level
 
 abbrev pub expr_tree : Expr → t.Expr
-expr_tree = fold-Expr t.Call t.Expr t.Membership t.Start t.Source Item t.Query t.Source call_level expr_level membership_level query_start_level source_level order_item_level query_level join_level
+expr_tree =
+    fold-Expr t.Call t.Expr t.Membership t.Start t.Source Item t.Query t.Source call_level expr_level membership_level
+    query_start_level source_level order_item_level query_level join_level
 
 abbrev pub membership_tree : Membership → t.Membership
-membership_tree = fold-Membership t.Call t.Expr t.Membership t.Start t.Source Item t.Query t.Source call_level expr_level membership_level query_start_level source_level order_item_level query_level join_level
+membership_tree =
+    fold-Membership t.Call t.Expr t.Membership t.Start t.Source Item t.Query t.Source call_level expr_level
+    membership_level query_start_level source_level order_item_level query_level join_level
 
 abbrev pub query_start_tree : QueryStart → t.Start
-query_start_tree = fold-QueryStart t.Call t.Expr t.Membership t.Start t.Source Item t.Query t.Source call_level expr_level membership_level query_start_level source_level order_item_level query_level join_level
+query_start_tree =
+    fold-QueryStart t.Call t.Expr t.Membership t.Start t.Source Item t.Query t.Source call_level expr_level
+    membership_level query_start_level source_level order_item_level query_level join_level
 
 abbrev pub source_tree : Source → t.Source
-source_tree = fold-Source t.Call t.Expr t.Membership t.Start t.Source Item t.Query t.Source call_level expr_level membership_level query_start_level source_level order_item_level query_level join_level
+source_tree =
+    fold-Source t.Call t.Expr t.Membership t.Start t.Source Item t.Query t.Source call_level expr_level membership_level
+    query_start_level source_level order_item_level query_level join_level
 
 abbrev pub order_item_tree : OrderItem → Item
-order_item_tree = fold-OrderItem t.Call t.Expr t.Membership t.Start t.Source Item t.Query t.Source call_level expr_level membership_level query_start_level source_level order_item_level query_level join_level
+order_item_tree =
+    fold-OrderItem t.Call t.Expr t.Membership t.Start t.Source Item t.Query t.Source call_level expr_level
+    membership_level query_start_level source_level order_item_level query_level join_level
 
 abbrev pub query_tree : Query → t.Query
-query_tree = fold-Query t.Call t.Expr t.Membership t.Start t.Source Item t.Query t.Source call_level expr_level membership_level query_start_level source_level order_item_level query_level join_level
+query_tree =
+    fold-Query t.Call t.Expr t.Membership t.Start t.Source Item t.Query t.Source call_level expr_level membership_level
+    query_start_level source_level order_item_level query_level join_level
 
 abbrev pub join_tree : Join → t.Source
-join_tree = fold-Join t.Call t.Expr t.Membership t.Start t.Source Item t.Query t.Source call_level expr_level membership_level query_start_level source_level order_item_level query_level join_level
+join_tree =
+    fold-Join t.Call t.Expr t.Membership t.Start t.Source Item t.Query t.Source call_level expr_level membership_level
+    query_start_level source_level order_item_level query_level join_level

@@ -3,7 +3,7 @@ use sql_dialect::{Combinator, Dialect, DuplicateRule};
 use sql_leaf::{JoinKind, PositionalItem};
 use sql_schema::SqlList;
 
-/// A call without arguments.
+/// A call without arguments: `["distinct"]`, `["for_update"]`. Each has the name of its variant, in small letters.
 #[derive(Debug, Clone, Copy, PartialEq, Eq)]
 pub enum PlainCall {
     Distinct,
@@ -17,7 +17,7 @@ pub enum PlainCall {
     NoWait,
 }
 
-/// A call that gives a clause its expression.
+/// A call that gives a clause its expression: `["filter",EXPR]`. Each has the name of its variant, in small letters.
 #[derive(Debug, Clone, Copy, PartialEq, Eq)]
 pub enum ClauseCall {
     DistinctOn,

@@ -10,8 +10,11 @@ use crate::{Call, ClauseCall, PlainCall};
 /// What kind of statement a query has become by its calls so far. It begins as a select statement.
 #[derive(Debug, Clone, Copy, PartialEq, Eq)]
 pub enum Form {
+    /// A select statement, on which all calls stand but those of combinations alone.
     Select,
+    /// A select statement behind `into_boxed`.
     Boxed,
+    /// Two statements as one.
     Combination,
 }
 

@@ -396,16 +396,30 @@ fn calls_in_their_order(rt: HostRuntime) -> Result<(), Fail> {
     Ok(())
 }
 
+const BASES: [(Base, &str, &str); 6] = [
+    (Base::SmallInt, "SmallInt", "SmallInt?"),
+    (Base::Integer, "Integer", "Integer?"),
+    (Base::BigInt, "BigInt", "BigInt?"),
+    (Base::Text, "Text", "Text?"),
+    (Base::Binary, "Binary", "Binary?"),
+    (Base::Bool, "Bool", "Bool?"),
+];
+
+fn name_of(base: Base, nullable: bool) -> &'static str {
+    type_name(SqlType { base, nullable })
+}
+
 #[test]
 fn names_of_types(rt: HostRuntime) {
-    for base in [Base::Integer, Base::Bool] {
-        assert!(rt;
-            type_name(SqlType {
-                base,
-                nullable: true
-            })
-            .ends_with("?")
-        );
+    for (base, plain, nullable) in BASES {
+        assert_eq!(rt; name_of(base, false), plain);
+        assert_eq!(rt; name_of(base, true), nullable);
     }
+}
+
+#[test]
+fn names_of_dialects(rt: HostRuntime) {
+    assert_eq!(rt; dialect_name(Dialect::Pg), "Pg");
+    assert_eq!(rt; dialect_name(Dialect::Mysql), "Mysql");
     assert_eq!(rt; dialect_name(Dialect::Sqlite), "Sqlite");
 }

@@ -16,7 +16,8 @@ use std::test::Fail;
 struct Among<'a>(BoundRef<'a>);
 
 impl<DB: Backend> QueryFragment<DB> for Among<'_> {
-    ghost pieces = { λ a. one Unsafe ++ (one (Text []) ++ (one (ValueOnly (bound_of a.0)) ++ one (Bind (bound_of a.0)))) };
+    ghost pieces = { λ a. one Unsafe
+        ++ (one (Text []) ++ (one (ValueOnly (bound_of a.0)) ++ one (Bind (bound_of a.0)))) };
 
     fn walk_ast(&self, pass: &mut AstPass<DB>) -> Result<(), PassError> {
         pass.unsafe_to_cache_prepared();

@@ -20,7 +20,8 @@ use Rattle.sql_build.specs.Built.{statement_in}
 use Rattle.sql_document.specs.Documents.{Request}
 use Rattle.sql_tool.specs.Answer.{answer_to, refused, statement_data}
 use Rattle.sql_tool.specs.Judgement.{Judgement, Judges, refuses, accepts}
-use Rattle.sql_tool.specs.Known.{keyed, place, place_found, request_key}
+use Rattle.sql_tool.specs.Inner.{place_found}
+use Rattle.sql_tool.specs.Known.{keyed, place, request_key}
 use Rattle.sql_tool.specs.Output.{key_seen}
 use Rattle.sql_tool.specs.declared.known.RequestKey.{RequestKey}
 
@@ -32,7 +33,8 @@ option_or-none : (o : Option ℕ) → o ≡ option_or o None
 option_or-none None = refl
 option_or-none (Some x) = refl
 
-found-of : (d : Dialect) (find : RequestKey → Option ℕ) (n : ℕ) (key : Option (List KeyNode)) → option_map (λ k. unwrap_or (find (keyed d k)) n) key ≡ place_found find n (option_map (keyed d) key)
+found-of : (d : Dialect) (find : RequestKey → Option ℕ) (n : ℕ) (key : Option (List KeyNode))
+    → option_map (λ k. unwrap_or (find (keyed d k)) n) key ≡ place_found find n (option_map (keyed d) key)
 found-of d find n None = refl
 found-of d find n (Some k) = refl
 
@@ -43,21 +45,44 @@ module _ (schema : Declarations) (r : Request) (n : ℕ) (find : RequestKey → 
       × ((q : RequestKey) → found q ≡ option_or (find q) (place n (key_seen r.dialect j ∷ []) q))
 
   pub told-unknown : (v : Data) → None ≡ statement_in schema r.dialect r.query → v ≡ refused UnknownName → Told find v
-  told-unknown v none is = (refuses UnknownName, subst (λ o. MatchOption o (UnknownName ≡ UnknownName) (λ s. IsLeast UnknownName schema r.dialect s)) none refl, is, λ q. option_or-none (find q))
+  told-unknown v none is = (
+    refuses UnknownName,
+    subst (λ o. MatchOption o (UnknownName ≡ UnknownName) (λ s. IsLeast UnknownName schema r.dialect s)) none refl,
+    is,
+    λ q. option_or-none (find q),
+  )
 
-  pub told-refusal : (s : Statement) (rule : Rule) (v : Data) → Some s ≡ statement_in schema r.dialect r.query → IsLeast rule schema r.dialect s → v ≡ refused rule → Told find v
-  told-refusal s rule v some least is = (refuses rule, subst (λ o. MatchOption o (rule ≡ UnknownName) (λ s. IsLeast rule schema r.dialect s)) some least, is, λ q. option_or-none (find q))
+  pub told-refusal : (s : Statement) (rule : Rule) (v : Data) → Some s ≡ statement_in schema r.dialect r.query
+      → IsLeast rule schema r.dialect s → v ≡ refused rule → Told find v
+  told-refusal s rule v some least is = (
+    refuses rule,
+    subst (λ o. MatchOption o (rule ≡ UnknownName) (λ s. IsLeast rule schema r.dialect s)) some least,
+    is,
+    λ q. option_or-none (find q),
+  )
 
-  pub told-answer : (s : Statement) (b : Built) (found : RequestKey → Option ℕ) (v : Data) → Some s ≡ statement_in schema r.dialect r.query → IsBuilt schema r.dialect s b → IsRead r.dialect s (string_bytes b.sql) b.binds.items
-      → v ≡ statement_data b.binds.items b.sql_types.items (option_map (λ k. unwrap_or (find (keyed r.dialect k)) n) b.id) b.safe (string_bytes b.sql)
+  pub told-answer : (s : Statement) (b : Built) (found : RequestKey → Option ℕ) (v : Data)
+      → Some s ≡ statement_in schema r.dialect r.query → IsBuilt schema r.dialect s b
+      → IsRead r.dialect s (string_bytes b.sql) b.binds.items
+      → v
+      ≡ statement_data b.binds.items b.sql_types.items
+      (option_map (λ k. unwrap_or (find (keyed r.dialect k)) n) b.id) b.safe (string_bytes b.sql)
       → ((q : RequestKey) → found q ≡ option_or (find q) (place n (option_map (keyed r.dialect) b.id ∷ []) q))
       → Told found v
   told-answer s b found v some built read is kept =
       let d = r.dialect in
-      let types : b.sql_types.items ≡ known (columns s) = sym (known-some b.sql_types.items) ∙ ap known built.sql_types in
-      let at : option_map (λ k. unwrap_or (find (keyed d k)) n) b.id ≡ place_found find n (request_key d s) = found-of d find n b.id ∙ ap (λ k. place_found find n (option_map (keyed d) k)) built.id in (
+      let types : b.sql_types.items ≡ known (columns s) =
+      sym (known-some b.sql_types.items) ∙ ap known built.sql_types in
+      let at : option_map (λ k. unwrap_or (find (keyed d k)) n) b.id ≡ place_found find n (request_key d s) =
+      found-of d find n b.id ∙ ap (λ k. place_found find n (option_map (keyed d) k)) built.id in (
         accepts s,
-        record { made = sym some; accepted = built.accepted; read = subst (λ t. IsRead d s t (binds_of d s)) built.sql (subst (IsRead d s (string_bytes b.sql)) built.binds read) },
+        record {
+          made = sym some;
+          accepted = built.accepted;
+          read =
+              subst (λ t. IsRead d s t (binds_of d s)) built.sql
+              (subst (IsRead d s (string_bytes b.sql)) built.binds read);
+        },
         is ∙ (λ i. statement_data (built.binds i) (types i) (at i) (built.safe i) (built.sql i)),
         λ q. kept q ∙ ap (λ k. option_or (find q) (place n (option_map (keyed d) k ∷ []) q)) built.id,
       )

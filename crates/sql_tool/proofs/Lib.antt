@@ -1,4 +1,5 @@
 pub mod Headlines
+pub mod Ids
 pub mod Judging
 pub mod Lines
 pub mod Once

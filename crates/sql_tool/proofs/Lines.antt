@@ -21,7 +21,8 @@ use Rattle.sql_document.specs.Documents.{Request}
 use Rattle.sql_tool.proofs.Places.{Tells, place-told, tells-more}
 use Rattle.sql_tool.specs.Answer.{value_data, type_data, bound_data, place_data, accepted, answer_to}
 use Rattle.sql_tool.specs.Judgement.{Judgement, refuses, accepts, Judges, JudgesEach}
-use Rattle.sql_tool.specs.Known.{place, place_behind, place_found}
+use Rattle.sql_tool.specs.Inner.{place_found}
+use Rattle.sql_tool.specs.Known.{place, place_behind}
 use Rattle.sql_tool.specs.Output.{key_seen, answer_line, line, lines}
 use Rattle.sql_tool.specs.declared.known.RequestKey.{RequestKey}
 
@@ -75,37 +76,45 @@ keys [] js = []
 keys (r ∷ rs) [] = []
 keys (r ∷ rs) (j ∷ js) = key_seen r.dialect j ∷ keys rs js
 
-pub keys-length : (schema : Declarations) (rs : List Request) (js : List Judgement) → JudgesEach schema rs js → length (keys rs js) ≡ length rs
+pub keys-length : (schema : Declarations) (rs : List Request) (js : List Judgement) → JudgesEach schema rs js
+    → length (keys rs js) ≡ length rs
 keys-length schema [] [] h = refl
 keys-length schema [] (j ∷ js) h = absurd h
 keys-length schema (r ∷ rs) [] h = absurd h
 keys-length schema (r ∷ rs) (j ∷ js) h = ap suc (keys-length schema rs js h.1)
 
-pub keys-more : (schema : Declarations) (rs : List Request) (js : List Judgement) (r : Request) (j : Judgement) → JudgesEach schema rs js
+pub keys-more : (schema : Declarations) (rs : List Request) (js : List Judgement) (r : Request) (j : Judgement)
+    → JudgesEach schema rs js
     → keys (rs ++ r ∷ []) (js ++ j ∷ []) ≡ keys rs js ++ key_seen r.dialect j ∷ []
 keys-more schema [] [] r j h = refl
 keys-more schema [] (k ∷ js) r j h = absurd h
 keys-more schema (q ∷ rs) [] r j h = absurd h
 keys-more schema (q ∷ rs) (k ∷ js) r j h = ap (λ ks. key_seen q.dialect k ∷ ks) (keys-more schema rs js r j h.1)
 
-pub judges-more : (schema : Declarations) (rs : List Request) (js : List Judgement) (r : Request) (j : Judgement) → JudgesEach schema rs js → Judges schema r j
+pub judges-more : (schema : Declarations) (rs : List Request) (js : List Judgement) (r : Request) (j : Judgement)
+    → JudgesEach schema rs js → Judges schema r j
     → JudgesEach schema (rs ++ r ∷ []) (js ++ j ∷ [])
 judges-more schema [] [] r j h one = (one, tt)
 judges-more schema [] (k ∷ js) r j h one = absurd h
 judges-more schema (q ∷ rs) [] r j h one = absurd h
 judges-more schema (q ∷ rs) (k ∷ js) r j h one = (h.0, judges-more schema rs js r j h.1 one)
 
-pub lines-more : (schema : Declarations) (earlier : List (Option RequestKey)) (rs : List Request) (js : List Judgement) (r : Request) (j : Judgement) → JudgesEach schema rs js
+pub lines-more : (schema : Declarations) (earlier : List (Option RequestKey)) (rs : List Request) (js : List Judgement)
+    (r : Request) (j : Judgement)
+    → JudgesEach schema rs js
     → lines earlier (rs ++ r ∷ []) (js ++ j ∷ []) ≡ lines earlier rs js ++ line (earlier ++ keys rs js) r.dialect j
-lines-more schema earlier [] [] r j h = append-nil (line earlier r.dialect j) ∙ ap (λ e. line e r.dialect j) (sym (append-nil earlier))
+lines-more schema earlier [] [] r j h =
+    append-nil (line earlier r.dialect j) ∙ ap (λ e. line e r.dialect j) (sym (append-nil earlier))
 lines-more schema earlier [] (k ∷ js) r j h = absurd h
 lines-more schema earlier (q ∷ rs) [] r j h = absurd h
 lines-more schema earlier (q ∷ rs) (k ∷ js) r j h =
     let own = key_seen q.dialect k in
     let first = line earlier q.dialect k in
     ap (λ t. first ++ t) (lines-more schema (earlier ++ own ∷ []) rs js r j h.1)
-    ∙ sym (append_assoc first (lines (earlier ++ own ∷ []) rs js) (line ((earlier ++ own ∷ []) ++ keys rs js) r.dialect j))
-    ∙ ap (λ e. (first ++ lines (earlier ++ own ∷ []) rs js) ++ line e r.dialect j) (append_assoc earlier (own ∷ []) (keys rs js))
+    ∙ sym (append_assoc first (lines (earlier ++ own ∷ []) rs js)
+    (line ((earlier ++ own ∷ []) ++ keys rs js) r.dialect j))
+    ∙ ap (λ e. (first ++ lines (earlier ++ own ∷ []) rs js) ++ line e r.dialect j)
+    (append_assoc earlier (own ∷ []) (keys rs js))
 
 -- ---- what a look-up tells
 

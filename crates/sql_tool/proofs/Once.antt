@@ -17,13 +17,16 @@ use Rattle.sql_tool.specs.Output.{Answers, AnswersFront, key_seen, line, lines}
 use Rattle.sql_tool.specs.declared.known.RequestKey.{RequestKey}
 
 -- of two elements of a list for which P holds, and for none before them, both are the first
-first-is-one : (P : Rule → Type 0) (f g : List Rule) (a b : Rule) (r s : List Rule) → f ++ a ∷ r ≡ g ++ b ∷ s → Each (λ q. ¬ P q) f → Each (λ q. ¬ P q) g → P a → P b → a ≡ b
+first-is-one : (P : Rule → Type 0) (f g : List Rule) (a b : Rule) (r s : List Rule) → f ++ a ∷ r ≡ g ++ b ∷ s
+    → Each (λ q. ¬ P q) f → Each (λ q. ¬ P q) g → P a → P b → a ≡ b
 first-is-one P [] [] a b r s e ef eg pa pb = cc
 first-is-one P [] (y ∷ g) a b r s e ef eg pa pb = let same : a ≡ y = cc in absurd (eg.0 (subst P same pa))
 first-is-one P (x ∷ f) [] a b r s e ef eg pa pb = let same : b ≡ x = cc in absurd (ef.0 (subst P same pb))
-first-is-one P (x ∷ f) (y ∷ g) a b r s e ef eg pa pb = let rest : f ++ a ∷ r ≡ g ++ b ∷ s = cc in first-is-one P f g a b r s rest ef.1 eg.1 pa pb
+first-is-one P (x ∷ f) (y ∷ g) a b r s e ef eg pa pb =
+    let rest : f ++ a ∷ r ≡ g ++ b ∷ s = cc in first-is-one P f g a b r s rest ef.1 eg.1 pa pb
 
-least-is-one : (schema : Declarations) (d : Dialect) (s : Statement) (a b : Rule) → IsLeast a schema d s → IsLeast b schema d s → a ≡ b
+least-is-one : (schema : Declarations) (d : Dialect) (s : Statement) (a b : Rule) → IsLeast a schema d s
+    → IsLeast b schema d s → a ≡ b
 least-is-one schema d s a b first second =
     let (f, r, cut, none) = first.before in
     let (g, t, cut-again, none-again) = second.before in
@@ -38,13 +41,18 @@ module _ (schema : Declarations) (r : Request) where
   refused-once (Some s) a b first second = least-is-one schema r.dialect s a b first second
 
   one-judgement : (a b : Judgement) → Judges schema r a → Judges schema r b → a ≡ b
-  one-judgement (refuses a) (refuses b) first second = ap refuses (refused-once (statement_in schema r.dialect r.query) a b first second)
-  one-judgement (refuses a) (accepts s) first second = absurd (second.accepted a (subst (λ o. Made o a) second.made first).broken)
-  one-judgement (accepts s) (refuses b) first second = absurd (first.accepted b (subst (λ o. Made o b) first.made second).broken)
-  one-judgement (accepts s) (accepts t) first second = let same : Some s ≡ Some t = sym first.made ∙ second.made in ap accepts cc
+  one-judgement (refuses a) (refuses b) first second =
+      ap refuses (refused-once (statement_in schema r.dialect r.query) a b first second)
+  one-judgement (refuses a) (accepts s) first second =
+      absurd (second.accepted a (subst (λ o. Made o a) second.made first).broken)
+  one-judgement (accepts s) (refuses b) first second =
+      absurd (first.accepted b (subst (λ o. Made o b) first.made second).broken)
+  one-judgement (accepts s) (accepts t) first second =
+      let same : Some s ≡ Some t = sym first.made ∙ second.made in ap accepts cc
 
 -- the lines of the first requests are a front of the lines of all
-front-of-all : (schema : Declarations) (earlier : List (Option RequestKey)) (rs later : List Request) (js all : List Judgement)
+front-of-all : (schema : Declarations) (earlier : List (Option RequestKey)) (rs later : List Request)
+    (js all : List Judgement)
     → JudgesEach schema rs js → JudgesEach schema (rs ++ later) all
     → (rest : List ℕ) × (lines earlier (rs ++ later) all ≡ lines earlier rs js ++ rest)
 front-of-all schema earlier [] later js all some whole = (lines earlier later all, refl)
@@ -54,11 +62,13 @@ front-of-all schema earlier (r ∷ rs) later (j ∷ js) (k ∷ all) some whole =
     let (rest, is) = front-of-all schema (earlier ++ key_seen r.dialect k ∷ []) rs later js all some.1 whole.1 in
     let same = one-judgement schema r k j whole.0 some.0 in (
       rest,
-      ap (λ t. line earlier r.dialect k ++ t) is ∙ ap (λ i. line earlier r.dialect i ++ (lines (earlier ++ key_seen r.dialect i ∷ []) rs js ++ rest)) same
+      ap (λ t. line earlier r.dialect k ++ t) is
+          ∙ ap (λ i. line earlier r.dialect i ++ (lines (earlier ++ key_seen r.dialect i ∷ []) rs js ++ rest)) same
           ∙ sym (append_assoc (line earlier r.dialect j) (lines (earlier ++ key_seen r.dialect j ∷ []) rs js) rest),
     )
 
-judged-once : (schema : Declarations) (rs : List Request) (js ks : List Judgement) → JudgesEach schema rs js → JudgesEach schema rs ks → js ≡ ks
+judged-once : (schema : Declarations) (rs : List Request) (js ks : List Judgement) → JudgesEach schema rs js
+    → JudgesEach schema rs ks → js ≡ ks
 judged-once schema [] [] [] first second = refl
 judged-once schema [] [] (k ∷ ks) first second = absurd second
 judged-once schema [] (j ∷ js) ks first second = absurd first
@@ -70,9 +80,12 @@ judged-once schema (r ∷ rs) (j ∷ js) (k ∷ ks) first second =
     λ i. head i ∷ tail i
 
 pub one-answer : (d : Document) (a b : List ℕ) → Answers d a → Answers d b → a ≡ b
-one-answer d a b (js, first, is) (ks, second, it) = is ∙ ap (lines [] d.requests) (judged-once d.schema d.requests js ks first second) ∙ sym it
+one-answer d a b (js, first, is) (ks, second, it) =
+    is ∙ ap (lines [] d.requests) (judged-once d.schema d.requests js ks first second) ∙ sym it
 
-pub front-of-answer : (d : Document) (front whole : List ℕ) → AnswersFront d front → Answers d whole → (rest : List ℕ) × (whole ≡ front ++ rest)
+pub front-of-answer : (d : Document) (front whole : List ℕ) → AnswersFront d front → Answers d whole
+    → (rest : List ℕ) × (whole ≡ front ++ rest)
 front-of-answer d front whole (rs, later, cut, (js, judged, (more, is))) (all, each, it) =
-    let (rest, goes) = front-of-all d.schema [] rs later js all judged (subst (λ q. JudgesEach d.schema q all) cut each) in
+    let (rest, goes) =
+    front-of-all d.schema [] rs later js all judged (subst (λ q. JudgesEach d.schema q all) cut each) in
     (more ++ rest, it ∙ ap (λ q. lines [] q all) cut ∙ goes ∙ ap (λ t. t ++ rest) is ∙ append_assoc front more rest)

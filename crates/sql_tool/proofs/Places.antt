@@ -25,12 +25,18 @@ exact-key a b h =
     let q = (same-key a.key b.key).0 (second_so d k h) in
     λ i. record { dialect = p i; key = q i }
 
-place-append : (n : ℕ) (xs ys : List (Option RequestKey)) (q : RequestKey) → place n (xs ++ ys) q ≡ option_or (place n xs q) (place (n + length xs) ys q)
+pub place-append : (n : ℕ) (xs ys : List (Option RequestKey)) (q : RequestKey)
+    → place n (xs ++ ys) q ≡ option_or (place n xs q) (place (n + length xs) ys q)
 place-append n [] ys q = ap (λ m. place m ys q) (omega arith)
-place-append n (None ∷ xs) ys q = place-append (n + 1) xs ys q ∙ ap (λ m. option_or (place (n + 1) xs q) (place m ys q)) (omega arith)
-place-append n (Some x ∷ xs) ys q = here (same_key x q) (place-append (n + 1) xs ys q ∙ ap (λ m. option_or (place (n + 1) xs q) (place m ys q)) (omega arith))
+place-append n (None ∷ xs) ys q =
+    place-append (n + 1) xs ys q ∙ ap (λ m. option_or (place (n + 1) xs q) (place m ys q)) (omega arith)
+place-append n (Some x ∷ xs) ys q =
+    here (same_key x q)
+    (place-append (n + 1) xs ys q ∙ ap (λ m. option_or (place (n + 1) xs q) (place m ys q)) (omega arith))
   where
-    here : (b : Bool) → place (n + 1) (xs ++ ys) q ≡ option_or (place (n + 1) xs q) (place (n + suc (length xs)) ys q) → cond b (Some n) (place (n + 1) (xs ++ ys) q) ≡ option_or (cond b (Some n) (place (n + 1) xs q)) (place (n + suc (length xs)) ys q)
+    here : (b : Bool) → place (n + 1) (xs ++ ys) q ≡ option_or (place (n + 1) xs q) (place (n + suc (length xs)) ys q)
+        → cond b (Some n) (place (n + 1) (xs ++ ys) q)
+        ≡ option_or (cond b (Some n) (place (n + 1) xs q)) (place (n + suc (length xs)) ys q)
     here true h = refl
     here false h = h
 
@@ -39,7 +45,8 @@ option_or-none None = refl
 option_or-none (Some x) = refl
 
 -- one more place, at a key that a look-up f has, and at a new one
-pub kept-seen : (f : RequestKey → Option ℕ) (s : RequestKey) (p n : ℕ) → f s ≡ Some p → (q : RequestKey) → f q ≡ option_or (f q) (place n (Some s ∷ []) q)
+pub kept-seen : (f : RequestKey → Option ℕ) (s : RequestKey) (p n : ℕ) → f s ≡ Some p → (q : RequestKey)
+    → f q ≡ option_or (f q) (place n (Some s ∷ []) q)
 kept-seen f s p n h q = here (same_key s q) (exact-key s q)
   where
     here : (b : Bool) → (b ≡ true → s ≡ q) → f q ≡ option_or (f q) (cond b (Some n) None)
@@ -47,7 +54,8 @@ kept-seen f s p n h q = here (same_key s q) (exact-key s q)
     here false i = option_or-none (f q)
 
 -- `==` is what the map's order tells
-pub kept-new : (f : RequestKey → Option ℕ) (s : RequestKey) (n : ℕ) → f s ≡ None → (q : RequestKey) → cond (is_eq ((request_ord.ghosts).cmp s q)) (Some n) (f q) ≡ option_or (f q) (place n (Some s ∷ []) q)
+pub kept-new : (f : RequestKey → Option ℕ) (s : RequestKey) (n : ℕ) → f s ≡ None → (q : RequestKey)
+    → cond (is_eq ((request_ord.ghosts).cmp s q)) (Some n) (f q) ≡ option_or (f q) (place n (Some s ∷ []) q)
 kept-new f s n h q = ap (λ b. cond b (Some n) (f q)) (sym (matches_eq-law s q)) ∙ here (same_key s q) (exact-key s q)
   where
     here : (b : Bool) → (b ≡ true → s ≡ q) → cond b (Some n) (f q) ≡ option_or (f q) (cond b (Some n) None)
@@ -59,15 +67,23 @@ abbrev pub Tells : (RequestKey → Option ℕ) → List (Option RequestKey) → 
 Tells f xs = (q : RequestKey) → f q ≡ place 1 xs q
 
 -- the place of a key that stands behind xs: where f has it, or else here
-pub place-told : (f : RequestKey → Option ℕ) (xs ys : List (Option RequestKey)) (s : RequestKey) (n : ℕ) → Tells f xs → n ≡ 1 + length xs → Some (unwrap_or (f s) n) ≡ place 1 (xs ++ Some s ∷ ys) s
+pub place-told : (f : RequestKey → Option ℕ) (xs ys : List (Option RequestKey)) (s : RequestKey) (n : ℕ) → Tells f xs
+    → n ≡ 1 + length xs → Some (unwrap_or (f s) n) ≡ place 1 (xs ++ Some s ∷ ys) s
 place-told f xs ys s n tells at =
-    found (f s) ∙ ap (λ o. option_or o (Some n)) (tells s) ∙ ap (option_or (place 1 xs s)) (ap Some at ∙ sym (ap (λ b. cond b (Some (1 + length xs)) (place (1 + length xs + 1) ys s)) (laws-law.refl s))) ∙ sym (place-append 1 xs (Some s ∷ ys) s)
+    found (f s) ∙ ap (λ o. option_or o (Some n)) (tells s)
+    ∙ ap (option_or (place 1 xs s))
+    (ap Some at
+    ∙ sym (ap (λ b. cond b (Some (1 + length xs)) (place (1 + length xs + 1) ys s)) (laws-law.refl s)))
+    ∙ sym (place-append 1 xs (Some s ∷ ys) s)
   where
     found : (o : Option ℕ) → Some (unwrap_or o n) ≡ option_or o (Some n)
     found None = refl
     found (Some x) = refl
 
 -- what tells the places in xs and in one more
-pub tells-more : (f g : RequestKey → Option ℕ) (xs : List (Option RequestKey)) (o : Option RequestKey) (n : ℕ) → Tells f xs → n ≡ 1 + length xs → ((q : RequestKey) → g q ≡ option_or (f q) (place n (o ∷ []) q)) → Tells g (xs ++ o ∷ [])
+pub tells-more : (f g : RequestKey → Option ℕ) (xs : List (Option RequestKey)) (o : Option RequestKey) (n : ℕ)
+    → Tells f xs → n ≡ 1 + length xs → ((q : RequestKey) → g q ≡ option_or (f q) (place n (o ∷ []) q))
+    → Tells g (xs ++ o ∷ [])
 tells-more f g xs o n tells at kept q =
-    kept q ∙ ap (λ p. option_or p (place n (o ∷ []) q)) (tells q) ∙ ap (λ m. option_or (place 1 xs q) (place m (o ∷ []) q)) at ∙ sym (place-append 1 xs (o ∷ []) q)
+    kept q ∙ ap (λ p. option_or p (place n (o ∷ []) q)) (tells q)
+    ∙ ap (λ m. option_or (place 1 xs q) (place m (o ∷ []) q)) at ∙ sym (place-append 1 xs (o ∷ []) q)

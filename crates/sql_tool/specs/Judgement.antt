@@ -22,7 +22,8 @@ pub record IsAccepted (schema : Declarations) (r : Request) (s : Statement) : Ty
 
 -- UnknownName where its query names what the schema lacks, else the first rule that its statement breaks, else the statement
 abbrev pub Judges : Declarations → Request → Judgement → Type 0
-Judges schema r (refuses rule) = MatchOption (statement_in schema r.dialect r.query) (rule ≡ UnknownName) (λ s. IsLeast rule schema r.dialect s)
+Judges schema r (refuses rule) =
+    MatchOption (statement_in schema r.dialect r.query) (rule ≡ UnknownName) (λ s. IsLeast rule schema r.dialect s)
 Judges schema r (accepts s) = IsAccepted schema r s
 
 -- request by request

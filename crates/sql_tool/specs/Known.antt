@@ -1,6 +1,5 @@
 -- By what a cache knows a request, and the number of the first that it knows by the same.
 use Rattle.std.specs.Prelude.{ℕ, ◌+◌, List, [], ◌∷◌, ◌++◌, Bool, Option, Some, None, option_map, option_and_then, if◌then◌else◌}
-use Rattle.std.specs.Option.{unwrap_or}
 use Rattle.sql_dialect.specs.declared.backend.Dialect.{Dialect}
 use Rattle.sql_key.specs.Keys.{id_of}
 use Rattle.sql_key.specs.declared.kind.KeyNode.{KeyNode}
@@ -27,7 +26,3 @@ place n (Some k ∷ keys) q = if same_key k q then Some n else place (n + 1) key
 -- its place, where it has a key, among the keys before it and its own
 abbrev pub place_behind : List (Option RequestKey) → Option RequestKey → Option ℕ
 place_behind earlier own = option_and_then (place 1 (earlier ++ own ∷ [])) own
-
--- The place of a key, where a look-up tells the places of the keys before it, and its own place is n.
-abbrev pub place_found : (RequestKey → Option ℕ) → ℕ → Option RequestKey → Option ℕ
-place_found f n own = option_map (λ k. unwrap_or (f k) n) own

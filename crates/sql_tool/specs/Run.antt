@@ -25,10 +25,13 @@ PartlyAnswered given written = (d : Document) × (document given ≡ Some d) × 
 abbrev pub Outcome : Status → Bool → List ℕ → List ℕ → Type 0 → Type 0
 Outcome Done build given written AtEnd = (build ≡ true) × AtEnd × (length given ≤ LIMIT) × Answered given written
 Outcome Usage build given written AtEnd = (build ≡ false) × (given ≡ []) × (written ≡ [])
-Outcome BadDocument build given written AtEnd = (build ≡ true) × AtEnd × (length given ≤ LIMIT) × (document given ≡ None) × (written ≡ [])
+Outcome BadDocument build given written AtEnd =
+    (build ≡ true) × AtEnd × (length given ≤ LIMIT) × (document given ≡ None) × (written ≡ [])
 Outcome ReadFault build given written AtEnd = (build ≡ true) × (length given ≤ LIMIT) × (written ≡ [])
-Outcome WriteFault build given written AtEnd = (build ≡ true) × AtEnd × (length given ≤ LIMIT) × PartlyAnswered given written
-Outcome NoMemory build given written AtEnd = (build ≡ true) × (length given ≤ LIMIT) × ((written ≡ []) ⊎ (AtEnd × PartlyAnswered given written))
+Outcome WriteFault build given written AtEnd =
+    (build ≡ true) × AtEnd × (length given ≤ LIMIT) × PartlyAnswered given written
+Outcome NoMemory build given written AtEnd =
+    (build ≡ true) × (length given ≤ LIMIT) × ((written ≡ []) ⊎ (AtEnd × PartlyAnswered given written))
 Outcome TooLarge build given written AtEnd = (build ≡ true) × (LIMIT < length given) × (written ≡ [])
 
 -- the status of a run with no fault and enough memory
@@ -37,17 +40,8 @@ status_from None = BadDocument
 status_from (Some d) = Done
 
 abbrev pub status_of : Bool → List ℕ → Status
-status_of build input = if build then (if nat_lt LIMIT (length input) then TooLarge else status_from (document input)) else Usage
-
--- What was written for these bytes, by a run that ends so behind the reading.
-abbrev pub Response : Status → List ℕ → List ℕ → Type 0
-Response Done given written = Answered given written
-Response Usage given written = ⊥
-Response BadDocument given written = (document given ≡ None) × (written ≡ [])
-Response ReadFault given written = ⊥
-Response WriteFault given written = PartlyAnswered given written
-Response NoMemory given written = (written ≡ []) ⊎ PartlyAnswered given written
-Response TooLarge given written = ⊥
+status_of build input =
+    if build then (if nat_lt LIMIT (length input) then TooLarge else status_from (document input)) else Usage
 
 -- a run that ends so may have written
 abbrev pub may_write : Status → Bool

@@ -20,8 +20,13 @@ fn id_of_key(
     key: RequestKey,
     number: u64,
 ) -> Result<u64, AllocError>
-    ensures found { IfOk result (λ id. id ≡ unwrap_or (tree.get ⟦<RequestKey as Ord>⟧.cmp seen.old key) number) }
-    ensures kept { OnOk result ((q : RequestKey) → tree.get ⟦<RequestKey as Ord>⟧.cmp seen.new q ≡ option_or (tree.get ⟦<RequestKey as Ord>⟧.cmp seen.old q) (place number (Some key ∷ []) q)) }
+    ensures found { IfOk result (λ id. id
+        ≡ unwrap_or (tree.get ⟦<RequestKey as Ord>⟧.cmp seen.old key) number) }
+    ensures kept { OnOk result
+        ((q : RequestKey)
+        → tree.get ⟦<RequestKey as Ord>⟧.cmp seen.new q
+        ≡ option_or (tree.get ⟦<RequestKey as Ord>⟧.cmp seen.old q)
+        (place number (Some key ∷ []) q)) }
 {
     match seen.get(&key).copied() {
         Some(first) => Ok(first),
@@ -40,8 +45,15 @@ pub fn id(
     key: Option<QueryKey>,
     number: u64,
 ) -> Result<Option<u64>, AllocError>
-    ensures found { IfOk result (λ id. id ≡ option_map (λ k. unwrap_or (tree.get ⟦<RequestKey as Ord>⟧.cmp seen.old (keyed dialect k)) number) key) }
-    ensures kept { OnOk result ((q : RequestKey) → tree.get ⟦<RequestKey as Ord>⟧.cmp seen.new q ≡ option_or (tree.get ⟦<RequestKey as Ord>⟧.cmp seen.old q) (place number (option_map (keyed dialect) key ∷ []) q)) }
+    ensures found { IfOk result (λ id. id
+        ≡ option_map
+        (λ k. unwrap_or (tree.get ⟦<RequestKey as Ord>⟧.cmp seen.old (keyed dialect k)) number)
+        key) }
+    ensures kept { OnOk result
+        ((q : RequestKey)
+        → tree.get ⟦<RequestKey as Ord>⟧.cmp seen.new q
+        ≡ option_or (tree.get ⟦<RequestKey as Ord>⟧.cmp seen.old q)
+        (place number (option_map (keyed dialect) key ∷ []) q)) }
 {
     match key {
         None => Ok(None),

@@ -9,7 +9,8 @@ ghost use Rattle.sql_node.specs.View.{statement_tree};
 ghost use Rattle.sql_rules.specs.declared.rule.Rule.{Rule};
 ghost use Rattle.sql_tool.specs.Answer.{answer_to, refused as refused_data, statement_data};
 ghost use Rattle.sql_tool.specs.Judgement.{Judgement, Judges};
-ghost use Rattle.sql_tool.specs.Known.{keyed, place, place_found};
+ghost use Rattle.sql_tool.specs.Inner.{place_found};
+ghost use Rattle.sql_tool.specs.Known.{keyed, place};
 ghost use Rattle.sql_tool.specs.Output.{key_seen, answer_line};
 
 use crate::answer::{accepted, refused};
@@ -32,8 +33,10 @@ fn compile_for(
     statement: &Statement,
 ) -> Result<Built, CompileError>
     ensures built { IfOk result (λ b. IsBuilt schema.now dialect (statement_tree statement.now) b) }
-    ensures read { IfOk result (λ b. IsRead dialect (statement_tree statement.now) (string_bytes b.sql) b.binds.items) }
-    ensures refused { IfErr result (λ e. (r : Rule) → rule_of e ≡ Some r → IsLeast r schema.now dialect (statement_tree statement.now)) }
+    ensures read { IfOk result (λ b. IsRead dialect (statement_tree statement.now)
+        (string_bytes b.sql) b.binds.items) }
+    ensures refused { IfErr result (λ e. (r : Rule) → rule_of e ≡ Some r
+        → IsLeast r schema.now dialect (statement_tree statement.now)) }
 {
     match dialect {
         Dialect::Pg => compile(alloc, &Pg, schema, statement),
@@ -50,8 +53,18 @@ fn accept(
     number: u64,
     built: Built,
 ) -> Result<Json, AllocError>
-    ensures answer { IfOk result (λ v. view v ≡ statement_data built.binds.items built.sql_types.items (option_map (λ k. unwrap_or (tree.get ⟦<RequestKey as Ord>⟧.cmp seen.old (keyed dialect k)) number) built.id) built.safe (string_bytes built.sql)) }
-    ensures kept { OnOk result ((q : RequestKey) → tree.get ⟦<RequestKey as Ord>⟧.cmp seen.new q ≡ option_or (tree.get ⟦<RequestKey as Ord>⟧.cmp seen.old q) (place number (option_map (keyed dialect) built.id ∷ []) q)) }
+    ensures answer { IfOk result (λ v. view v
+        ≡ statement_data built.binds.items built.sql_types.items
+        (option_map
+        (λ k. unwrap_or (tree.get ⟦<RequestKey as Ord>⟧.cmp seen.old (keyed dialect k))
+        number)
+        built.id)
+        built.safe (string_bytes built.sql)) }
+    ensures kept { OnOk result
+        ((q : RequestKey)
+        → tree.get ⟦<RequestKey as Ord>⟧.cmp seen.new q
+        ≡ option_or (tree.get ⟦<RequestKey as Ord>⟧.cmp seen.old q)
+        (place number (option_map (keyed dialect) built.id ∷ []) q)) }
 {
     let Built {
         sql,
@@ -66,7 +79,8 @@ fn accept(
 
 /// The answer to a request whose statement is not compiled.
 fn refuse(alloc: Global, error: CompileError) -> Result<Json, AllocError>
-    ensures { IfOk result (λ v. (rule : Rule) × (rule_of error ≡ Some rule) × (view v ≡ refused_data rule)) }
+    ensures { IfOk result (λ v. (rule : Rule) × (rule_of error ≡ Some rule)
+        × (view v ≡ refused_data rule)) }
 {
     match error.rule() {
         Some(rule) => refused(alloc, rule),
@@ -83,8 +97,15 @@ fn answer(
     request: &Request,
 ) -> Result<Json, AllocError>
     ensures { IfOk result (λ v. (j : Judgement) × Judges schema.now (request_tree request.now) j
-        × (view v ≡ answer_to request.now.dialect (place_found (tree.get ⟦<RequestKey as Ord>⟧.cmp seen.old) number (key_seen request.now.dialect j)) j)
-        × ((q : RequestKey) → tree.get ⟦<RequestKey as Ord>⟧.cmp seen.new q ≡ option_or (tree.get ⟦<RequestKey as Ord>⟧.cmp seen.old q) (place number (key_seen request.now.dialect j ∷ []) q))) }
+        × (view v
+        ≡ answer_to request.now.dialect
+        (place_found (tree.get ⟦<RequestKey as Ord>⟧.cmp seen.old) number
+        (key_seen request.now.dialect j))
+        j)
+        × ((q : RequestKey)
+        → tree.get ⟦<RequestKey as Ord>⟧.cmp seen.new q
+        ≡ option_or (tree.get ⟦<RequestKey as Ord>⟧.cmp seen.old q)
+        (place number (key_seen request.now.dialect j ∷ []) q))) }
 {
     match statement(alloc, schema, request.dialect, &request.query)? {
         None => refused(alloc, Rule::UnknownName),
@@ -104,8 +125,15 @@ pub fn request_line(
     request: &Request,
 ) -> Result<String, AllocError>
     ensures { IfOk result (λ text. (j : Judgement) × Judges schema.now (request_tree request.now) j
-        × (string_bytes text ≡ answer_line request.now.dialect (place_found (tree.get ⟦<RequestKey as Ord>⟧.cmp seen.old) number (key_seen request.now.dialect j)) j)
-        × ((q : RequestKey) → tree.get ⟦<RequestKey as Ord>⟧.cmp seen.new q ≡ option_or (tree.get ⟦<RequestKey as Ord>⟧.cmp seen.old q) (place number (key_seen request.now.dialect j ∷ []) q))) }
+        × (string_bytes text
+        ≡ answer_line request.now.dialect
+        (place_found (tree.get ⟦<RequestKey as Ord>⟧.cmp seen.old) number
+        (key_seen request.now.dialect j))
+        j)
+        × ((q : RequestKey)
+        → tree.get ⟦<RequestKey as Ord>⟧.cmp seen.new q
+        ≡ option_or (tree.get ⟦<RequestKey as Ord>⟧.cmp seen.old q)
+        (place number (key_seen request.now.dialect j ∷ []) q))) }
 {
     let value = answer(alloc, schema, seen, number, request)?;
     let mut text = value.to_string(alloc)?;

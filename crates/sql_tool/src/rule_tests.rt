@@ -1,4 +1,5 @@
-//! For each rule a query whose statement breaks it alone, and one that does not by a hair.
+//! Requests and all rules that their statements break: for each rule but the last one that breaks it alone, and one that does
+//! not by a hair.
 
 use sql_build::statement;
 use sql_check::broken;
@@ -17,7 +18,7 @@ const SCHEMA: &str = r#"{"schema":{"tables":[
     "joinable":[{"child":"posts","key":"user_id","parent":"users"}],"together":[["users","posts"]]},"requests":["#;
 
 /// Requests, and the names of the rules that their statements break.
-const TABLE: [(&str, &str); 27] = [
+const TABLE: [(&str, &str); 37] = [
     (
         r#"{"dialect":"Pg","query":{"from":{"table":"users"},"calls":[["distinct"],["for_update"]]}}"#,
         "Incompatible",
@@ -119,6 +120,46 @@ const TABLE: [(&str, &str); 27] = [
         "Unsupported",
     ),
     (
+        r#"{"dialect":"Pg","query":{"from":{"table":"users"},"calls":[["filter",{"exists":{"from":{"table":"posts"},"calls":[["filter",{"eq":[{"col":["posts","user_id"]},{"col":["users","id"]}]}]]}}]]}}"#,
+        "",
+    ),
+    (
+        r#"{"dialect":"Pg","query":{"from":{"table":"users"},"calls":[["filter",{"exists":{"from":{"table":"posts"},"calls":[["filter",{"eq":[{"col":["posts","user_id"]},{"col":["users","id"]}]}],["into_boxed"]]}}]]}}"#,
+        "NotInScope",
+    ),
+    (
+        r#"{"dialect":"Pg","query":{"from":{"table":"users"},"calls":[["filter",{"exists":{"from":{"table":"users"}}}]]}}"#,
+        "Ambiguous",
+    ),
+    (
+        r#"{"dialect":"Pg","query":{"from":{"join":["inner",{"alias":"a","of":"users"},{"alias":"a","of":"posts"}],"on":{"bind":["Bool",true]}}}}"#,
+        "NameClash",
+    ),
+    (
+        r#"{"dialect":"Pg","query":{"from":{"table":"users"},"calls":[["select",{"col":["users","id"]}],["union",{"from":{"table":"users"},"calls":[["select",{"col":["users","name"]}]]}]]}}"#,
+        "TypeMismatch",
+    ),
+    (
+        r#"{"dialect":"Pg","query":{"from":{"table":"users"},"calls":[["filter",{"gt":["count_star",{"bind":["BigInt",1]}]}]]}}"#,
+        "Grouping",
+    ),
+    (
+        r#"{"dialect":"Pg","query":{"from":{"table":"users"},"calls":[["having",{"gt":[{"col":["users","id"]},{"bind":["Integer",1]}]}]]}}"#,
+        "Incompatible",
+    ),
+    (
+        r#"{"dialect":"Pg","query":{"from":{"join":["inner",{"table":"users"},{"table":"posts"}]},"calls":[["find",[{"bind":["Integer",1]}]]]}}"#,
+        "Incompatible",
+    ),
+    (
+        r#"{"dialect":"Pg","query":{"from":{"table":"users"},"calls":[["order",[[{"col":["users","name"]},{"col":["users","id"]}]]]]}}"#,
+        "TypeMismatch",
+    ),
+    (
+        r#"{"dialect":"Pg","query":{"from":{"table":"users"},"calls":[["union",{"from":{"table":"users"}}],["positional_order_by",[]]]}}"#,
+        "EmptyList",
+    ),
+    (
         r#"{"dialect":"Pg","query":{"from":{"table":"users"},"calls":[["distinct"],["filter",{"col":["posts","id"]}],["for_update"]]}}"#,
         "Incompatible NotInScope TypeMismatch",
     ),
@@ -193,7 +234,7 @@ fn names_over_no_table(alloc: Global, request: &str) -> Result<String, Fail> {
 }
 
 #[test]
-fn each_rule_alone(rt: HostRuntime) -> Result<(), Fail> {
+fn rules_of_requests(rt: HostRuntime) -> Result<(), Fail> {
     let alloc = rt.alloc();
     for (request, want) in TABLE {
         assert_eq!(rt; names_of(alloc, request)?.as_str(), want);

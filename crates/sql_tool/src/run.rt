@@ -1,10 +1,17 @@
-ghost use Rattle.std.specs.Prelude.{◌≡◌, ◌<◌, ◌+◌, ◌↔◌, length, ◌⊎◌, ◌++◌, List, ℕ, map, IfSome, OnOk, OnErr, IfErr, IsTrue, true, false, Some, string_bytes, []};
+ghost use Rattle.std.specs.Prelude.{◌≡◌, ◌<◌, ◌+◌, ◌↔◌, length, ◌⊎◌, ◌++◌, ◌∷◌, List, ℕ, Option, map, IfSome, OnOk, OnErr, IfErr, true, false, Some, string_bytes, []};
 ghost use Rattle.std.specs.Io.KnownBytes.{Consumes, Appends, Keeps, IsAtEnd};
-ghost use Rattle.sql_stream.specs.Causes.{Rose, HasCause};
+ghost use Rattle.sql_dialect.specs.declared.backend.Dialect.{Dialect};
+ghost use Rattle.sql_node.specs.Tree.{Statement};
+ghost use Rattle.sql_key.specs.Shape.{shape};
+ghost use Rattle.sql_stream.specs.Causes.{Rose};
 ghost use Rattle.sql_document.specs.Documents.{Document as DocumentTree, document as document_of};
 ghost use Rattle.sql_document.specs.Trees.{document_tree};
+ghost use Rattle.sql_tool.specs.Inner.{Response};
+ghost use Rattle.sql_tool.specs.Known.{place_behind, request_key};
 ghost use Rattle.sql_tool.specs.Output.{Answers, AnswersFront};
-ghost use Rattle.sql_tool.specs.Run.{is_build, Answered, PartlyAnswered, Outcome, Response, may_write, status_of};
+ghost use Rattle.sql_tool.specs.Run.{is_build, Outcome, may_write, status_of};
+ghost use Rattle.sql_tool.specs.Shared.{Serves};
+ghost use Rattle.sql_tool.specs.declared.known.RequestKey.{RequestKey};
 ghost use Rattle.sql_tool.specs.declared.run.WriteError.TheVariants.{Memory, Fault};
 
 use crate::known::RequestKey;
@@ -56,11 +63,15 @@ fn write_answers<K: Sink>(
     document: &Document,
     sink: &mut K,
 ) -> Result<(), WriteError>
-    ensures all { OnOk result ((text : List ℕ) × Answers (document_tree document.now) text × Appends (K.held sink.old) (K.held sink.new) text) }
+    ensures all { OnOk result
+        ((text : List ℕ) × Answers (document_tree document.now) text
+        × Appends (K.held sink.old) (K.held sink.new) text) }
     ensures front { OnErr result ((text : List ℕ) × AnswersFront (document_tree document.now) text
         × Appends (K.held sink.old) (K.held sink.new) text) }
-    ensures fault { IfErr result (λ e. e ≡ WriteError.Fault → Rose (K.faults sink.old) (K.faults sink.new)) }
-    ensures no_fault { IfErr result (λ e. e ≡ WriteError.Memory → K.faults sink.new ≡ K.faults sink.old) }
+    ensures fault { IfErr result (λ e. e ≡ WriteError.Fault
+        → Rose (K.faults sink.old) (K.faults sink.new)) }
+    ensures no_fault { IfErr result (λ e. e ≡ WriteError.Memory
+        → K.faults sink.new ≡ K.faults sink.old) }
     ensures ok { OnOk result (K.faults sink.new ≡ K.faults sink.old) }
 {
     let mut seen: BTreeMap<RequestKey, u64> = BTreeMap::new(alloc);
@@ -79,7 +90,8 @@ fn write_answers<K: Sink>(
 
 /// Answers the document that the bytes are.
 fn respond<K: Sink>(alloc: Global, bytes: &[u8], sink: &mut K) -> Status
-    ensures response { (written : List ℕ) × Appends (K.held sink.old) (K.held sink.new) written × Response result bytes.now written }
+    ensures response { (written : List ℕ) × Appends (K.held sink.old) (K.held sink.new) written
+        × Response result bytes.now written }
     ensures fault { result ≡ Status.WriteFault → Rose (K.faults sink.old) (K.faults sink.new) }
     ensures no_fault { (result ≡ Status.WriteFault → ⊥) → K.faults sink.new ≡ K.faults sink.old }
 {
@@ -100,14 +112,20 @@ fn perform<S: Source, K: Sink>(
     source: &mut S,
     sink: &mut K,
 ) -> Status
-    ensures outcome { (given written : List ℕ) × Consumes (S.left source.old) (S.left source.new) given
+    ensures outcome { (given written : List ℕ)
+        × Consumes (S.left source.old) (S.left source.new) given
         × Appends (K.held sink.old) (K.held sink.new) written
-        × Outcome result (is_build (map string_bytes words.now)) given written (IsAtEnd (S.left source.new)) }
+        × Outcome result (is_build (map string_bytes words.now)) given written
+        (IsAtEnd (S.left source.new)) }
     ensures untouched { result ≡ Status.Usage → (source.new ≡ source.old) × (sink.new ≡ sink.old) }
-    ensures read_fault { result ≡ Status.ReadFault → Rose (S.faults source.old) (S.faults source.new) }
-    ensures no_read_fault { (result ≡ Status.ReadFault → ⊥) → S.faults source.new ≡ S.faults source.old }
-    ensures write_fault { result ≡ Status.WriteFault → Rose (K.faults sink.old) (K.faults sink.new) }
-    ensures no_write_fault { (result ≡ Status.WriteFault → ⊥) → K.faults sink.new ≡ K.faults sink.old }
+    ensures read_fault { result ≡ Status.ReadFault
+        → Rose (S.faults source.old) (S.faults source.new) }
+    ensures no_read_fault { (result ≡ Status.ReadFault → ⊥)
+        → S.faults source.new ≡ S.faults source.old }
+    ensures write_fault { result ≡ Status.WriteFault
+        → Rose (K.faults sink.old) (K.faults sink.new) }
+    ensures no_write_fault { (result ≡ Status.WriteFault → ⊥)
+        → K.faults sink.new ≡ K.faults sink.old }
 {
     if !names_build(words) {
         return Status::Usage;
@@ -130,16 +148,32 @@ pub fn run<S: Source, K: Sink>(
     // On Done the source was read to its end, its bytes were a document, and what was written answers each of its requests in
     // order: with the first rule that its statement breaks, or with a text whose only reading is the statement's normal tree,
     // whose k-th placeholder stands for the k-th value beside it, and whose column paths each name one source.
-    ensures headline { result ≡ Status.Done → IfSome (S.left source.old) (λ input. IsAtEnd (S.left source.new)
-        × (d : DocumentTree) × (document_of input ≡ Some d) × ((text : List ℕ) × Answers d text × Appends (K.held sink.old) (K.held sink.new) text)) }
+    ensures headline { result ≡ Status.Done
+        → IfSome (S.left source.old) (λ input. IsAtEnd (S.left source.new)
+        × (d : DocumentTree) × (document_of input ≡ Some d)
+        × ((text : List ℕ) × Answers d text × Appends (K.held sink.old) (K.held sink.new) text)) }
     // What answers a document is one text, and what answers the first of its requests is a front of that.
     ensures one_answer { (d : DocumentTree) (a b : List ℕ) → Answers d a → Answers d b → a ≡ b }
-    ensures front_of_it { (d : DocumentTree) (front whole : List ℕ) → AnswersFront d front → Answers d whole
+    ensures front_of_it { (d : DocumentTree) (front whole : List ℕ) → AnswersFront d front
+        → Answers d whole
         → (rest : List ℕ) × (whole ≡ front ++ rest) }
+    // Of two requests of one id, an earlier and a later one, what was prepared for the one serves for the other.
+    ensures one_id { (earlier between : List (Option RequestKey)) (d e : Dialect) (s t : Statement)
+        (n : ℕ)
+        → place_behind earlier (request_key d s) ≡ Some n
+        → place_behind (earlier ++ request_key d s ∷ between) (request_key e t) ≡ Some n
+        → Serves d s e t }
+    // A request has the id of each earlier one of its dialect and its statement's shape.
+    ensures one_shape { (earlier between : List (Option RequestKey)) (d : Dialect) (s t : Statement)
+        → shape s ≡ shape t
+        → place_behind (earlier ++ request_key d s ∷ between) (request_key d t)
+        ≡ place_behind earlier (request_key d s) }
     // What each status says of the bytes that were given and written in this call.
-    ensures outcome { (given written : List ℕ) × Consumes (S.left source.old) (S.left source.new) given
+    ensures outcome { (given written : List ℕ)
+        × Consumes (S.left source.old) (S.left source.new) given
         × Appends (K.held sink.old) (K.held sink.new) written
-        × Outcome result (is_build (map string_bytes words.now)) given written (IsAtEnd (S.left source.new)) }
+        × Outcome result (is_build (map string_bytes words.now)) given written
+        (IsAtEnd (S.left source.new)) }
     // Usage exactly where the words aren't the one word `build`. Then neither object was touched.
     ensures usage { (result ≡ Status.Usage) ↔ (is_build (map string_bytes words.now) ≡ false) }
     ensures untouched { result ≡ Status.Usage → (source.new ≡ source.old) × (sink.new ≡ sink.old) }
@@ -149,17 +183,23 @@ pub fn run<S: Source, K: Sink>(
     // Only a run that is done, failed to write or wanted memory has written.
     ensures nothing { may_write result ≡ false → Keeps (K.held sink.old) (K.held sink.new) }
     // A fault is answered only where its object counted one, and where an object counted one its fault is answered.
-    ensures read_fault { result ≡ Status.ReadFault → Rose (S.faults source.old) (S.faults source.new) }
-    ensures write_fault { result ≡ Status.WriteFault → Rose (K.faults sink.old) (K.faults sink.new) }
+    ensures read_fault { result ≡ Status.ReadFault
+        → Rose (S.faults source.old) (S.faults source.new) }
+    ensures write_fault { result ≡ Status.WriteFault
+        → Rose (K.faults sink.old) (K.faults sink.new) }
     ensures source_failed { S.faults source.old < S.faults source.new → result ≡ Status.ReadFault }
     ensures sink_failed { K.faults sink.old < K.faults sink.new → result ≡ Status.WriteFault }
     // But for faults and want of memory, words and bytes determine the status.
-    ensures decided { IfSome (S.left source.old) (λ input. (result ≡ status_of (is_build (map string_bytes words.now)) input)
-        ⊎ ((result ≡ Status.ReadFault) ⊎ ((result ≡ Status.WriteFault) ⊎ (result ≡ Status.NoMemory)))) }
+    ensures decided { IfSome (S.left source.old) (λ input. (result
+        ≡ status_of (is_build (map string_bytes words.now)) input)
+        ⊎ ((result ≡ Status.ReadFault)
+        ⊎ ((result ≡ Status.WriteFault) ⊎ (result ≡ Status.NoMemory)))) }
     // Where no fault was counted, the bytes determine the status, but for want of memory.
-    ensures complete { IfSome (S.left source.old) (λ input. ¬ Rose (S.faults source.old) (S.faults source.new)
+    ensures complete { IfSome (S.left source.old) (λ input. ¬ Rose (S.faults source.old)
+        (S.faults source.new)
         → ¬ Rose (K.faults sink.old) (K.faults sink.new)
-        → (result ≡ Status.NoMemory) ⊎ (result ≡ status_of (is_build (map string_bytes words.now)) input)) }
+        → (result ≡ Status.NoMemory)
+        ⊎ (result ≡ status_of (is_build (map string_bytes words.now)) input)) }
 {
     perform(alloc, words, source, sink)
 }

@@ -15,7 +15,7 @@ use Rattle.sql_pass.specs.declared.value.Bound.{Bound}
 use Rattle.sql_pass.specs.declared.value.Bound.TheVariants.{Value as OneValue, List as ManyValues}
 use Rattle.sql_node.proofs.Lists.{commas-append}
 use Rattle.sql_leaf.specs.Limits.{limit_offset_pieces}
-use Rattle.sql_leaf.specs.Numbers.{big, small, integer}
+use Rattle.sql_pass.specs.Bounds.{of_i64, of_i16, of_i32}
 use Rattle.sql_leaf.specs.Locks.{lock_sql, locking_pieces, skip_locked}
 use Rattle.sql_leaf.specs.Positions.{position_pieces, direction_pieces}
 use Rattle.sql_leaf.specs.Sources.{method_open, only_pieces, repeatable, sample_pieces, seed_pieces}
@@ -37,7 +37,11 @@ record Binds (ps : List Piece) (n : ℕ) : Type 0 where
   pub says : length (values_of ps) ≡ n
 
 then : {ps qs : List Piece} {m n : ℕ} → Binds ps m → Binds qs n → Binds (ps ++ qs) (m + n)
-then {ps} {qs} h k = record { says = ap length (values_of-append ps qs) ∙ length-append (values_of ps) (values_of qs) ∙ ap₂ ◌+◌ h.says k.says }
+then {ps} {qs} h k =
+    record {
+      says =
+          ap length (values_of-append ps qs) ∙ length-append (values_of ps) (values_of qs) ∙ ap₂ ◌+◌ h.says k.says;
+    }
 
 text : (t : List ℕ) → Binds (one (Text t)) 0
 unfolding one
@@ -64,7 +68,8 @@ back {ps} {qs} {n} h k = record { says = (then h k).says ∙ add-zero n }
 inside : (a : List ℕ) {ps : List Piece} {n : ℕ} (b : List ℕ) → Binds ps n → Binds (around a ps b) n
 inside a b h = front (text a) (back h (text b))
 
-both : {ps : List Piece} {m : ℕ} (middle : List ℕ) {qs : List Piece} {n : ℕ} → Binds ps m → Binds qs n → Binds (infix_of ps middle qs) (m + n)
+both : {ps : List Piece} {m : ℕ} (middle : List ℕ) {qs : List Piece} {n : ℕ} → Binds ps m → Binds qs n
+    → Binds (infix_of ps middle qs) (m + n)
 both middle h k = then (inside (codes "(") middle h) (back k (text (codes ")")))
 
 -- ---- what has no placeholder
@@ -91,7 +96,8 @@ lock (Locked m NoModifier) = front (text (lock_sql m)) nothing
 lock (Locked m SkipLocked) = front (text (lock_sql m)) (text skip_locked)
 lock (Locked m NoWait) = front (text (lock_sql m)) (text (codes " NOWAIT"))
 
-positions_all : (first : Bool) (ps : List PositionalItem) → Binds (commas first (map (λ p. position_pieces p.column p.direction) ps)) 0
+positions_all : (first : Bool) (ps : List PositionalItem)
+    → Binds (commas first (map (λ p. position_pieces p.column p.direction) ps)) 0
 positions_all first [] = nothing
 positions_all true (p ∷ ps) = front (position p) (positions_all false ps)
   where
@@ -112,22 +118,25 @@ all_words All = text (codes "ALL ")
 
 -- ---- what has some of its own
 
-rows : (b : Bool) (r : LimitOffsetClause) → Binds (limit_offset_pieces Pg b r.limit_clause r.offset_clause) (rows_binds r)
+rows : (b : Bool) (r : LimitOffsetClause)
+    → Binds (limit_offset_pieces Pg b r.limit_clause r.offset_clause) (rows_binds r)
 rows b r = of r.limit_clause r.offset_clause
   where
     of : (l o : Option ℤ) → Binds (limit_offset_pieces Pg b l o) (one_if_some l + one_if_some o)
     of None None = nothing
-    of None (Some o) = front nothing (front (text (codes " OFFSET ")) (bind (big o)))
-    of (Some l) None = front (text (codes " LIMIT ")) (bind (big l))
-    of (Some l) (Some o) = then (front (text (codes " LIMIT ")) (bind (big l))) (front (text (codes " OFFSET ")) (bind (big o)))
+    of None (Some o) = front nothing (front (text (codes " OFFSET ")) (bind (of_i64 o)))
+    of (Some l) None = front (text (codes " LIMIT ")) (bind (of_i64 l))
+    of (Some l) (Some o) =
+        then (front (text (codes " LIMIT ")) (bind (of_i64 l))) (front (text (codes " OFFSET ")) (bind (of_i64 o)))
 
 seed : (n : Option ℤ) → Binds (seed_pieces n) (one_if_some n)
 seed None = nothing
-seed (Some n) = front (text repeatable) (back (bind (integer n)) (text (codes ")")))
+seed (Some n) = front (text repeatable) (back (bind (of_i32 n)) (text (codes ")")))
 
 sample : (s : Option Tablesample) → Binds (pieces_of_option sample_pieces s) (sample_binds s)
 sample None = nothing
-sample (Some s) = front (text (method_open s.method)) (then (bind (small s.portion)) (front (text (codes ")")) (seed s.seed)))
+sample (Some s) =
+    front (text (method_open s.method)) (then (bind (of_i16 s.portion)) (front (text (codes ")")) (seed s.seed)))
 
 only : (b : Bool) → Binds (only_pieces b) 0
 only true = text (codes " ONLY ")
@@ -159,8 +168,16 @@ together xs ys {m} {n} h k = record { says = λ first. (of xs ys first).says ∙
     later : (xs : List (List Piece)) (first : Bool) → length (values_of (commas (stays first xs) ys)) ≡ n
     later xs first = k.says (stays first xs)
 
-    of : (xs ys : List (List Piece)) (first : Bool) → Binds (commas first (xs ++ ys)) (length (values_of (commas first xs)) + length (values_of (commas (stays first xs) ys)))
-    of xs ys first = record { says = ap (λ l. length (values_of l)) (commas-append first xs ys) ∙ (then {ps = commas first xs} {qs = commas (stays first xs) ys} (record { says = refl }) (record { says = refl })).says }
+    of : (xs ys : List (List Piece)) (first : Bool)
+        → Binds (commas first (xs ++ ys))
+        (length (values_of (commas first xs)) + length (values_of (commas (stays first xs) ys)))
+    of xs ys first =
+        record {
+          says =
+              ap (λ l. length (values_of l)) (commas-append first xs ys)
+              ∙ (then {ps = commas first xs} {qs = commas (stays first xs) ys} (record { says = refl })
+              (record { says = refl })).says;
+        }
 
 -- of an expression's parts: those of each element together, or its own
 BindWritten : Written → ℕ → Type 0
@@ -189,16 +206,23 @@ mutual
   written (not_of e) = inside (codes "NOT (") (codes ")") (spread_out (expr_parts Pg e) (written e))
   written (null_test n e) = inside (codes "(") (null_test_sql n) (spread_out (expr_parts Pg e) (written e))
   written (count e) = inside (codes "COUNT(") (codes ")") (spread_out (expr_parts Pg e) (written e))
-  written (compared by a b) = both (comparison_sql by) (spread_out (expr_parts Pg a) (written a)) (spread_out (expr_parts Pg b) (written b))
-  written (joined by a b) = both (logic_sql by) (spread_out (expr_parts Pg a) (written a)) (spread_out (expr_parts Pg b) (written b))
+  written (compared by a b) =
+      both (comparison_sql by) (spread_out (expr_parts Pg a) (written a)) (spread_out (expr_parts Pg b) (written b))
+  written (joined by a b) =
+      both (logic_sql by) (spread_out (expr_parts Pg a) (written a)) (spread_out (expr_parts Pg b) (written b))
   written (exists q) = inside (codes "EXISTS (") (codes ")") (statement q)
   written (single q) = inside (codes "(") (codes ")") (statement q)
-  written (among_values n e t xs) = then (inside (codes "(") (among_sql Pg n) (spread_out (expr_parts Pg e) (written e))) (back (bind (ManyValues t xs)) (text (codes "))")))
-  written (among_rows n e q) = then (inside (codes "(") (among_sql Pg n) (spread_out (expr_parts Pg e) (written e))) (back (statement q) (text (codes "))")))
+  written (among_values n e t xs) =
+      then (inside (codes "(") (among_sql Pg n) (spread_out (expr_parts Pg e) (written e)))
+      (back (bind (ManyValues t xs)) (text (codes "))")))
+  written (among_rows n e q) =
+      then (inside (codes "(") (among_sql Pg n) (spread_out (expr_parts Pg e) (written e)))
+      (back (statement q) (text (codes "))")))
 
   each_written : (es : Exprs) → BindEach (exprs_parts Pg es) (exprs_binds es)
   each_written no_exprs = no_more
-  each_written (more_exprs e es) = together (each (expr_parts Pg e)) (exprs_parts Pg es) (each_of (expr_parts Pg e) (written e)) (each_written es)
+  each_written (more_exprs e es) =
+      together (each (expr_parts Pg e)) (exprs_parts Pg es) (each_of (expr_parts Pg e) (written e)) (each_written es)
 
   items : (is : Items) → BindEach (items_pieces Pg is) (items_binds is)
   items no_items = no_more
@@ -211,13 +235,23 @@ mutual
   source : (f : Source) → Binds (source_pieces Pg f) (source_binds f)
   source (of_table t o s) = front (only o) (front (path t.schema t.sql_name) (sample s))
   source (of_alias a t) = front (path t.schema t.sql_name) (front (text (codes " AS ")) (ident a))
-  source (join k l r no_expr) = record { says = (then (source l) (front (text (join_sql k)) (source r))).says ∙ sym (add-zero (source_binds l + source_binds r)) }
+  source (join k l r no_expr) =
+      record {
+        says =
+            (then (source l) (front (text (join_sql k)) (source r))).says
+            ∙ sym (add-zero (source_binds l + source_binds r));
+      }
   source (join k l r (an_expr e)) =
-      front (text (codes "(")) (then (then (source l) (front (text (join_sql k)) (source r))) (inside (codes " ON ") (codes ")") (spread_out (expr_parts Pg e) (written e))))
+      front (text (codes "("))
+      (then (then (source l) (front (text (join_sql k)) (source r)))
+      (inside (codes " ON ") (codes ")") (spread_out (expr_parts Pg e) (written e))))
 
   statement : (s : Statement) → Binds (pieces Pg s) (statement_binds s)
   statement (select default e f u w o r g h form marks) =
-      front (text (codes "SELECT ")) (then (distinctness u) (then (spread_out (expr_parts Pg e) (written e)) (then (source_of f) (then (maybe (codes " WHERE ") w) (then (maybe group_by g)
+      front (text (codes "SELECT "))
+      (then (distinctness u)
+      (then (spread_out (expr_parts Pg e) (written e))
+      (then (source_of f) (then (maybe (codes " WHERE ") w) (then (maybe group_by g)
       (then (maybe (codes " HAVING ") h) (then (order o) (end r form))))))))
   statement (combination by all a b o r) =
       then (inside (side_open Pg) (codes ")") (statement a)) (front (text (combinator_sql by)) (front (all_words all)

@@ -19,7 +19,8 @@ elements : (g : Given) → element_types (all_nullable g) ≡ map as_nullable (e
 elements (one t) = refl
 elements (many ts) = refl
 
-pub nulled-nullable : (n : Bool) (e : Expr) → nulled n (element_types (given (nullable e))) ≡ nulled true (element_types (given e))
+pub nulled-nullable : (n : Bool) (e : Expr)
+    → nulled n (element_types (given (nullable e))) ≡ nulled true (element_types (given e))
 nulled-nullable true e = ap (map as_nullable) (elements (given e)) ∙ twice_each (element_types (given e))
 nulled-nullable false e = elements (given e)
 
@@ -40,10 +41,15 @@ nulled-single true t = refl
 nulled-single false t = refl
 
 module _ {E : Type 0} {h : List (Option SqlType)} where
-  pub gathers-nullable : (n : Bool) (e : Expr) {r : Result (Unit {0}) E} {g : List (Option SqlType)} → Gathers (λ t. t) h (nulled true (element_types (given e))) r g → Gathers (λ t. t) h (nulled n (element_types (given (nullable e)))) r g
+  pub gathers-nullable : (n : Bool) (e : Expr) {r : Result (Unit {0}) E} {g : List (Option SqlType)}
+      → Gathers (λ t. t) h (nulled true (element_types (given e))) r g
+      → Gathers (λ t. t) h (nulled n (element_types (given (nullable e)))) r g
   gathers-nullable n e {r} {g} v = subst (λ ts. Gathers (λ t. t) h ts r g) (sym (nulled-nullable n e)) v
 
-  pub gathers-typed : (n : Bool) (t : Option SqlType) (k : List (Option SqlType)) → k ≡ h ++ nulled_one n t ∷ [] → Gathers {E = E} (λ t. t) h (nulled n (t ∷ [])) (Ok tt) k
-  gathers-typed n t k e = subst (λ ts. Gathers {E = E} (λ t. t) h ts (Ok tt) k) (sym (nulled-single n t)) (gathers-more (nulled_one n t) e gathers-none)
+  pub gathers-typed : (n : Bool) (t : Option SqlType) (k : List (Option SqlType)) → k ≡ h ++ nulled_one n t ∷ []
+      → Gathers {E = E} (λ t. t) h (nulled n (t ∷ [])) (Ok tt) k
+  gathers-typed n t k e =
+      subst (λ ts. Gathers {E = E} (λ t. t) h ts (Ok tt) k) (sym (nulled-single n t))
+      (gathers-more (nulled_one n t) e gathers-none)
 
 pub ruleset nulling = (gathers-nullable, gathers-typed)

@@ -69,7 +69,9 @@ abbrev mutual
 
   pub statement_binds : Statement → ℕ
   statement_binds (select default e f u w o rows g h form marks) =
-      distinct_binds u + (expr_binds e + (from_binds f + (maybe_binds w + (maybe_binds g + (maybe_binds h + (order_binds o + rows_binds rows))))))
+      distinct_binds u
+      + (expr_binds e
+      + (from_binds f + (maybe_binds w + (maybe_binds g + (maybe_binds h + (order_binds o + rows_binds rows))))))
   statement_binds (combination by all a b o rows) = statement_binds a + (statement_binds b + rows_binds rows)
 
 abbrev pub among_binds : Among → ℕ

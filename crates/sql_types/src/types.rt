@@ -164,22 +164,10 @@ pub fn type_of(alloc: Global, expr: &Expr) -> Result<Option<SqlType>, NoMemory>
         Expr::Value(ty, _) => Ok(Some(*ty)),
         Expr::List(_) => Ok(None),
         Expr::CountStar => Ok(big_type()),
-        Expr::Nullable(a) => {
-            let ty = type_of(alloc, a)?;
-            Ok(as_nullable(ty))
-        }
-        Expr::Not(a) => {
-            let ty = type_of(alloc, a)?;
-            Ok(not_type(ty))
-        }
-        Expr::IsNull(a) | Expr::IsNotNull(a) => {
-            let ty = type_of(alloc, a)?;
-            Ok(if_typed(ty, bool_type(false)))
-        }
-        Expr::Count(a) => {
-            let ty = type_of(alloc, a)?;
-            Ok(if_typed(ty, big_type()))
-        }
+        Expr::Nullable(a) => Ok(as_nullable(type_of(alloc, a)?)),
+        Expr::Not(a) => Ok(not_type(type_of(alloc, a)?)),
+        Expr::IsNull(a) | Expr::IsNotNull(a) => Ok(if_typed(type_of(alloc, a)?, bool_type(false))),
+        Expr::Count(a) => Ok(if_typed(type_of(alloc, a)?, big_type())),
         Expr::Eq(a, b)
         | Expr::Ne(a, b)
         | Expr::Gt(a, b)
@@ -221,7 +209,8 @@ fn gather(
     expr: &Expr,
     all: &mut Vec<Option<SqlType>>,
 ) -> Result<(), NoMemory>
-    ensures { Gathers (λ t. t) all.old.items (nulled nullable (element_types (given_to (expr_tree expr.now)))) result all.new.items }
+    ensures { Gathers (λ t. t) all.old.items
+        (nulled nullable (element_types (given_to (expr_tree expr.now)))) result all.new.items }
 {
     match expr {
         Expr::List(exprs) => gather_each(alloc, nullable, exprs.as_slice(), all),
@@ -237,7 +226,8 @@ fn gather_one(
     expr: &Expr,
     all: &mut Vec<Option<SqlType>>,
 ) -> Result<(), NoMemory>
-    ensures { Gathers (λ t. t) all.old.items (nulled nullable (type_in (expr_tree expr.now) ∷ [])) result all.new.items }
+    ensures { Gathers (λ t. t) all.old.items (nulled nullable (type_in (expr_tree expr.now) ∷ []))
+        result all.new.items }
 {
     let ty = type_of(alloc, expr)?;
     all.push(or_nullable(nullable, ty))?;
@@ -251,7 +241,8 @@ fn gather_each(
     exprs: &[Expr],
     all: &mut Vec<Option<SqlType>>,
 ) -> Result<(), NoMemory>
-    ensures { Gathers (λ t. t) all.old.items (nulled nullable (given_each (exprs_of (map expr_tree exprs.now)))) result all.new.items }
+    ensures { Gathers (λ t. t) all.old.items
+        (nulled nullable (given_each (exprs_of (map expr_tree exprs.now)))) result all.new.items }
 {
     for expr in exprs {
         gather(alloc, nullable, expr, all)?;
@@ -265,7 +256,8 @@ fn selected(
     nullable: bool,
     select: &SelectClause,
 ) -> Result<Vec<Option<SqlType>>, NoMemory>
-    ensures { IfOk result (λ v. v.items ≡ nulled nullable (element_types (given_to (select_clause_tree select.now).1))) }
+    ensures { IfOk result (λ v. v.items
+        ≡ nulled nullable (element_types (given_to (select_clause_tree select.now).1))) }
 {
     let mut all = Vec::new(alloc);
     match select {

@@ -2,4 +2,24 @@ use Rattle.sql_grammar.proofs.Worked as worked
 use Rattle.sql_grammar.proofs.worked_tokens.Goals as goal
 
 pub returns : goal.returns
-returns c = record { spaces = worked.spaces; doubled = worked.doubled; backticks = worked.backticks; lone_quote = worked.lone_quote; lone_backtick = worked.lone_backtick; lower = worked.lower; digits = worked.digits; last = worked.last; past = worked.past; zero = worked.zero; leading_zero = worked.leading_zero; question = worked.question; question_on_pg = worked.question_on_pg; number_on_mysql = worked.number_on_mysql; number_on_sqlite = worked.number_on_sqlite; tab = worked.tab; newline = worked.newline; tab_in_name = worked.tab_in_name }
+returns c =
+    record {
+      spaces = worked.spaces;
+      doubled = worked.doubled;
+      backticks = worked.backticks;
+      lone_quote = worked.lone_quote;
+      lone_backtick = worked.lone_backtick;
+      lower = worked.lower;
+      digits = worked.digits;
+      last = worked.last;
+      past = worked.past;
+      zero = worked.zero;
+      leading_zero = worked.leading_zero;
+      question = worked.question;
+      question_on_pg = worked.question_on_pg;
+      number_on_mysql = worked.number_on_mysql;
+      number_on_sqlite = worked.number_on_sqlite;
+      tab = worked.tab;
+      newline = worked.newline;
+      tab_in_name = worked.tab_in_name;
+    }

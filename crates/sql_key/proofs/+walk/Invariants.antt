@@ -7,7 +7,11 @@ use Rattle.sql_key.proofs.Lists.{of_expr, of_item}
 use Rattle.sql_key.proofs.+walk.Given as goal
 
 abbrev pub invariant-expr::push_exprs-loop-expr : goal.invariant-expr::push_exprs-loop-expr
-invariant-expr::push_exprs-loop-expr l = (new : List KeyNode) → Adds key_node l.nodes.items (roses_of of_expr (drop l.expr-index l.exprs)) new → Adds key_node l.initial.nodes.items (roses_of of_expr l.exprs) new
+invariant-expr::push_exprs-loop-expr l =
+    (new : List KeyNode) → Adds key_node l.nodes.items (roses_of of_expr (drop l.expr-index l.exprs)) new
+    → Adds key_node l.initial.nodes.items (roses_of of_expr l.exprs) new
 
 abbrev pub invariant-clause::push_items-loop-item : goal.invariant-clause::push_items-loop-item
-invariant-clause::push_items-loop-item l = (new : List KeyNode) → Adds key_node l.nodes.items (roses_of of_item (drop l.item-index l.items)) new → Adds key_node l.initial.nodes.items (roses_of of_item l.items) new
+invariant-clause::push_items-loop-item l =
+    (new : List KeyNode) → Adds key_node l.nodes.items (roses_of of_item (drop l.item-index l.items)) new
+    → Adds key_node l.initial.nodes.items (roses_of of_item l.items) new

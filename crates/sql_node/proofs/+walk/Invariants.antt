@@ -21,12 +21,19 @@ item_written d i = item_pieces d (order_item_tree i)
 abbrev pub invariant-list::walk_list-loop-expr : goal.invariant-list::walk_list-loop-expr
 invariant-list::walk_list-loop-expr g l =
     let at = held g.DB.QueryBuilder.QueryBuilder.text g.DB.QueryBuilder.QueryBuilder.count in
-    ((r : Result (Unit {0}) PassError) (k : Held) → Walks g.DB.Backend.speaks (at l.pass) (commas l.first (all_of (parts g.DB.Backend.speaks) (drop l.expr-index l.items))) r k
-    → Walks g.DB.Backend.speaks (at l.initial.pass) (commas l.initial.first (all_of (parts g.DB.Backend.speaks) l.items)) r k)
-    × (stays l.first (all_of (parts g.DB.Backend.speaks) (drop l.expr-index l.items)) ≡ stays l.initial.first (all_of (parts g.DB.Backend.speaks) l.items))
+    ((r : Result (Unit {0}) PassError) (k : Held)
+    → Walks g.DB.Backend.speaks (at l.pass)
+    (commas l.first (all_of (parts g.DB.Backend.speaks) (drop l.expr-index l.items))) r k
+    → Walks g.DB.Backend.speaks (at l.initial.pass)
+    (commas l.initial.first (all_of (parts g.DB.Backend.speaks) l.items)) r k)
+    × (stays l.first (all_of (parts g.DB.Backend.speaks) (drop l.expr-index l.items))
+    ≡ stays l.initial.first (all_of (parts g.DB.Backend.speaks) l.items))
 
 abbrev pub invariant-order::walk_items-loop-item : goal.invariant-order::walk_items-loop-item
 invariant-order::walk_items-loop-item g l =
     let at = held g.DB.QueryBuilder.QueryBuilder.text g.DB.QueryBuilder.QueryBuilder.count in
-    (r : Result (Unit {0}) PassError) (k : Held) → Walks g.DB.Backend.speaks (at l.pass) (commas l.first (map (item_written g.DB.Backend.speaks) (drop l.item-index l.items))) r k
-    → Walks g.DB.Backend.speaks (at l.initial.pass) (commas l.initial.first (map (item_written g.DB.Backend.speaks) l.items)) r k
+    (r : Result (Unit {0}) PassError) (k : Held)
+    → Walks g.DB.Backend.speaks (at l.pass)
+    (commas l.first (map (item_written g.DB.Backend.speaks) (drop l.item-index l.items))) r k
+    → Walks g.DB.Backend.speaks (at l.initial.pass)
+    (commas l.initial.first (map (item_written g.DB.Backend.speaks) l.items)) r k

@@ -15,6 +15,7 @@ pub fn every_call(alloc: Global) -> Result<(), Fail> {
     keys(alloc)?;
     orders(alloc)?;
     joins(alloc)?;
+    left_joins(alloc)?;
     joins_on_a_condition(alloc)?;
     joins_of_boxed(alloc)?;
     selections(alloc)
@@ -128,6 +129,21 @@ fn joins(alloc: Global) -> Result<(), Fail> {
         users.join_with_implicit_on_clause(alloc, &schema, rhs, JoinKind::Inner)?,
         JOINED,
     )
+}
+
+const LEFT_JOINED: &str =
+    "SELECT \"users\".\"id\" FROM (\"users\" LEFT OUTER JOIN \"posts\" ON (\"posts\".\"user_id\" = \"users\".\"id\"))";
+
+fn left_joins(alloc: Global) -> Result<(), Fail> {
+    let schema = schema(alloc)?;
+    let (users, rhs) = sides(alloc)?;
+    writes(
+        alloc,
+        users.left_outer_join(alloc, &schema, rhs)?,
+        LEFT_JOINED,
+    )?;
+    let (users, rhs) = sides(alloc)?;
+    writes(alloc, users.left_join(alloc, &schema, rhs)?, LEFT_JOINED)
 }
 
 fn joins_on_a_condition(alloc: Global) -> Result<(), Fail> {

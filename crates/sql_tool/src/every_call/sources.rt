@@ -13,6 +13,7 @@ pub fn every_call(alloc: Global) -> Result<(), Fail> {
     aliases(alloc)?;
     joins(alloc)?;
     conditions(alloc)?;
+    left_conditions(alloc)?;
     targets(alloc)?;
     selections(alloc)
 }
@@ -86,18 +87,27 @@ fn conditions(alloc: Global) -> Result<(), Fail> {
         users.inner_join(alloc, &schema, rhs)?,
         "(\"users\" INNER JOIN \"posts\" ON (\"posts\".\"user_id\" = \"users\".\"id\")) ON \"users\".\"id\"",
     )?;
-    let (users, rhs) = beside(users_on(alloc)?, posts(alloc))?;
-    writes(
-        alloc,
-        users.left_outer_join(alloc, &schema, rhs)?,
-        "(\"users\" LEFT OUTER JOIN \"posts\" ON (\"posts\".\"user_id\" = \"users\".\"id\")) ON \"users\".\"id\"",
-    )?;
     let (users, rhs) = beside(users_on(alloc)?, plain(alloc, "posts"))?;
     writes(
         alloc,
         users.join(alloc, rhs, JoinKind::Inner, None)?,
         "\"users\" INNER JOIN \"posts\" ON \"users\".\"id\"",
     )
+}
+
+const LEFT_JOINED_ON: &str =
+    "(\"users\" LEFT OUTER JOIN \"posts\" ON (\"posts\".\"user_id\" = \"users\".\"id\")) ON \"users\".\"id\"";
+
+fn left_conditions(alloc: Global) -> Result<(), Fail> {
+    let schema = schema(alloc)?;
+    let (users, rhs) = beside(users_on(alloc)?, posts(alloc))?;
+    writes(
+        alloc,
+        users.left_outer_join(alloc, &schema, rhs)?,
+        LEFT_JOINED_ON,
+    )?;
+    let (users, rhs) = beside(users_on(alloc)?, posts(alloc))?;
+    writes(alloc, users.left_join(alloc, &schema, rhs)?, LEFT_JOINED_ON)
 }
 
 fn targets(alloc: Global) -> Result<(), Fail> {

@@ -10,8 +10,11 @@ loop-before-preserved c =
     let before = c.in-Some.before.now in
     let after = c.in-Some.after.now in
     let mark = c.args.mark in
-    let parts = split_parts mark c.loop-before.rest.now (Some (c.in-Some.before, c.in-Some.after)) c.in-Some.ensures.cases c.requires in
-    let e : doubled mark c.loop-before.rest.now ≡ before ++ (mark ∷ (mark ∷ doubled mark after)) = ap (doubled mark) parts.0 ∙ doubled_at mark before after parts.1 in
+    let parts =
+    split_parts mark c.loop-before.rest.now (Some (c.in-Some.before, c.in-Some.after)) c.in-Some.ensures.cases
+    c.requires in
+    let e : doubled mark c.loop-before.rest.now ≡ before ++ (mark ∷ (mark ∷ doubled mark after)) =
+    ap (doubled mark) parts.0 ∙ doubled_at mark before after parts.1 in
     let ascii = c.push.ensures.ascii c.requires in
     (search rules, grind (arith, common_steps, e, ascii))
 

@@ -7,4 +7,6 @@ use Rattle.sql_document.proofs.EachItem.{with_front}
 use Rattle.sql_document.proofs.document.each_request.Given as goal
 
 abbrev pub invariant-loop-item : goal.invariant-loop-item
-invariant-loop-item l = with_front (map request_tree l.all.items) (each request_of (items_view l.item-iterator.rest.items)) ≡ each request_of (items_view l.initial.item-iterator.rest.items)
+invariant-loop-item l =
+    with_front (map request_tree l.all.items) (each request_of (items_view l.item-iterator.rest.items))
+    ≡ each request_of (items_view l.initial.item-iterator.rest.items)

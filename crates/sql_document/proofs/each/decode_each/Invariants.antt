@@ -5,4 +5,6 @@ use Rattle.sql_document.proofs.EachItem.{with_front, rest_of}
 use Rattle.sql_document.proofs.each.decode_each.Given as goal
 
 abbrev pub invariant-loop-item : goal.invariant-loop-item
-invariant-loop-item g l = with_front l.all.items (each g.T.Decode.form (rest_of l.item-items l.item-index)) ≡ each g.T.Decode.form (items_view l.item-items)
+invariant-loop-item g l =
+    with_front l.all.items (each g.T.Decode.form (rest_of l.item-items l.item-index))
+    ≡ each g.T.Decode.form (items_view l.item-items)

@@ -6,4 +6,6 @@ use Rattle.sql_document.proofs.EachItem.{with_front, rest_of}
 use Rattle.sql_document.proofs.value.each_value.Given as goal
 
 abbrev pub invariant-loop-item : goal.invariant-loop-item
-invariant-loop-item l = with_front l.all.items (each (value_of l.base) (rest_of l.item-items l.item-index)) ≡ each (value_of l.base) (items_view l.item-items)
+invariant-loop-item l =
+    with_front l.all.items (each (value_of l.base) (rest_of l.item-items l.item-index))
+    ≡ each (value_of l.base) (items_view l.item-items)

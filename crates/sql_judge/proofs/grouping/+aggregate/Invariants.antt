@@ -7,4 +7,5 @@ use Rattle.sql_judge.proofs.grouping.+aggregate.Given as goal
 
 abbrev pub invariant-any_aggregate-loop-expr : goal.invariant-any_aggregate-loop-expr
 invariant-any_aggregate-loop-expr l =
-    list_any is_aggregate (nodes_of (exprs_of (map expr_tree (drop l.expr-index l.exprs)))) ≡ list_any is_aggregate (nodes_of (exprs_of (map expr_tree l.exprs)))
+    list_any is_aggregate (nodes_of (exprs_of (map expr_tree (drop l.expr-index l.exprs))))
+    ≡ list_any is_aggregate (nodes_of (exprs_of (map expr_tree l.exprs)))

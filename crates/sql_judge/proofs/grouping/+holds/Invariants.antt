@@ -6,4 +6,5 @@ use Rattle.sql_judge.proofs.grouping.+holds.Given as goal
 
 abbrev pub invariant-any_holds-loop-expr : goal.invariant-any_holds-loop-expr
 invariant-any_holds-loop-expr l =
-    holds_column (fields_of (exprs_of (map expr_tree (drop l.expr-index l.exprs)))) (origin_of l.origin) l.name ≡ holds_column (fields_of (exprs_of (map expr_tree l.exprs))) (origin_of l.origin) l.name
+    holds_column (fields_of (exprs_of (map expr_tree (drop l.expr-index l.exprs)))) (origin_of l.origin) l.name
+    ≡ holds_column (fields_of (exprs_of (map expr_tree l.exprs))) (origin_of l.origin) l.name

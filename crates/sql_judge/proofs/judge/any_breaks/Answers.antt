@@ -5,5 +5,9 @@ use Rattle.sql_judge.proofs.Loops.{here_any}
 use Rattle.sql_judge.proofs.judge.any_breaks.Goals as goal
 
 pub returns-then-branch : goal.returns-then-branch
-returns-then-branch g c =
-    (λ _. here_any look_part (PartBreaks c.args.rule c.args.schema.now g.DB.Backend.speaks) c.args.parts.now c.loop-part.part-index c.part-item.result c.part-item.result c.loop-part-test.true c.part-item.is (c.in_ok-part_breaks.ensures.0 c.if-branch.true), λ _. refl)
+returns-then-branch g c = (
+  λ _. here_any look_part (PartBreaks c.args.rule c.args.schema.now g.DB.Backend.speaks) c.args.parts.now
+      c.loop-part.part-index c.part-item.result c.part-item.result c.loop-part-test.true c.part-item.is
+      (c.in_ok-part_breaks.ensures.0 c.if-branch.true),
+  λ _. refl,
+)

@@ -6,4 +6,5 @@ use Rattle.sql_judge.proofs.judge.any_breaks.Given as goal
 
 abbrev pub invariant-loop-part : goal.invariant-loop-part
 invariant-loop-part g l =
-    AnyOf (PartBreaks l.rule l.schema g.DB.Backend.speaks) (map look_part l.parts) → AnyOf (PartBreaks l.rule l.schema g.DB.Backend.speaks) (map look_part (drop l.part-index l.parts))
+    AnyOf (PartBreaks l.rule l.schema g.DB.Backend.speaks) (map look_part l.parts)
+    → AnyOf (PartBreaks l.rule l.schema g.DB.Backend.speaks) (map look_part (drop l.part-index l.parts))

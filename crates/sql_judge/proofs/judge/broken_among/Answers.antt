@@ -15,7 +15,10 @@ loop-rule-preserved g c =
     let goes : List Rule → Type 0 = λ v. Selects P (take (c.loop-rule.rule-index + 1) c.args.rules.now) v in
     elim c.if-branch.branch [
       | then-branch+in_ok-push w ↦ subst goes (sym (ap (λ o. o.items) w.broken-is ∙ w.in_ok-push.ensures.items))
-          (selects_more P c.args.rules.now c.loop-rule.rule-index R.UnknownName c.loop-rule.broken.items c.loop-rule-test.true c.loop-rule.invariant (c.in_ok-breaks.ensures.0 w.if-branch.true))
+          (selects_more P c.args.rules.now c.loop-rule.rule-index R.UnknownName c.loop-rule.broken.items
+          c.loop-rule-test.true c.loop-rule.invariant (c.in_ok-breaks.ensures.0 w.if-branch.true))
       | else-branch w ↦ subst goes (sym (ap (λ o. o.items) w.broken-is))
-          (selects_skip P c.args.rules.now c.loop-rule.rule-index R.UnknownName c.loop-rule.broken.items c.loop-rule-test.true c.loop-rule.invariant (λ p. false≢true (sym w.if-branch.false ∙ c.in_ok-breaks.ensures.1 p)))
+          (selects_skip P c.args.rules.now c.loop-rule.rule-index R.UnknownName c.loop-rule.broken.items
+          c.loop-rule-test.true c.loop-rule.invariant (λ p. false≢true (sym w.if-branch.false
+          ∙ c.in_ok-breaks.ensures.1 p)))
     ]

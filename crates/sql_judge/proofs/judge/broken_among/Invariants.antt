@@ -5,4 +5,6 @@ use Rattle.sql_rules.specs.Rules.{Broken}
 use Rattle.sql_judge.proofs.judge.broken_among.Given as goal
 
 abbrev pub invariant-loop-rule : goal.invariant-loop-rule
-invariant-loop-rule g l = Selects (λ r. Broken r l.schema g.DB.Backend.speaks (statement_tree l.statement)) (take l.rule-index l.rules) l.broken.items
+invariant-loop-rule g l =
+    Selects (λ r. Broken r l.schema g.DB.Backend.speaks (statement_tree l.statement)) (take l.rule-index l.rules)
+    l.broken.items

@@ -6,4 +6,8 @@ use Rattle.sql_judge.proofs.judge.select_breaks.Goals as goal
 
 pub returns-in-Grouping : goal.returns-in-Grouping
 returns-in-Grouping g c =
-    subst (λ r. IfOk c.breaks_grouping.result (λ b. Decides b (SelectBreaks r c.args.schema.now g.DB.Backend.speaks (seen_outer c.args.seen.now) (seen_select c.args.seen.now)))) (sym c.in-Grouping.is) c.breaks_grouping.ensures
+    subst
+    (λ r. IfOk c.breaks_grouping.result (λ b. Decides b
+    (SelectBreaks r c.args.schema.now g.DB.Backend.speaks (seen_outer c.args.seen.now)
+    (seen_select c.args.seen.now))))
+    (sym c.in-Grouping.is) c.breaks_grouping.ensures

@@ -7,4 +7,5 @@ pub returns : goal.returns
 returns c =
     let left = c.as_slice.ensures.value ∙ c.in_ok-left.ensures in
     let right = c.as_slice-2.ensures.value ∙ c.in_ok-right.ensures in
-    Decides-like c.ne.result (λ n e. n (left ∙ e ∙ sym right)) (λ n e. n (sym left ∙ e ∙ right)) (types-differ c.ne.result c.as_slice.result.now c.as_slice-2.result.now c.ne.ensures)
+    Decides-like c.ne.result (λ n e. n (left ∙ e ∙ sym right)) (λ n e. n (sym left ∙ e ∙ right))
+    (types-differ c.ne.result c.as_slice.result.now c.as_slice-2.result.now c.ne.ensures)

@@ -8,5 +8,7 @@ use Rattle.sql_judge.proofs.lists.are_empty_items.Goals as goal
 pub returns-then-not-is_empty_item : goal.returns-then-not-is_empty_item
 returns-then-not-is_empty_item c = (
   λ e. absurd (false≢true e),
-  λ e. absurd (here-some (λ x. flat (order_item_tree x).0) (λ is. flat_items (items_of (map order_item_tree is))) (λ x xs. refl) c.args.items.now c.loop-item.item-index c.item-item.result c.loop-item-test.true c.item-item.is c.loop-item.invariant (λ k. false≢true (sym c.if-not-is_empty_item.true ∙ c.is_empty_item.ensures.1 k)) e),
+  λ e. absurd (here-some (λ x. flat (order_item_tree x).0) (λ is. flat_items (items_of (map order_item_tree is)))
+      (λ x xs. refl) c.args.items.now c.loop-item.item-index c.item-item.result c.loop-item-test.true c.item-item.is
+      c.loop-item.invariant (λ k. false≢true (sym c.if-not-is_empty_item.true ∙ c.is_empty_item.ensures.1 k)) e),
 )

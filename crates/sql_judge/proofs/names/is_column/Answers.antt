@@ -7,4 +7,6 @@ use Rattle.sql_judge.proofs.names.is_column.Goals as goal
 pub returns : goal.returns
 returns c =
     column-any-test c.is_declared.result c.args.column.now.decl c.args.column.now.table.columns
-    (c.is_declared.ensures ∙ ap (list_any (λ d. same_column d c.args.column.now.decl)) (c.columns.ensures.columns ∙ ap (λ t. t.columns) c.table.ensures))
+    (c.is_declared.ensures
+    ∙ ap (list_any (λ d. same_column d c.args.column.now.decl))
+    (c.columns.ensures.columns ∙ ap (λ t. t.columns) c.table.ensures))

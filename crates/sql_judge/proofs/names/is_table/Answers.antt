@@ -6,4 +6,5 @@ use Rattle.sql_judge.proofs.names.is_table.Goals as goal
 
 pub returns : goal.returns
 returns c =
-    table-any-test c.stands_among.result c.args.table.now c.args.schema.now.tables (c.stands_among.ensures ∙ ap (list_any (λ u. same_table u c.args.table.now)) c.tables.ensures.tables)
+    table-any-test c.stands_among.result c.args.table.now c.args.schema.now.tables
+    (c.stands_among.ensures ∙ ap (list_any (λ u. same_table u c.args.table.now)) c.tables.ensures.tables)

@@ -6,5 +6,9 @@ use Rattle.sql_judge.proofs.Loops.{here_any}
 use Rattle.sql_judge.proofs.nullable.any_padded.Goals as goal
 
 pub returns-then-is_padded : goal.returns-then-is_padded
-returns-then-is_padded c =
-    (λ _. here_any origin_of (IsPadded (select_of c.args.select)) c.args.origins.now c.loop-origin.origin-index c.origin-item.result c.origin-item.result c.loop-origin-test.true c.origin-item.is (c.is_padded.ensures.0 c.if-is_padded.true), λ _. refl)
+returns-then-is_padded c = (
+  λ _. here_any origin_of (IsPadded (select_of c.args.select)) c.args.origins.now c.loop-origin.origin-index
+      c.origin-item.result c.origin-item.result c.loop-origin-test.true c.origin-item.is
+      (c.is_padded.ensures.0 c.if-is_padded.true),
+  λ _. refl,
+)

@@ -6,4 +6,6 @@ use Rattle.sql_places.specs.Lent.{select_of}
 use Rattle.sql_judge.proofs.nullable.any_padded.Given as goal
 
 abbrev pub invariant-loop-origin : goal.invariant-loop-origin
-invariant-loop-origin l = AnyOf (IsPadded (select_of l.select)) (map origin_of l.origins) → AnyOf (IsPadded (select_of l.select)) (map origin_of (drop l.origin-index l.origins))
+invariant-loop-origin l =
+    AnyOf (IsPadded (select_of l.select)) (map origin_of l.origins)
+    → AnyOf (IsPadded (select_of l.select)) (map origin_of (drop l.origin-index l.origins))

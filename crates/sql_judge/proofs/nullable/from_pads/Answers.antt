@@ -10,4 +10,5 @@ use Rattle.sql_judge.proofs.nullable.from_pads.Goals as goal
 
 pub returns-in-FromClause : goal.returns-in-FromClause
 returns-in-FromClause c =
-    subst (λ f. Decides c.pads.result (AnyOf (LiesRight (origin_of c.args.origin)) (leaves_of f))) (sym (ap from_clause_tree c.in-FromClause.is ∙ from_clause-of_FromClause c.in-FromClause.source)) c.pads.ensures
+    subst (λ f. Decides c.pads.result (AnyOf (LiesRight (origin_of c.args.origin)) (leaves_of f)))
+    (sym (ap from_clause_tree c.in-FromClause.is ∙ from_clause-of_FromClause c.in-FromClause.source)) c.pads.ensures

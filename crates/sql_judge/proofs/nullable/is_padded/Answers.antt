@@ -9,4 +9,5 @@ pub returns-then-from_pads : goal.returns-then-from_pads
 returns-then-from_pads c =
     let o = origin_of c.args.origin in
     Decides-like (not c.any_pair.result) (λ n. (c.from_pads.ensures.0 c.if-from_pads.true, n)) (λ p. p.1)
-    (Decides-not c.any_pair.result (subst (λ v. Decides c.any_pair.result (AnyPair (λ a b. (a ≡ o) × (b ≡ o)) v)) c.requires c.any_pair.ensures))
+    (Decides-not c.any_pair.result
+    (subst (λ v. Decides c.any_pair.result (AnyPair (λ a b. (a ≡ o) × (b ≡ o)) v)) c.requires c.any_pair.ensures))

@@ -4,5 +4,9 @@ use Rattle.sql_judge.proofs.Loops.{here_any}
 use Rattle.sql_judge.proofs.test.any_right.Goals as goal
 
 pub returns-then-test : goal.returns-then-test
-returns-then-test g c =
-    (λ _. here_any origin_of (g.T.PairTest.holds c.args.test.now (origin_of c.args.left)) c.args.leaves.now c.loop-leaf.leaf-index c.leaf-item.result c.leaf-item.result c.loop-leaf-test.true c.leaf-item.is (c.test.ensures.0 c.if-test.true), λ _. refl)
+returns-then-test g c = (
+  λ _. here_any origin_of (g.T.PairTest.holds c.args.test.now (origin_of c.args.left)) c.args.leaves.now
+      c.loop-leaf.leaf-index c.leaf-item.result c.leaf-item.result c.loop-leaf-test.true c.leaf-item.is
+      (c.test.ensures.0 c.if-test.true),
+  λ _. refl,
+)

@@ -9,4 +9,6 @@ returns-in-Some c = closes (λ k e before behind is at.
     let x = c.in-Some.node.now in
     let v : x ≡ get_or c.args.nodes.now.items c.args.at x = grind arith in
     let w : x ≡ key_node k e = v ∙ (λ i. get_or (is i) (at i) x) ∙ get_or-append_seam before (key_node k e) behind x in
-    (λ i. set (is i) (at i) (key_node (w i).kind c.len-end.result)) ∙ set-append_seam before (key_node k e) behind (key_node k c.len-end.result) ∙ ap (λ n. before ++ key_node k n ∷ behind) (c.len-end.ensures ∙ c.args.nodes.now.ok.0))
+    (λ i. set (is i) (at i) (key_node (w i).kind c.len-end.result))
+    ∙ set-append_seam before (key_node k e) behind (key_node k c.len-end.result)
+    ∙ ap (λ n. before ++ key_node k n ∷ behind) (c.len-end.ensures ∙ c.args.nodes.now.ok.0))

@@ -5,4 +5,6 @@ use Rattle.sql_key.proofs.Expressions.{under-front}
 use Rattle.sql_key.proofs.expression.+push_under.Goals as goal
 
 pub returns : goal.returns
-returns t c = rw (under-front c.args.nullables (expr_tree c.args.expr.now) (search rules)) (adds-node c.in_ok-at.ensures c.in_ok-push_under.ensures c.close.ensures)
+returns t c =
+    rw (under-front c.args.nullables (expr_tree c.args.expr.now) (search rules))
+    (adds-node c.in_ok-at.ensures c.in_ok-push_under.ensures c.close.ensures)

@@ -4,7 +4,10 @@ use Rattle.sql_key.proofs.Lists.{of_position}
 use Rattle.sql_key.proofs.part.push_positions.Goals as goal
 
 pub loop-item-preserved : goal.loop-item-preserved
-loop-item-preserved c = λ new a. c.loop-item.invariant new (adds-next of_position c.args.items.now _ _ c.loop-item-test.true (search rules) c.in_ok-push_position.ensures a)
+loop-item-preserved c =
+    λ new a. c.loop-item.invariant new
+    (adds-next of_position c.args.items.now _ _ c.loop-item-test.true (search rules) c.in_ok-push_position.ensures
+    a)
 
 pub returns : goal.returns
 returns c = c.loop-item.invariant c.loop-item.nodes.items (adds-end of_position c.args.items.now _ (search rules))

@@ -6,5 +6,6 @@ pub returns : goal.returns
 returns c = record {
   only = λ schema d h. laws.only schema d (statement_tree c.before.args.statement.now) c.places_are_counted.ensures h;
   fills = λ schema d h. laws.fills schema d (statement_tree c.before.args.statement.now) c.places_are_counted.ensures h;
-  as_many = λ schema d h. laws.as_many schema d (statement_tree c.before.args.statement.now) c.places_are_counted.ensures h;
+  as_many =
+      λ schema d h. laws.as_many schema d (statement_tree c.before.args.statement.now) c.places_are_counted.ensures h;
 }

@@ -9,9 +9,13 @@ use Rattle.sql_places.proofs.clause.gather_items.Goals as goal
 pub loop-item-preserved : goal.loop-item-preserved
 loop-item-preserved c =
     let v = map origin_of c.args.view.now in
-    each-next clause_of (λ i. (record { place = in_order_by; view = v; expr = (order_item_tree i).0 }) ∷ []) (λ is. item_clauses v (items_of (map order_item_tree is))) refl (λ x xs. refl) c.args.items.now _ _ _ c.item-item.result c.loop-item-test.true c.item-item.is c.in_ok-gather_item.ensures c.loop-item.invariant
+    each-next clause_of (λ i. (record { place = in_order_by; view = v; expr = (order_item_tree i).0 }) ∷ [])
+    (λ is. item_clauses v (items_of (map order_item_tree is))) refl (λ x xs. refl) c.args.items.now _ _ _
+    c.item-item.result c.loop-item-test.true c.item-item.is c.in_ok-gather_item.ensures c.loop-item.invariant
 
 pub returns : goal.returns
 returns c =
     let v = map origin_of c.args.view.now in
-    each-end clause_of (λ i. (record { place = in_order_by; view = v; expr = (order_item_tree i).0 }) ∷ []) (λ is. item_clauses v (items_of (map order_item_tree is))) refl (λ x xs. refl) c.args.items.now _ _ _ (search rules) c.loop-item.invariant
+    each-end clause_of (λ i. (record { place = in_order_by; view = v; expr = (order_item_tree i).0 }) ∷ [])
+    (λ is. item_clauses v (items_of (map order_item_tree is))) refl (λ x xs. refl) c.args.items.now _ _ _
+    (search rules) c.loop-item.invariant

@@ -7,5 +7,6 @@ use Rattle.sql_places.proofs.clause.gather_items.Given as goal
 
 abbrev pub invariant-loop-item : goal.invariant-loop-item
 invariant-loop-item l =
-    map clause_of l.all.items ++ item_clauses (map origin_of l.view) (items_of (map order_item_tree (drop l.item-index l.items)))
+    map clause_of l.all.items
+    ++ item_clauses (map origin_of l.view) (items_of (map order_item_tree (drop l.item-index l.items)))
     ≡ map clause_of l.initial.all.items ++ item_clauses (map origin_of l.view) (items_of (map order_item_tree l.items))

@@ -6,8 +6,11 @@ use Rattle.sql_places.proofs.node.+nodes.Goals as goal
 
 pub gather_each-loop-expr-preserved : goal.gather_each-loop-expr-preserved
 gather_each-loop-expr-preserved t c =
-    each-next (λ e. expr_tree e.now) (λ e. nodes (expr_tree e)) (λ es. nodes_of (exprs_of (map expr_tree es))) refl (λ x xs. refl) c.args.exprs.now _ _ _ c.expr-item.result c.loop-expr-test.true c.expr-item.is c.in_ok-gather.ensures c.loop-expr.invariant
+    each-next (λ e. expr_tree e.now) (λ e. nodes (expr_tree e)) (λ es. nodes_of (exprs_of (map expr_tree es))) refl
+    (λ x xs. refl) c.args.exprs.now _ _ _ c.expr-item.result c.loop-expr-test.true c.expr-item.is
+    c.in_ok-gather.ensures c.loop-expr.invariant
 
 pub gather_each-returns : goal.gather_each-returns
 gather_each-returns t c =
-    each-end (λ e. expr_tree e.now) (λ e. nodes (expr_tree e)) (λ es. nodes_of (exprs_of (map expr_tree es))) refl (λ x xs. refl) c.args.exprs.now _ _ _ (search rules) c.loop-expr.invariant
+    each-end (λ e. expr_tree e.now) (λ e. nodes (expr_tree e)) (λ es. nodes_of (exprs_of (map expr_tree es))) refl
+    (λ x xs. refl) c.args.exprs.now _ _ _ (search rules) c.loop-expr.invariant

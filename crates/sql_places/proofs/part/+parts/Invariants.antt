@@ -12,5 +12,6 @@ invariant-gather_exprs-loop-expr l =
 
 abbrev pub invariant-gather_items-loop-item : goal.invariant-gather_items-loop-item
 invariant-gather_items-loop-item l =
-    map part_of l.all.items ++ in_items (map origin_of l.view) (items_of (map order_item_tree (drop l.item-index l.items)))
+    map part_of l.all.items
+    ++ in_items (map origin_of l.view) (items_of (map order_item_tree (drop l.item-index l.items)))
     ≡ map part_of l.initial.all.items ++ in_items (map origin_of l.view) (items_of (map order_item_tree l.items))

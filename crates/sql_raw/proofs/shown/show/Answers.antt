@@ -8,4 +8,5 @@ use Rattle.sql_raw.proofs.shown.show.Goals as goal
 pub returns-in_ok-all-in-List : goal.returns-in_ok-all-in-List
 returns-in_ok-all-in-List c =
     let whole : debug_list value_debug c.in-List.values ≡ bound_debug c.args.bound = cc in
-    shown-list value_debug shown_value c.in_ok-all-in-List.all.items ∙ ap (debug_list value_debug) (c.in_ok-all-in-List.ensures ∙ c.into_inner.ensures) ∙ whole
+    shown-list value_debug shown_value c.in_ok-all-in-List.all.items
+    ∙ ap (debug_list value_debug) (c.in_ok-all-in-List.ensures ∙ c.into_inner.ensures) ∙ whole

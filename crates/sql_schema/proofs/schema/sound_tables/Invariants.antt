@@ -5,4 +5,5 @@ use Rattle.sql_schema.proofs.schema.sound_tables.Given as goal
 
 abbrev pub invariant-loop-decl : goal.invariant-loop-decl
 invariant-loop-decl l =
-    (l.tables.items ++ l.decl-iterator.rest.items ≡ l.fn.decls.items) × (list_any is_unsound l.decl-iterator.rest.items ≡ false)
+    (l.tables.items ++ l.decl-iterator.rest.items ≡ l.fn.decls.items)
+    × (list_any is_unsound l.decl-iterator.rest.items ≡ false)

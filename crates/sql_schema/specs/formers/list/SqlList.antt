@@ -37,14 +37,18 @@ the_items_listed X xs = list-listed X xs
 
 -- the one field, a `Vec`
 abbrev of_vec : Former {0}
-of_vec = via (vec_former this Global) Inside (λ X it. it.items) (λ X v. record { items = v }) (λ X it. refl) (λ X v. refl)
+of_vec =
+    via (vec_former this Global) Inside (λ X it. it.items) (λ X v. record { items = v }) (λ X it. refl) (λ X v. refl)
 
 module _ (R R' : RattleType) (h : R.Denot → R'.Denot) where
   pub the_places : Alike R R' h → Alike (the_row R) (the_row R') ((the_former this).map R.Denot R'.Denot h)
   the_places alike =
       let vec = vec_places global.the_row ghosts R R' h alike in
-      let fields = struct_places (inside.the_type R) (inside.the_type R') (mapped h, tt) _ (λ it. refl) refl (laid _ _ _ vec, tt) in
-      view_places of_vec (list this) view (λ X Y k it. refl) (λ X it. refl) R.Denot R'.Denot h (the_row R).coded (the_row R').coded
+      let fields =
+      struct_places (inside.the_type R) (inside.the_type R') (mapped h, tt) _ (λ it. refl) refl
+      (laid _ _ _ vec, tt) in
+      view_places of_vec (list this) view (λ X Y k it. refl) (λ X it. refl) R.Denot R'.Denot h (the_row R).coded
+      (the_row R').coded
       (invariant R.Denot) (invariant R'.Denot) (λ it p q. refl) (λ it p q. refl) (λ it p. tt) (λ it p. tt)
       (over (inside.the_row R)) (over (inside.the_row R')) fields
 

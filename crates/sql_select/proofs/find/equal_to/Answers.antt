@@ -13,6 +13,12 @@ loop-column-preserved c =
     let cs = c.pop.new.self.items in
     let vs = c.pop-in-Some.new.self.items in
     let columns : l.columns.items ≡ cs ++ c.in-Some.column ∷ [] = c.in-Some.ensures.items in
-    let values : l.values.items ≡ vs ++ c.in-Some-pop.value ∷ [] = c.pop-in-Some.ensures.items ∙ ap (λ o. vs ++ option_to_list o) c.in-Some-pop.is in
-    let less = one-less-seen expr_tree cs vs c.in-Some.column c.in-Some-pop.value (maybe_of (option_map expr_tree l.condition)) l.columns.items l.values.items columns values l.invariant.0 in
-    (less.0, ap (λ e. all_before (equal_each (map expr_tree cs) (map expr_tree vs)) (an_expr e)) c.in_ok-equal_then.ensures ∙ sym less.1 ∙ l.invariant.1)
+    let values : l.values.items ≡ vs ++ c.in-Some-pop.value ∷ [] =
+    c.pop-in-Some.ensures.items ∙ ap (λ o. vs ++ option_to_list o) c.in-Some-pop.is in
+    let less =
+    one-less-seen expr_tree cs vs c.in-Some.column c.in-Some-pop.value (maybe_of (option_map expr_tree l.condition))
+    l.columns.items l.values.items columns values l.invariant.0 in (
+      less.0,
+      ap (λ e. all_before (equal_each (map expr_tree cs) (map expr_tree vs)) (an_expr e)) c.in_ok-equal_then.ensures
+          ∙ sym less.1 ∙ l.invariant.1,
+    )

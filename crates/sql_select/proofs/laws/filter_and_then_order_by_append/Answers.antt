@@ -8,5 +8,7 @@ pub returns : goal.returns
 returns c = record {
   filter = filter-append;
   then_order_by = ordered-append;
-  first = λ is js. twice (λ c. record c { order = order_by (items_then (items_in c.order) js) }) (λ c. record c { order = order_by is }) (λ c. record c { order = order_by (items_then is js) }) (λ _. refl);
+  first =
+      λ is js. twice (λ c. record c { order = order_by (items_then (items_in c.order) js) })
+      (λ c. record c { order = order_by is }) (λ c. record c { order = order_by (items_then is js) }) (λ _. refl);
 }

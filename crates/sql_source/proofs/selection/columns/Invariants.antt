@@ -7,4 +7,5 @@ use Rattle.sql_source.proofs.selection.columns.Given as goal
 
 abbrev pub invariant-loop-column : goal.invariant-loop-column
 invariant-loop-column l =
-    map expr_tree l.all.items ++ map (column_under (origin_of l.origin).alias) l.column-iterator.rest.items ≡ origin_columns (origin_of l.origin)
+    map expr_tree l.all.items ++ map (column_under (origin_of l.origin).alias) l.column-iterator.rest.items
+    ≡ origin_columns (origin_of l.origin)

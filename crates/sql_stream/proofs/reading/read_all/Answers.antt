@@ -7,7 +7,8 @@ use Rattle.sql_stream.proofs.reading.read_all.Goals as goal
 joined : (limit : ℕ) (xs ys : List ℕ) (n : ℕ) → n ≤ length ys → limit - length xs < n → limit < length (xs ++ take n ys)
 joined limit xs ys n fits over = omega (arith, length-append xs (take n ys), length-take-le n ys fits)
 
-within : (limit : ℕ) (xs ys : List ℕ) (n : ℕ) → n ≤ length ys → length xs ≤ limit → n ≤ limit - length xs → length (xs ++ take n ys) ≤ limit
+within : (limit : ℕ) (xs ys : List ℕ) (n : ℕ) → n ≤ length ys → length xs ≤ limit → n ≤ limit - length xs
+    → length (xs ++ take n ys) ≤ limit
 within limit xs ys n fits few room = omega (arith, length-append xs (take n ys), length-take-le n ys fits)
 
 pub returns-then-count-limit-clause-given : goal.returns-then-count-limit-clause-given
@@ -26,7 +27,14 @@ returns-in_err-extend_from_slice-clause-given g c =
     let n = c.in_ok-count.count in
     let some = l.bytes.items ++ take n c.read.new.out in
     let room : n ≤ c.args.limit - length l.bytes.items = search rules in
-    let few = within c.args.limit l.bytes.items c.read.new.out n c.in_ok-count.ensures.bound.0 l.invariant.within room in
+    let few =
+    within c.args.limit l.bytes.items c.read.new.out n c.in_ok-count.ensures.bound.0 l.invariant.within room in
     let given = Consumes-trans _ _ _ _ _ l.invariant.given c.in_ok-count.ensures.bytes.0 in
-    let (e, is, made) = err_from_is_err_and c.from_residual-in_err-extend_from_slice.result c.from_residual-in_err-extend_from_slice.ensures.1 in
-    rw is (some, given, (λ large. absurd (let wrong : NoMemory ≡ TooLarge = sym made ∙ large in cc), λ over. absurd (omega arith)))
+    let (e, is, made) =
+    err_from_is_err_and c.from_residual-in_err-extend_from_slice.result
+    c.from_residual-in_err-extend_from_slice.ensures.1 in
+    rw is (
+      some,
+      given,
+      (λ large. absurd (let wrong : NoMemory ≡ TooLarge = sym made ∙ large in cc), λ over. absurd (omega arith)),
+    )

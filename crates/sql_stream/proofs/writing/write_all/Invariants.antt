@@ -4,7 +4,8 @@ use Rattle.sql_stream.proofs.writing.write_all.Given as goal
 
 abbrev pub invariant-loop-rest : goal.invariant-loop-rest
 invariant-loop-rest g l =
-    (done : List ℕ) × (l.initial.rest ≡ done ++ l.rest) × Appends (g.K.Sink.held l.initial.sink) (g.K.Sink.held l.sink) done
+    (done : List ℕ) × (l.initial.rest ≡ done ++ l.rest)
+    × Appends (g.K.Sink.held l.initial.sink) (g.K.Sink.held l.sink) done
     × (g.K.Sink.faults l.sink ≡ g.K.Sink.faults l.initial.sink)
 
 abbrev pub decreases-loop-rest : goal.decreases-loop-rest

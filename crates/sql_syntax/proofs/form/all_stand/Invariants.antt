@@ -5,4 +5,6 @@ use Rattle.sql_syntax.specs.declared.form.Form.TheVariants as form
 use Rattle.sql_syntax.proofs.form.all_stand.Given as goal
 
 abbrev pub invariant-loop-call : goal.invariant-loop-call
-invariant-loop-call l = stand l.form (calls_of (map call_tree (drop l.call-index l.calls))) ≡ stand form.Select (calls_of (map call_tree l.calls))
+invariant-loop-call l =
+    stand l.form (calls_of (map call_tree (drop l.call-index l.calls)))
+    ≡ stand form.Select (calls_of (map call_tree l.calls))

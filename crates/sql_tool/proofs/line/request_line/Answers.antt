@@ -3,7 +3,7 @@ use Rattle.std.specs.BTreeMap as tree
 use Rattle.serde_json.specs.View.{view}
 use Rattle.serde_json.specs.Written.{has_float, compact_text}
 use Rattle.sql_tool.proofs.Lines.{float-answer}
-use Rattle.sql_tool.specs.Known.{place_found}
+use Rattle.sql_tool.specs.Inner.{place_found}
 use Rattle.sql_tool.specs.Output.{answer_line, key_seen}
 use Rattle.sql_tool.specs.contracts.known.RequestKeyOrd.TheImpl as key_ord
 use Rattle.sql_tool.proofs.line.request_line.Goals as goal
@@ -14,5 +14,9 @@ returns c =
     let r = c.args.request.now in
     let (j, judges, is, kept) = c.in_ok-value.ensures in
     let found = place_found (tree.get (key_ord.ghosts).cmp c.args.seen.now) c.args.number (key_seen r.dialect j) in
-    let whole : has_float (view c.in_ok-value.value) ≡ false = ap has_float is ∙ float-answer r.dialect found j in
-    (j, judges, c.in_ok-push_str.ensures.bytes ∙ ap (λ t. t ++ 10 ∷ []) (c.in_ok-text.ensures.text whole ∙ ap compact_text is), kept)
+    let whole : has_float (view c.in_ok-value.value) ≡ false = ap has_float is ∙ float-answer r.dialect found j in (
+      j,
+      judges,
+      c.in_ok-push_str.ensures.bytes ∙ ap (λ t. t ++ 10 ∷ []) (c.in_ok-text.ensures.text whole ∙ ap compact_text is),
+      kept,
+    )

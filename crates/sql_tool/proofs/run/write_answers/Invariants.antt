@@ -14,6 +14,8 @@ abbrev pub invariant-loop-before : goal.invariant-loop-before
 invariant-loop-before g l =
     let rs = map request_tree (take l.before l.document.requests) in
     record {
-      judged : (js : List Judgement) × JudgesEach l.document.schema rs js × Appends (g.K.Sink.held l.initial.sink) (g.K.Sink.held l.sink) (lines [] rs js) × Tells (tree.get (key_ord.ghosts).cmp l.seen) (keys rs js);
+      judged : (js : List Judgement) × JudgesEach l.document.schema rs js
+          × Appends (g.K.Sink.held l.initial.sink) (g.K.Sink.held l.sink) (lines [] rs js)
+          × Tells (tree.get (key_ord.ghosts).cmp l.seen) (keys rs js);
       faults : g.K.Sink.faults l.sink ≡ g.K.Sink.faults l.initial.sink;
     }

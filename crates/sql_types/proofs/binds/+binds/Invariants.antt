@@ -5,7 +5,9 @@ use Rattle.sql_types.proofs.Counting.{CountsBefore}
 use Rattle.sql_types.proofs.binds.+binds.Given as goal
 
 abbrev pub invariant-exprs_binds-loop-expr : goal.invariant-exprs_binds-loop-expr
-invariant-exprs_binds-loop-expr l = CountsBefore (λ es. exprs_binds (exprs_of (map expr_tree es))) l.exprs l.expr-index l.all
+invariant-exprs_binds-loop-expr l =
+    CountsBefore (λ es. exprs_binds (exprs_of (map expr_tree es))) l.exprs l.expr-index l.all
 
 abbrev pub invariant-items_binds-loop-item : goal.invariant-items_binds-loop-item
-invariant-items_binds-loop-item l = CountsBefore (λ is. items_binds (items_of (map order_item_tree is))) l.items l.item-index l.all
+invariant-items_binds-loop-item l =
+    CountsBefore (λ is. items_binds (items_of (map order_item_tree is))) l.items l.item-index l.all

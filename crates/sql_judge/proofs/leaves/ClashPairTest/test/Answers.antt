@@ -4,4 +4,6 @@ use Rattle.sql_judge.proofs.Tests.{clash-decides}
 use Rattle.sql_judge.proofs.leaves.ClashPairTest.test.Goals as goal
 
 pub returns : goal.returns
-returns c = Decides-at c.are_clashing.result _ c.are_clashing.ensures (clash-decides (origin_of c.args.left) (origin_of c.args.right))
+returns c =
+    Decides-at c.are_clashing.result _ c.are_clashing.ensures
+    (clash-decides (origin_of c.args.left) (origin_of c.args.right))

@@ -5,4 +5,5 @@ use Rattle.sql_source.proofs.alias.Renaming.+renaming.Given as goal
 
 abbrev pub invariant-each-loop-expr : goal.invariant-each-loop-expr
 invariant-each-loop-expr l =
-    map expr_tree l.all.items ≡ map (fields_in l.self.alias.now.name l.self.alias.now.table) (map expr_tree (take l.expr-index l.exprs))
+    map expr_tree l.all.items
+    ≡ map (fields_in l.self.alias.now.name l.self.alias.now.table) (map expr_tree (take l.expr-index l.exprs))

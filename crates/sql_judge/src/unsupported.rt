@@ -1,96 +1,15 @@
-//! Clauses that do not go together, joins without a condition, and what a dialect lacks.
+//! What a dialect lacks.
 #![tactic(auto, using(sql_node::proofs::Trees::opens_source, sql_node::proofs::Trees::opens_join_on, sql_node::proofs::Trees::opens_join, sql_node::proofs::Trees::opens_from_clause, sql_node::proofs::Trees::opens_distinct_clause))]
 
-ghost use Rattle.std.specs.Prelude.{◌≡◌, IsTrue, option_map};
 ghost use Rattle.std.specs.Bool.{Decides};
-ghost use Rattle.sql_node.specs.View.{distinct_clause_tree, expr_tree, from_clause_tree, join_on_tree, maybe_of, source_tree};
-ghost use Rattle.sql_rules.specs.Rules.{FromHasMarks, FromLacksOn, HasLock, HasTableMarks, IsCombinationUnsupported, IsDistinct, IsDistinctOn, IsIncompatible, IsMysql, IsNotPg, IsOffsetAlone, IsSelectUnsupported, IsUnboxed, LacksForm, LacksLock, LacksOn, Present, misuse as misused};
+ghost use Rattle.sql_node.specs.View.{distinct_clause_tree, from_clause_tree, source_tree};
+ghost use Rattle.sql_rules.specs.Rules.{FromHasMarks, HasTableMarks, IsCombinationUnsupported, IsDistinctOn, IsMysql, IsNotPg, IsOffsetAlone, IsSelectUnsupported, IsUnboxed, LacksForm, LacksLock};
 ghost use Rattle.sql_places.specs.Lent.{combined_of, form_of, select_of};
 
 use sql_dialect::{Backend, Dialect};
-use sql_leaf::{LimitOffsetClause, LockMode, LockingClause, Marks};
-use sql_node::{DistinctClause, Expr, FromClause, JoinOn, Source};
+use sql_leaf::{LimitOffsetClause, LockMode, LockingClause};
+use sql_node::{DistinctClause, FromClause, Source};
 use sql_places::{Combined, Form, Selection};
-
-// ---- clauses that do not go together
-
-fn is_present(clause: Option<&Expr>) -> bool
-    ensures { Decides result (Present (maybe_of (option_map (λ e. expr_tree e.now) clause.entry))) }
-{
-    clause.is_some()
-}
-
-fn is_distinct(distinct: &DistinctClause) -> bool
-    ensures { Decides result (IsDistinct (distinct_clause_tree distinct.now)) }
-{
-    match distinct {
-        DistinctClause::NoDistinctClause => false,
-        DistinctClause::DistinctClause => true,
-        DistinctClause::DistinctOnClause(_) => true,
-    }
-}
-
-fn has_lock(form: Form) -> bool
-    ensures { Decides result (HasLock (form_of form)) }
-{
-    match form {
-        Form::Unboxed(LockingClause::NoLockingClause) => false,
-        Form::Unboxed(LockingClause::LockingClause(_, _)) => true,
-        Form::Boxed(_, _) => false,
-    }
-}
-
-fn misuse(marks: Marks) -> bool
-    ensures { result ≡ misused marks }
-{
-    marks.no_source || marks.find_source || marks.second_lock || marks.no_lock || marks.boxed_lock
-}
-
-/// Whether a select statement has clauses that do not go together, or a call was made that it can't take.
-pub(crate) fn is_incompatible(select: Selection<'_>) -> bool
-    ensures { Decides result (IsIncompatible (select_of select.entry)) }
-{
-    let groups = is_present(select.group_by);
-    let has_having = is_present(select.having);
-    misuse(select.marks)
-        || (has_lock(select.form) && (is_distinct(select.distinct) || groups || has_having))
-        || (has_having && !groups)
-}
-
-// ---- joins
-
-#[cycle(on)]
-fn join_lacks_on(join: &JoinOn) -> bool
-    ensures { Decides result (LacksOn (join_on_tree join.now)) }
-{
-    match &join.on {
-        None => true,
-        Some(_) => lacks_on(&join.join.left) || lacks_on(&join.join.right),
-    }
-}
-
-#[cycle(on)]
-fn lacks_on(source: &Source) -> bool
-    ensures { Decides result (LacksOn (source_tree source.now)) }
-{
-    match source {
-        Source::Table(_) => false,
-        Source::Alias(_) => false,
-        Source::Join(join) => join_lacks_on(join),
-    }
-}
-
-/// Whether a join has no condition.
-pub(crate) fn from_lacks_on(from: &FromClause) -> bool
-    ensures { Decides result (FromLacksOn (from_clause_tree from.now)) }
-{
-    match from {
-        FromClause::NoFromClause => false,
-        FromClause::FromClause(source) => lacks_on(source),
-    }
-}
-
-// ---- dialects
 
 fn is_offset_alone(rows: LimitOffsetClause) -> bool
     ensures { Decides result (IsOffsetAlone rows) }
