@@ -1,5 +1,5 @@
-/* Refuses allocations of a program that is run with this library in front of the C library (LD_PRELOAD): the one whose number, from
-   1, the variable REFUSE holds, and where REFUSE_ALL is set each one behind it too. When the program ends, it tells on standard
+/* Refuses allocations of a program that is run with this library loaded before the C library (LD_PRELOAD): the one whose number, from
+   1, the variable REFUSE holds, and where REFUSE_ALL is set each one after it too. When the program ends, it writes to standard
    error how many were asked for. */
 #define _GNU_SOURCE
 #include <dlfcn.h>

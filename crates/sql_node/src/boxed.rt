@@ -18,7 +18,6 @@ use std::alloc::Global;
 
 /// A select statement for one dialect, without a lock.
 #[cycle(ast)]
-#[derive(Drop)]
 pub struct BoxedSelectStatement {
     pub select: SelectClause,
     pub from: FromClause,
@@ -32,6 +31,32 @@ pub struct BoxedSelectStatement {
     pub dialect: Dialect,
     /// Whether all its columns are nullable.
     pub nullable: bool,
+}
+
+impl Drop for BoxedSelectStatement {
+    #[cycle(ast)]
+    fn drop(self) {
+        let BoxedSelectStatement {
+            select,
+            from,
+            distinct,
+            where_clause,
+            order,
+            limit_offset: _,
+            group_by,
+            having,
+            marks: _,
+            dialect: _,
+            nullable: _,
+        } = self;
+        drop(select);
+        drop(from);
+        drop(distinct);
+        drop(where_clause);
+        drop(order);
+        drop(group_by);
+        drop(having);
+    }
 }
 
 impl BoxedSelectStatement {

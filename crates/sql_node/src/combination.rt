@@ -21,7 +21,6 @@ use std::alloc::Global;
 /// Two statements as one: `(SELECT ..) UNION (SELECT ..)`, in SQLite
 /// `SELECT * FROM (SELECT ..) UNION SELECT * FROM (SELECT ..)`.
 #[cycle(ast)]
-#[derive(Drop)]
 pub struct CombinationClause {
     pub combinator: Combinator,
     pub duplicate_rule: DuplicateRule,
@@ -29,6 +28,20 @@ pub struct CombinationClause {
     pub rhs: Box<Statement>,
     pub order: Option<SqlList<PositionalItem>>,
     pub limit_offset: LimitOffsetClause,
+}
+
+impl Drop for CombinationClause {
+    #[cycle(ast)]
+    fn drop(self) {
+        let CombinationClause {
+            combinator: _,
+            duplicate_rule: _,
+            source: _,
+            rhs: _,
+            order: _,
+            limit_offset: _,
+        } = self;
+    }
 }
 
 fn clone_positions(

@@ -9,16 +9,17 @@ ghost use Rattle.sql_node.specs.View.{expr_tree, in_values_tree, statement_tree}
 
 use crate::Statement;
 use crate::list::walk_list;
-use crate::membership::{walk_among_values, walk_bound_list, walk_sought, walk_values};
+use crate::membership::{
+    mark_varying_length, walk_among_values, walk_bound_list, walk_sought, walk_value, walk_values,
+};
 use sql_dialect::{Backend, Dialect};
 use sql_leaf::AliasedField;
-use sql_pass::{AstPass, BoundRef, PassError, QueryFragment, Value};
+use sql_pass::{AstPass, PassError, QueryFragment, Value};
 use sql_schema::{Column, NoMemory, SqlList, SqlType};
 use std::alloc::Global;
 
 /// An expression.
 #[cycle(ast)]
-#[derive(Drop)]
 pub enum Expr {
     /// `"users"."id"`.
     Column(Column),
@@ -66,14 +67,53 @@ pub enum Expr {
     NeAll(Box<Expr>, InValues),
 }
 
+impl Drop for Expr {
+    #[cycle(ast)]
+    fn drop(self) {
+        match self {
+            Expr::Column(_) => {}
+            Expr::Field(_) => {}
+            Expr::Value(_, _) => {}
+            Expr::List(exprs) => drop(exprs),
+            Expr::CountStar => {}
+            Expr::Nullable(_) => {}
+            Expr::Not(_) => {}
+            Expr::IsNull(_) => {}
+            Expr::IsNotNull(_) => {}
+            Expr::Count(_) => {}
+            Expr::Eq(_, _) => {}
+            Expr::Ne(_, _) => {}
+            Expr::Gt(_, _) => {}
+            Expr::Ge(_, _) => {}
+            Expr::Lt(_, _) => {}
+            Expr::Le(_, _) => {}
+            Expr::And(_, _) => {}
+            Expr::Or(_, _) => {}
+            Expr::Exists(_) => {}
+            Expr::Subselect(_) => {}
+            Expr::EqAny(_, _) => {}
+            Expr::NeAll(_, _) => {}
+        }
+    }
+}
+
 /// What a membership looks in.
 #[cycle(ast)]
-#[derive(Drop)]
 pub enum InValues {
     /// Values of that type.
     List(SqlType, SqlList<Value>),
     /// The column that a statement gives.
     Query(Box<Statement>),
+}
+
+impl Drop for InValues {
+    #[cycle(ast)]
+    fn drop(self) {
+        match self {
+            InValues::List(_, values) => drop(values),
+            InValues::Query(_) => {}
+        }
+    }
 }
 
 fn clone_values(alloc: Global, values: &[Value]) -> Result<Vec<Value>, NoMemory>
@@ -179,7 +219,7 @@ impl<DB: Backend> QueryFragment<DB> for Expr {
         match self {
             Expr::Column(column) => column.walk_ast(pass),
             Expr::Field(field) => field.walk_ast(pass),
-            Expr::Value(ty, value) => pass.push_bind_param(BoundRef::Value(*ty, value)),
+            Expr::Value(ty, value) => walk_value(*ty, value, pass),
             Expr::List(exprs) => {
                 let mut first = true;
                 walk_list(&mut first, exprs, pass)
@@ -215,12 +255,12 @@ impl<DB: Backend> QueryFragment<DB> for Expr {
                 walk_before(b, ")", pass)
             }
             Expr::And(a, b) => {
-                walk_around("(", a, " AND ", pass)?;
-                walk_before(b, ")", pass)
+                walk_around(condition_open(), a, " AND ", pass)?;
+                walk_before(b, condition_close(), pass)
             }
             Expr::Or(a, b) => {
-                walk_around("(", a, " OR ", pass)?;
-                walk_before(b, ")", pass)
+                walk_around(condition_open(), a, " OR ", pass)?;
+                walk_before(b, condition_close(), pass)
             }
             Expr::Exists(query) => walk_query("EXISTS (", query, ")", pass),
             Expr::Subselect(query) => walk_query("(", query, ")", pass),
@@ -260,15 +300,29 @@ pub(crate) fn walk_around<DB: Backend>(
     Ok(())
 }
 
-/// Pushes the expression in front of a text.
+/// The bracket before two conditions. Without brackets a condition that is added later would regroup them.
+fn condition_open() -> &'static str
+    ensures { result.now ≡ codes "(" }
+{
+    "("
+}
+
+/// The bracket after two conditions.
+fn condition_close() -> &'static str
+    ensures { result.now ≡ codes ")" }
+{
+    ")"
+}
+
+/// Pushes the expression before a text.
 #[cycle(walk)]
-fn walk_before<DB: Backend>(a: &Expr, behind: &str, pass: &mut AstPass<DB>) -> Result<(), PassError>
+fn walk_before<DB: Backend>(a: &Expr, after: &str, pass: &mut AstPass<DB>) -> Result<(), PassError>
     ensures { Walks DB.speaks (held DB.QueryBuilder.text DB.QueryBuilder.count pass.old)
-        (expr_pieces DB.speaks (expr_tree a.now) ++ one (Text behind.now)) result
+        (expr_pieces DB.speaks (expr_tree a.now) ++ one (Text after.now)) result
         (held DB.QueryBuilder.text DB.QueryBuilder.count pass.new) }
 {
     a.walk_ast(pass)?;
-    pass.push_sql(behind)?;
+    pass.push_sql(after)?;
     Ok(())
 }
 
@@ -328,7 +382,7 @@ fn walk_list_alone<DB: Backend>(
     match pass.backend().dialect() {
         Dialect::Pg => walk_bound_list(ty, values, pass),
         Dialect::Mysql | Dialect::Sqlite => {
-            pass.unsafe_to_cache_prepared();
+            mark_varying_length(pass);
             walk_values(ty, values, pass)
         }
     }

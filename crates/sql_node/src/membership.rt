@@ -1,10 +1,10 @@
 //! Whether an expression is one of some values, or of the rows of a statement.
 #![tactic(auto, using(sql_pass::proofs::Walking::walking))]
 
-ghost use Rattle.std.specs.Prelude.{◌≡◌, ◌++◌, map, true, false, codes};
+ghost use Rattle.std.specs.Prelude.{◌≡◌, ◌++◌, Ok, map, true, false, codes};
 ghost use Rattle.sql_pass.specs.Commas.{next_of};
 ghost use Rattle.sql_pass.specs.Held.{held};
-ghost use Rattle.sql_pass.specs.Pieces.{one, Text, Bind};
+ghost use Rattle.sql_pass.specs.Pieces.{one, Text, Bind, Unsafe};
 ghost use Rattle.sql_pass.specs.Walks.{Walks};
 ghost use Rattle.sql_pass.specs.declared.value.Bound.TheVariants.{Value as OneValue, List as ManyValues};
 ghost use Rattle.sql_node.specs.Pieces.{around, expr_pieces, among_sql, constant_sql, values_pieces, one_by_one, among_pieces};
@@ -25,7 +25,20 @@ fn constant_word(negated: bool) -> &'static str
     }
 }
 
-fn walk_value<DB: Backend>(
+/// Binds the value. Whatever it is, its text is a placeholder.
+pub(crate) fn walk_value<DB: Backend>(
+    ty: SqlType,
+    value: &Value,
+    pass: &mut AstPass<DB>,
+) -> Result<(), PassError>
+    ensures { Walks DB.speaks (held DB.QueryBuilder.text DB.QueryBuilder.count pass.old)
+        (one (Bind (OneValue ty value.now))) result
+        (held DB.QueryBuilder.text DB.QueryBuilder.count pass.new) }
+{
+    pass.push_bind_param(BoundRef::Value(ty, value))
+}
+
+fn walk_next_value<DB: Backend>(
     first: bool,
     ty: SqlType,
     value: &Value,
@@ -38,7 +51,15 @@ fn walk_value<DB: Backend>(
     if !first {
         pass.push_sql(", ")?;
     }
-    pass.push_bind_param(BoundRef::Value(ty, value))
+    walk_value(ty, value, pass)
+}
+
+/// Says that the text changes with the number of values.
+pub(crate) fn mark_varying_length<DB: Backend>(pass: &mut AstPass<DB>)
+    ensures { Walks DB.speaks (held DB.QueryBuilder.text DB.QueryBuilder.count pass.old)
+        (one Unsafe) (Ok tt) (held DB.QueryBuilder.text DB.QueryBuilder.count pass.new) }
+{
+    pass.unsafe_to_cache_prepared();
 }
 
 pub(crate) fn walk_values<DB: Backend>(
@@ -52,7 +73,7 @@ pub(crate) fn walk_values<DB: Backend>(
 {
     let mut first = true;
     for value in values {
-        walk_value(first, ty, value, pass)?;
+        walk_next_value(first, ty, value, pass)?;
         first = false;
     }
     Ok(())
@@ -133,7 +154,7 @@ fn walk_one_by_one<DB: Backend>(
         (one_by_one DB.speaks negated (expr_pieces DB.speaks (expr_tree a.now)) ty values.now)
         result (held DB.QueryBuilder.text DB.QueryBuilder.count pass.new) }
 {
-    pass.unsafe_to_cache_prepared();
+    mark_varying_length(pass);
     if values.is_empty() {
         return pass.push_sql(constant_word(negated));
     }

@@ -17,10 +17,19 @@ use std::alloc::Global;
 
 /// An item of an order: `"users"."name" DESC`.
 #[cycle(ast)]
-#[derive(Drop)]
 pub struct OrderItem {
     pub expr: Expr,
     pub direction: Direction,
+}
+
+impl Drop for OrderItem {
+    #[cycle(ast)]
+    fn drop(self) {
+        let OrderItem {
+            expr: _,
+            direction: _,
+        } = self;
+    }
 }
 
 /// ` ORDER BY "users"."name" DESC, "users"."id"`.

@@ -15,29 +15,55 @@ use std::alloc::Global;
 
 /// What rows are read from.
 #[cycle(ast)]
-#[derive(Drop)]
 pub enum Source {
     Table(TableSource),
     Alias(Alias),
     Join(Box<JoinOn>),
 }
 
+impl Drop for Source {
+    #[cycle(ast)]
+    fn drop(self) {
+        match self {
+            Source::Table(_) => {}
+            Source::Alias(_) => {}
+            Source::Join(_) => {}
+        }
+    }
+}
+
 /// Two sources side by side: `"users" INNER JOIN "posts"`.
 #[cycle(ast)]
-#[derive(Drop)]
 pub struct Join {
     pub left: Source,
     pub right: Source,
     pub kind: JoinKind,
 }
 
+impl Drop for Join {
+    #[cycle(ast)]
+    fn drop(self) {
+        let Join {
+            left: _,
+            right: _,
+            kind: _,
+        } = self;
+    }
+}
+
 /// A join with its condition: `("users" INNER JOIN "posts" ON ("posts"."user_id" = "users"."id"))`. A join that has none is
 /// refused once its statement is checked.
 #[cycle(ast)]
-#[derive(Drop)]
 pub struct JoinOn {
     pub join: Join,
     pub on: Option<Expr>,
+}
+
+impl Drop for JoinOn {
+    #[cycle(ast)]
+    fn drop(self) {
+        let JoinOn { join: _, on: _ } = self;
+    }
 }
 
 #[cycle(copy)]

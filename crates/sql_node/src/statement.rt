@@ -12,7 +12,7 @@ use crate::{
     BoxedSelectStatement, CombinationClause, DistinctClause, FromClause, GroupByClause,
     HavingClause, OrderClause, SelectClause, WhereClause,
 };
-use sql_dialect::Backend;
+use sql_dialect::{Backend, Dialect};
 use sql_leaf::{LimitOffsetClause, LockingClause, Marks};
 use sql_pass::{AstPass, PassError, QueryFragment};
 use sql_schema::NoMemory;
@@ -29,7 +29,6 @@ pub enum Statement {
 
 /// `SELECT .. FROM ..`.
 #[cycle(ast)]
-#[derive(Drop)]
 pub struct SelectStatement {
     pub select: SelectClause,
     pub from: FromClause,
@@ -41,6 +40,31 @@ pub struct SelectStatement {
     pub having: HavingClause,
     pub locking: LockingClause,
     pub marks: Marks,
+}
+
+impl Drop for SelectStatement {
+    #[cycle(ast)]
+    fn drop(self) {
+        let SelectStatement {
+            select,
+            from,
+            distinct,
+            where_clause,
+            order,
+            limit_offset: _,
+            group_by,
+            having,
+            locking: _,
+            marks: _,
+        } = self;
+        drop(select);
+        drop(from);
+        drop(distinct);
+        drop(where_clause);
+        drop(order);
+        drop(group_by);
+        drop(having);
+    }
 }
 
 impl Statement {
@@ -60,6 +84,47 @@ impl Statement {
 }
 
 impl SelectStatement {
+    /// Its clauses as those of a boxed statement for a dialect, with these marks. The lock is let go.
+    pub fn boxed_as(self, dialect: Dialect, marks: Marks) -> BoxedSelectStatement
+        ensures select { result.select ≡ self.select }
+        ensures from { result.from ≡ self.from }
+        ensures distinct { result.distinct ≡ self.distinct }
+        ensures where_clause { result.where_clause ≡ self.where_clause }
+        ensures order { result.order ≡ self.order }
+        ensures limit_offset { result.limit_offset ≡ self.limit_offset }
+        ensures group_by { result.group_by ≡ self.group_by }
+        ensures having { result.having ≡ self.having }
+        ensures marks { result.marks ≡ marks }
+        ensures dialect { result.dialect ≡ dialect }
+        ensures nullable { result.nullable ≡ false }
+    {
+        let SelectStatement {
+            select,
+            from,
+            distinct,
+            where_clause,
+            order,
+            limit_offset,
+            group_by,
+            having,
+            locking: _,
+            marks: _,
+        } = self;
+        BoxedSelectStatement {
+            select,
+            from,
+            distinct,
+            where_clause,
+            order,
+            limit_offset,
+            group_by,
+            having,
+            marks,
+            dialect,
+            nullable: false,
+        }
+    }
+
     /// An equal statement.
     #[cycle(copy)]
     pub fn try_clone(&self, alloc: Global) -> Result<SelectStatement, NoMemory>

@@ -7,9 +7,15 @@ use std::rc::Rc;
 
 /// A table of a schema. Contracts see it as its declaration, which has columns, no two of one name or SQL name, and a
 /// key of one column or more. Copies share the declaration, so a copy takes no memory.
-#[derive(Debug, Drop)]
+#[derive(Debug)]
 pub struct Table {
     decl: Rc<TableDecl>,
+}
+
+impl Drop for Table {
+    fn drop(self) {
+        let Table { decl: _ } = self;
+    }
 }
 
 impl Model for Table {
@@ -109,10 +115,16 @@ impl Table {
 }
 
 /// A column of a table. Contracts see it as the table's declaration and its own.
-#[derive(Debug, Drop)]
+#[derive(Debug)]
 pub struct Column {
     table: Table,
     decl: ColumnDecl,
+}
+
+impl Drop for Column {
+    fn drop(self) {
+        let Column { table: _, decl: _ } = self;
+    }
 }
 
 impl Model for Column {

@@ -64,19 +64,8 @@ fn without_lock(marks: Marks, lock: LockingClause) -> Marks
 
 impl BoxedDsl for SelectStatement {
     fn internal_into_boxed<DB: Backend>(self, backend: &DB) -> BoxedSelectStatement {
-        BoxedSelectStatement {
-            select: self.select,
-            from: self.from,
-            distinct: self.distinct,
-            where_clause: self.where_clause,
-            order: self.order,
-            limit_offset: self.limit_offset,
-            group_by: self.group_by,
-            having: self.having,
-            marks: without_lock(self.marks, self.locking),
-            dialect: backend.dialect(),
-            nullable: false,
-        }
+        let marks = without_lock(self.marks, self.locking);
+        self.boxed_as(backend.dialect(), marks)
     }
 }
 

@@ -30,7 +30,6 @@ pub enum ClauseCall {
 
 /// A call of a query.
 #[cycle(syntax)]
-#[derive(Drop)]
 pub enum Call {
     /// `["distinct"]`
     Plain(PlainCall),
@@ -54,4 +53,23 @@ pub enum Call {
     Combine(Combinator, DuplicateRule, Query),
     /// `["positional_order_by",[PLACE..]]`
     PositionalOrderBy(SqlList<PositionalItem>),
+}
+
+impl Drop for Call {
+    #[cycle(syntax)]
+    fn drop(self) {
+        match self {
+            Call::Plain(_) => {}
+            Call::Clause(_, _) => {}
+            Call::Join(_, _, _) => {}
+            Call::Find(key) => drop(key),
+            Call::Order(items) => drop(items),
+            Call::ThenOrderBy(items) => drop(items),
+            Call::Limit(_) => {}
+            Call::Offset(_) => {}
+            Call::IntoBoxed(_) => {}
+            Call::Combine(_, _, _) => {}
+            Call::PositionalOrderBy(_) => {}
+        }
+    }
 }

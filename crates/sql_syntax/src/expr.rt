@@ -49,7 +49,6 @@ pub enum Quantified {
 
 /// An expression.
 #[cycle(syntax)]
-#[derive(Drop)]
 pub enum Expr {
     /// `[EXPR..]`
     List(SqlList<Expr>),
@@ -73,12 +72,39 @@ pub enum Expr {
     Quantified(Quantified, Box<Expr>, Membership),
 }
 
+impl Drop for Expr {
+    #[cycle(syntax)]
+    fn drop(self) {
+        match self {
+            Expr::List(exprs) => drop(exprs),
+            Expr::CountStar => {}
+            Expr::Column(_) => {}
+            Expr::Field(_) => {}
+            Expr::Bind(_, _) => {}
+            Expr::Unary(_, _) => {}
+            Expr::Binary(_, _, _) => {}
+            Expr::Exists(_) => {}
+            Expr::SingleValue(_) => {}
+            Expr::Quantified(_, _, _) => {}
+        }
+    }
+}
+
 /// The many that an expression is compared with.
 #[cycle(syntax)]
-#[derive(Drop)]
 pub enum Membership {
     /// `{"list":["Integer",[1,2]]}`
     Values(SqlType, SqlList<Value>),
     /// A query, which gives a column.
     Rows(Box<Query>),
+}
+
+impl Drop for Membership {
+    #[cycle(syntax)]
+    fn drop(self) {
+        match self {
+            Membership::Values(_, _) => {}
+            Membership::Rows(_) => {}
+        }
+    }
 }

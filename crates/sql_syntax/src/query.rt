@@ -3,7 +3,6 @@ use sql_schema::SqlList;
 
 /// What a query begins with.
 #[cycle(syntax)]
-#[derive(Drop)]
 pub enum QueryStart {
     /// `"from":SOURCE`
     From(Source),
@@ -11,10 +10,27 @@ pub enum QueryStart {
     Select(Expr),
 }
 
+impl Drop for QueryStart {
+    #[cycle(syntax)]
+    fn drop(self) {
+        match self {
+            QueryStart::From(_) => {}
+            QueryStart::Select(_) => {}
+        }
+    }
+}
+
 /// A query: `{"from":{"table":"users"},"calls":[["limit",5]]}`. Its calls are made in their order.
 #[cycle(syntax)]
-#[derive(Drop)]
 pub struct Query {
     pub start: QueryStart,
     pub calls: SqlList<Call>,
+}
+
+impl Drop for Query {
+    #[cycle(syntax)]
+    fn drop(self) {
+        let Query { start: _, calls } = self;
+        drop(calls);
+    }
 }

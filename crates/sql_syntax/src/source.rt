@@ -3,7 +3,6 @@ use sql_leaf::JoinKind;
 
 /// What rows are read from.
 #[cycle(syntax)]
-#[derive(Drop)]
 pub enum Source {
     /// `{"table":"users"}`
     Table(TableName),
@@ -13,12 +12,34 @@ pub enum Source {
     Join(Box<Join>),
 }
 
+impl Drop for Source {
+    #[cycle(syntax)]
+    fn drop(self) {
+        match self {
+            Source::Table(_) => {}
+            Source::Alias(_) => {}
+            Source::Join(_) => {}
+        }
+    }
+}
+
 /// Two sources side by side. Without `on` the condition is the one that a declared relation gives.
 #[cycle(syntax)]
-#[derive(Drop)]
 pub struct Join {
     pub kind: JoinKind,
     pub left: Source,
     pub right: Source,
     pub on: Option<Expr>,
+}
+
+impl Drop for Join {
+    #[cycle(syntax)]
+    fn drop(self) {
+        let Join {
+            kind: _,
+            left: _,
+            right: _,
+            on: _,
+        } = self;
+    }
 }

@@ -1,14 +1,19 @@
 //! Tests of what the crates give to others, a module for each crate: worked texts, bytes, refusals, messages.
 //!
 //! A crate with tests of its own is proved twice, once with them; so they stand here. Those of the program stand in `sql_tool`.
+//! Requests and their lines are no tests: they stand in the program's stored run, `crates/sql_tool/stdin` and `stdout`.
 #![tactic(auto)]
 
 #[cfg(test)]
 mod check;
 #[cfg(test)]
+mod debug;
+#[cfg(test)]
 mod dialect;
 #[cfg(test)]
 mod document;
+#[cfg(test)]
+mod every_call;
 #[cfg(test)]
 mod examples;
 #[cfg(test)]
@@ -17,6 +22,10 @@ mod fixture;
 mod pass;
 #[cfg(test)]
 mod raw;
+#[cfg(test)]
+mod readme;
+#[cfg(test)]
+mod rules;
 #[cfg(test)]
 mod schema;
 #[cfg(test)]

@@ -3,7 +3,7 @@ use Rattle.std.proofs.Common.{◌≡◌, ◌∙◌, ℕ, List, [], ◌++◌, Opt
 use Rattle.std.specs.Prelude.{IfSome}
 use Rattle.std.specs.Io.KnownBytes.{Appends, Consumes, IsAtEnd}
 use Rattle.sql_document.specs.Documents.{Document, document}
-use Rattle.sql_tool.specs.Output.{Answers}
+use Rattle.sql_output.specs.Output.{Answers}
 use Rattle.sql_tool.specs.Run.{Answered}
 
 pub answered-whole : (left rest held new : Option (List ℕ)) (given written : List ℕ) → Consumes left rest given

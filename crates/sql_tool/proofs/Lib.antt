@@ -1,6 +1,1 @@
 pub mod Headlines
-pub mod Ids
-pub mod Judging
-pub mod Lines
-pub mod Once
-pub mod Places

@@ -3,7 +3,7 @@ use Rattle.std.specs.Prelude.{◌≡◌, ◌≤◌, ◌<◌, ◌⊎◌, ℕ, Lis
 use Rattle.std.specs.Str.{bytes_eq}
 use Rattle.sql_document.specs.Documents.{Document, document}
 use Rattle.sql_tool.specs.declared.run.TheConstants.{LIMIT}
-use Rattle.sql_tool.specs.Output.{Answers, AnswersFront}
+use Rattle.sql_output.specs.Output.{Answers, AnswersFront}
 use Rattle.sql_tool.specs.declared.status.Status.{Status}
 use Rattle.sql_tool.specs.declared.status.Status.TheVariants.{Done, Usage, BadDocument, ReadFault, WriteFault, NoMemory, TooLarge}
 

@@ -1,9 +1,6 @@
 //! Reads a document on standard input, and writes a line for each of its requests.
 #![tactic(auto)]
 
-mod answer;
-mod known;
-mod line;
 mod run;
 mod status;
 
@@ -42,10 +39,6 @@ fn run_over_standard_streams(rt: &HostRuntime) -> Status {
 }
 
 #[cfg(test)]
-mod debug_tests;
-#[cfg(test)]
 mod every_call;
-#[cfg(test)]
-mod rule_tests;
 #[cfg(test)]
 mod tests;

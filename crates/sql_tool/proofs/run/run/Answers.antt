@@ -2,8 +2,8 @@ use Rattle.std.specs.Io.KnownBytes.{IsAtEnd}
 use Rattle.std.proofs.Common.{map, subst}
 use Rattle.std.specs.Prelude.{string_bytes}
 use Rattle.sql_tool.proofs.Headlines.{answered-whole}
-use Rattle.sql_tool.proofs.Ids.{one-id, one-shape}
-use Rattle.sql_tool.proofs.Once.{one-answer, front-of-answer}
+use Rattle.sql_output.proofs.Ids.{one-id, one-shape}
+use Rattle.sql_output.proofs.Once.{one-answer, front-of-answer}
 use Rattle.sql_tool.specs.Run.{Outcome, is_build}
 use Rattle.sql_tool.proofs.run.run.Goals as goal
 

@@ -8,14 +8,14 @@ use Rattle.sql_document.specs.Documents as t
 use Rattle.sql_document.specs.Trees.{request_tree, document_tree}
 use Rattle.sql_document.specs.declared.document.Document.{Document}
 use Rattle.sql_document.specs.declared.document.Request.{Request}
-use Rattle.sql_tool.proofs.Lines.{keys, keys-length, keys-more, judges-more, lines-more, told-line}
-use Rattle.sql_tool.proofs.Places.{Tells, tells-more}
-use Rattle.sql_tool.specs.Judgement.{Judgement, Judges, JudgesEach}
-use Rattle.sql_tool.specs.Inner.{place_found}
-use Rattle.sql_tool.specs.Known.{place}
-use Rattle.sql_tool.specs.Output.{AnswersFront, answer_line, key_seen, line, lines}
-use Rattle.sql_tool.specs.declared.known.RequestKey.{RequestKey}
-use Rattle.sql_tool.specs.contracts.known.RequestKeyOrd.TheImpl as key_ord
+use Rattle.sql_output.proofs.Lines.{keys, keys-length, keys-more, judges-more, lines-more, told-line}
+use Rattle.sql_output.proofs.Places.{Tells, tells-more}
+use Rattle.sql_output.specs.Judgement.{Judgement, Judges, JudgesEach}
+use Rattle.sql_output.specs.Inner.{place_found}
+use Rattle.sql_output.specs.Known.{place}
+use Rattle.sql_output.specs.Output.{AnswersFront, answer_line, key_seen, line, lines}
+use Rattle.sql_output.specs.declared.known.RequestKey.{RequestKey}
+use Rattle.sql_output.specs.contracts.known.RequestKeyOrd.TheImpl as key_ord
 use Rattle.sql_tool.proofs.run.write_answers.Goals as goal
 
 -- the requests so far, with the one at i, and those that are left

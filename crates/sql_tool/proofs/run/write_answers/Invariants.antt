@@ -2,11 +2,11 @@ use Rattle.std.proofs.Common.{◌≡◌, ℕ, List, [], map, take}
 use Rattle.std.specs.BTreeMap as tree
 use Rattle.std.specs.Io.KnownBytes.{Appends}
 use Rattle.sql_document.specs.Trees.{request_tree}
-use Rattle.sql_tool.proofs.Lines.{keys}
-use Rattle.sql_tool.proofs.Places.{Tells}
-use Rattle.sql_tool.specs.Judgement.{Judgement, JudgesEach}
-use Rattle.sql_tool.specs.Output.{lines}
-use Rattle.sql_tool.specs.contracts.known.RequestKeyOrd.TheImpl as key_ord
+use Rattle.sql_output.proofs.Lines.{keys}
+use Rattle.sql_output.proofs.Places.{Tells}
+use Rattle.sql_output.specs.Judgement.{Judgement, JudgesEach}
+use Rattle.sql_output.specs.Output.{lines}
+use Rattle.sql_output.specs.contracts.known.RequestKeyOrd.TheImpl as key_ord
 use Rattle.sql_tool.proofs.run.write_answers.Given as goal
 
 -- what became of the requests so far is told by what is written, and their keys are kept in mind

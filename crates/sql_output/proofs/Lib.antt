@@ -1,0 +1,5 @@
+pub mod Ids
+pub mod Judging
+pub mod Lines
+pub mod Once
+pub mod Places

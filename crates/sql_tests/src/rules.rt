@@ -1,0 +1,51 @@
+//! All rules that a statement breaks. The first alone is what a line of the program tells.
+
+use super::every_call::fixture::{beside, column, schema, table};
+use sql_check::broken;
+use sql_dialect::Pg;
+use sql_expr::{Expr, SelectStatement, Statement};
+use sql_rules::Rule;
+use sql_schema::{Schema, SchemaBuilder};
+use sql_select::{AsQuery, Query, QueryDsl};
+use std::alloc::Global;
+use std::test::Fail;
+
+fn users(alloc: Global) -> Result<SelectStatement, Fail> {
+    Ok(table(alloc, "users")?.as_query(alloc)?)
+}
+
+/// `SELECT DISTINCT .. FROM "users" WHERE "posts"."id" FOR UPDATE`.
+fn broken_three_times(alloc: Global) -> Result<Statement, Fail> {
+    let (users, id) = beside(users(alloc)?, column(alloc, "posts", "id"))?;
+    let filtered = users.distinct().filter(alloc, Expr::Column(id))?;
+    Ok(filtered.for_update().into_statement())
+}
+
+fn rules_of(alloc: Global, schema: &Schema, statement: Statement) -> Result<Vec<Rule>, Fail> {
+    let rules = broken(alloc, &Pg, schema, &statement);
+    drop(statement);
+    Ok(rules?)
+}
+
+#[test]
+fn each_rule_in_order(rt: HostRuntime) -> Result<(), Fail> {
+    let alloc = rt.alloc();
+    let schema = schema(alloc)?;
+    let rules = rules_of(alloc, &schema, broken_three_times(alloc)?)?;
+    assert!(rt;
+        rules.as_slice() == [Rule::Incompatible, Rule::NotInScope, Rule::TypeMismatch].as_slice()
+    );
+    Ok(())
+}
+
+#[test]
+fn a_table_that_another_schema_has(rt: HostRuntime) -> Result<(), Fail> {
+    let alloc = rt.alloc();
+    let none = SchemaBuilder::new(alloc).build()?;
+    let rules = rules_of(alloc, &none, users(alloc)?.into_statement())?;
+    assert!(rt; rules.as_slice() == [Rule::UnknownName].as_slice());
+    let schema = schema(alloc)?;
+    let rules = rules_of(alloc, &schema, users(alloc)?.into_statement())?;
+    assert!(rt; rules.is_empty());
+    Ok(())
+}
