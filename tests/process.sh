@@ -1,44 +1,80 @@
 #!/bin/sh
-# Runs the program as a process: standard input to standard output, outputs and inputs that fail, words that are no command.
-# The program is built first where it is not. Ends with 'N passed, M failed'.
+# Runs the program as a process: standard input to standard output, outputs and inputs that fail, words that are no command, the
+# examples. The program is built first where it is not. Ends with 'N passed, M failed'.
 top=$(cd "$(dirname "$0")/.." && pwd) || exit 1
 work=$(mktemp -d) || exit 1
+trap 'rm -r "$work"' EXIT
 passed=0
 failed=0
 
-# expect NAME STATUS WORD: the last run ended with this status, and said this word on standard error
-expect() {
-    if [ "$got" = "$2" ] && [ "$(cat "$work/err")" = "$3" ]; then
+# check NAME COMMAND..: counts whether the command succeeds
+check() {
+    name=$1
+    shift
+    if "$@"; then
         passed=$((passed + 1))
     else
         failed=$((failed + 1))
-        echo "FAILED $1: status $got and '$(cat "$work/err")', wanted $2 and '$3'"
+        echo "FAILED $name"
     fi
 }
 
-"$top/sql_tool" build <"$top/crates/sql_tool/stdin" >"$work/out" 2>"$work/err"
-got=$?
-cmp -s "$work/out" "$top/crates/sql_tool/stdout" || got=other-output
-expect 'input to output' 0 ''
+# ended STATUS WORD: the last run ended with this status, and said this word first on standard error
+ended() {
+    said=$(head -n 1 "$work/err")
+    [ "$got" = "$1" ] && [ "$said" = "$2" ] && return
+    echo "status $got and '$said', wanted $1 and '$2'"
+    return 1
+}
+
+# run WORD..: runs the program, its output to $work/out
+run() {
+    "$top/sql_tool" "$@" >"$work/out" 2>"$work/err"
+    got=$?
+}
+
+is_empty() { ended "$1" "$2" && [ ! -s "$work/out" ]; }
+writes() { ended 0 '' && cmp "$work/out" "$1"; }
+
+run build <"$top/crates/sql_tool/stdin"
+check 'the stored run' writes "$top/crates/sql_tool/stdout"
+for document in "$top"/examples/*.json; do
+    run build <"$document"
+    check "${document##*/}" writes "${document%.json}.jsonl"
+done
+if command -v python3 >/dev/null; then
+    python3 "$top/examples/report.py" >"$work/report" 2>&1
+    check report.py cmp "$work/report" "$top/examples/report.txt"
+else
+    echo 'skipped report.py: no python3'
+fi
+
 "$top/sql_tool" build <"$top/examples/filter.json" >&- 2>"$work/err"
 got=$?
-expect 'closed output' 5 WriteFault
+check 'closed output' ended 5 WriteFault
 "$top/sql_tool" build <&- >"$work/out" 2>"$work/err"
 got=$?
-[ -s "$work/out" ] && got=some-output
-expect 'closed input' 4 ReadFault
+check 'closed input' is_empty 4 ReadFault
 if [ -e /dev/full ]; then
     "$top/sql_tool" build <"$top/examples/filter.json" >/dev/full 2>"$work/err"
     got=$?
-    expect 'full output' 5 WriteFault
+    check 'full output' ended 5 WriteFault
 fi
-for words in '' '--help' 'build x'; do
+run build <"$top/README.md"
+check 'no document' is_empty 3 BadDocument
+head -c 16777217 /dev/zero | tr '\0' ' ' >"$work/large"
+run build <"$work/large"
+check 'a large input' is_empty 7 TooLarge
+for words in '' 'Build' 'build x'; do
     # shellcheck disable=SC2086
-    "$top/sql_tool" $words </dev/null >"$work/out" 2>"$work/err"
-    got=$?
-    [ -s "$work/out" ] && got=some-output
-    expect "words '$words'" 2 Usage
+    run $words </dev/null
+    check "words '$words'" is_empty 2 Usage
 done
-rm -r "$work"
+# The script answers --help itself; to the program it is no command.
+run --help </dev/null
+check 'the page of --help' grep -q '^usage: ./sql_tool COMMAND' "$work/out"
+"$top/crates/sql_tool/out/sql_tool" --help </dev/null >"$work/out" 2>"$work/err"
+got=$?
+check 'the program on --help' is_empty 2 Usage
 echo "$passed passed, $failed failed"
 [ "$failed" = 0 ]
