@@ -1,9 +1,12 @@
 -- What it says that no refusal holds.
-use Rattle.std.proofs.Common.{◌≡◌, Bool, true, false, ◌||◌, if◌then◌else◌, List, [], ◌∷◌, Option, Some, None, refl, ap, ◌∙◌}
+use Rattle.std.proofs.Common.{◌≡◌, Bool, true, false, ◌||◌, if◌then◌else◌, List, [], ◌∷◌, Option, Some, None, refl, ap, sym, ◌∙◌}
 use Rattle.std.specs.List.{list_any}
+use Rattle.std.specs.Option.{option_or}
 use Rattle.sql_schema.specs.declared.declaration.TableDecl.{TableDecl}
+use Rattle.sql_schema.specs.declared.error.SchemaError.{SchemaError}
 use Rattle.sql_schema.specs.declared.error.SchemaError.TheVariants.{DuplicateTable, NoColumns, DuplicateColumn, UnknownKey, UnknownTable, BadJoinable}
 use Rattle.sql_schema.specs.Declarations.{Declarations}
+use Rattle.sql_schema.specs.inside.Split.{tables_refusal, relations_refusal}
 use Rattle.sql_schema.specs.Refusals.{has_duplicate_table, lacks_columns, has_duplicate_column, lacks_key, names_unknown_table, has_bad_joinable, is_unsound, least_refusal}
 
 pub record IsUnrefused (s : Declarations) : Type 0 where
@@ -41,7 +44,7 @@ none-refused s h =
 sound : (b c d : Bool) → b ≡ false → c ≡ false → d ≡ false → (b || (c || d)) ≡ false
 sound b c d p q r = cc
 
-neither : (b c : Bool) → (b || c) ≡ false → (b ≡ false) × (c ≡ false)
+pub neither : (b c : Bool) → (b || c) ≡ false → (b ≡ false) × (c ≡ false)
 neither true c h = cc
 neither false c h = (refl, h)
 
@@ -58,3 +61,35 @@ all-sound (t ∷ ts) p q r =
 
 pub none-sound : (s : Declarations) → least_refusal s ≡ None → list_any is_unsound s.tables ≡ false
 none-sound s h = let u = none-refused s h in all-sound s.tables u.have_columns u.columns_differ u.have_keys
+
+-- ---- the least refusal in two parts
+
+chained : {X : Type 0} (a b c d : Bool) (e f g h : X) (o : Option X)
+    → (if a then Some e else if b then Some f else if c then Some g else if d then Some h else o)
+    ≡ option_or (if a then Some e else if b then Some f else if c then Some g else if d then Some h else None) o
+chained true b c d e f g h o = refl
+chained false true c d e f g h o = refl
+chained false false true d e f g h o = refl
+chained false false false true e f g h o = refl
+chained false false false false e f g h o = refl
+
+pub least-split : (s : Declarations) → least_refusal s ≡ option_or (tables_refusal s.tables) (relations_refusal s)
+unfolding least_refusal tables_refusal relations_refusal
+least-split s =
+    chained (has_duplicate_table s.tables) (list_any lacks_columns s.tables) (list_any has_duplicate_column s.tables)
+    (list_any lacks_key s.tables) DuplicateTable NoColumns DuplicateColumn UnknownKey _
+
+pub no-table-refused : (tables : List TableDecl) → tables_refusal tables ≡ None
+    → (has_duplicate_table tables ≡ false) × (list_any is_unsound tables ≡ false)
+unfolding tables_refusal
+no-table-refused tables h =
+    let one = not-refused (has_duplicate_table tables) DuplicateTable _ h in
+    let two = not-refused (list_any lacks_columns tables) NoColumns _ one.1 in
+    let three = not-refused (list_any has_duplicate_column tables) DuplicateColumn _ two.1 in
+    let four = not-refused (list_any lacks_key tables) UnknownKey _ three.1 in
+    (one.0, all-sound tables two.0 three.0 four.0)
+
+-- where tables alone are not refused
+pub least-then : (s : Declarations) (o : Option SchemaError) → tables_refusal s.tables ≡ None → o ≡ relations_refusal s
+    → least_refusal s ≡ o
+least-then s o none is = least-split s ∙ ap (λ x. option_or x (relations_refusal s)) none ∙ sym is

@@ -4,7 +4,7 @@ ghost use Rattle.sql_schema.specs.declared.error.SchemaError.TheVariants.{NoMemo
 use std::alloc::AllocError;
 use thiserror::Error;
 
-/// Why declarations make no schema. Where several refusals hold, the first of them in this order is answered.
+/// Why declarations are not a schema. Where several refusals hold, the error is the first of them in this order.
 #[derive(Debug, Drop, PartialEq, Eq, Error)]
 pub enum SchemaError {
     /// Two tables have one `name`, or one schema and one `sql_name`.

@@ -6,20 +6,24 @@
 
 mod declaration;
 mod error;
+mod laws;
 mod list;
+mod names;
 mod refusal;
 mod schema;
 mod table;
+mod tables;
 mod text;
 mod types;
 
 pub use declaration::{ColumnDecl, JoinableDecl, TableDecl};
 pub use error::SchemaError;
+pub use laws::equality_is_equality;
 pub use list::SqlList;
 pub use schema::{Schema, SchemaBuilder, TableNotEqual};
 pub use table::{Column, SizeRestrictedColumn, Table};
 pub use text::{SqlBytes, SqlText};
 pub use types::{Base, SqlType};
 
-/// Want of memory.
+/// Out of memory.
 pub type NoMemory = std::alloc::AllocError;

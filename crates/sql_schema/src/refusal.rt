@@ -1,80 +1,103 @@
-ghost use Rattle.std.specs.Prelude.{◌≡◌, ◌<◌, ◌^◌, ℕ, List, length, not, Bool, ◌||◌, option_map};
+ghost use Rattle.std.specs.Prelude.{◌≡◌, ℕ, List, not, Bool, ◌||◌, option_map, IfOk};
 ghost use Rattle.std.specs.List.{list_any};
-ghost use Rattle.sql_schema.specs.Columns.{table_named, column_named};
-ghost use Rattle.sql_schema.specs.Refusals.{any_two, tables_clash, columns_clash, relate_alike, has_column as column_stands, has_table as table_stands, lacks_key as key_lacking, lacks_columns as columns_lacking, lacks_table as table_lacking, is_bad_joinable as bad, single_column, bases_agree as agree, refers as referring, has_duplicate_column as column_doubled, names_unknown_table as table_unknown, least_refusal};
+ghost use Rattle.sql_schema.specs.inside.NameSets.{has_name};
+ghost use Rattle.sql_schema.specs.Refusals.{any_two, relate_alike, has_column as column_stands, has_table as table_stands, lacks_key as key_lacking, lacks_columns as columns_lacking, lacks_table as table_lacking, is_bad_joinable as bad, single_column, bases_agree as agree, refers as referring, has_duplicate_table as table_doubled, has_duplicate_column as column_doubled, names_unknown_table as table_unknown};
+ghost use Rattle.sql_schema.specs.inside.Split.{tables_refusal, relations_refusal};
 
-use crate::{ColumnDecl, JoinableDecl, SchemaError, SqlText, TableDecl};
+use crate::tables::Tables;
+use crate::{ColumnDecl, JoinableDecl, NoMemory, SchemaError, SqlText, Table, TableDecl};
+use std::alloc::Global;
+use std::collections::BTreeSet;
 
-/// Declarations that can't stand side by side.
-trait Clash {
-    ghost clash: { Self → Self → Bool };
+/// A schema and a name in SQL, which are of one table alone.
+type TablePath<'d> = (Option<&'d str>, &'d str);
 
-    fn clashes(&self, other: &Self) -> bool
-        ensures { result ≡ clash self.now other.now };
-}
-
-impl Clash for TableDecl {
-    ghost clash = { tables_clash };
-
-    fn clashes(&self, other: &TableDecl) -> bool {
-        self.name == other.name || (self.schema == other.schema && self.sql_name == other.sql_name)
-    }
-}
-
-impl Clash for ColumnDecl {
-    ghost clash = { columns_clash };
-
-    fn clashes(&self, other: &ColumnDecl) -> bool {
-        self.name == other.name || self.sql_name == other.sql_name
-    }
-}
-
-impl Clash for JoinableDecl {
-    ghost clash = { relate_alike };
-
-    fn clashes(&self, other: &JoinableDecl) -> bool {
-        (self.child == other.child && self.parent == other.parent)
-            || (self.child == other.parent && self.parent == other.child)
-    }
-}
-
-fn clashes_with_any<T: Clash>(item: &T, others: &[T]) -> bool
-    ensures { result ≡ list_any (T.clash item.now) others.now }
+fn path(table: &TableDecl) -> TablePath<'_>
+    ensures schema { option_map (λ s. s.now) result.0 ≡ table.now.schema }
+    ensures name { result.1.now ≡ table.now.sql_name }
 {
-    others.iter().any(|other| item.clashes(other))
+    let schema = match &table.schema {
+        None => None,
+        Some(schema) => Some(schema.as_str()),
+    };
+    (schema, table.sql_name.as_str())
 }
 
-/// Compares each pair.
-fn any_two_clash<T: Clash>(items: &[T]) -> bool
-    requires { length items.now < 2 ^ 63 }
-    ensures { result ≡ any_two T.clash items.now }
+/// Two tables have one name, or one schema and SQL name.
+fn has_duplicate_table(alloc: Global, tables: &[TableDecl]) -> Result<bool, NoMemory>
+    ensures { IfOk result (λ b. b ≡ table_doubled tables.now) }
 {
-    for (place, item) in items.iter().enumerate() {
-        if clashes_with_any(item, &items[place + 1..]) {
-            return true;
+    let mut names = BTreeSet::new(alloc);
+    let mut paths = BTreeSet::new(alloc);
+    for table in tables {
+        let is_new = names.insert(table.name.as_str())?;
+        let has_new_path = paths.insert(path(table))?;
+        if !(is_new && has_new_path) {
+            return Ok(true);
         }
     }
-    false
+    Ok(false)
 }
 
-fn has_column(columns: &[ColumnDecl], name: &SqlText) -> bool
-    ensures { result ≡ column_stands columns.now name.now }
+/// Two columns of the table have one name, or one SQL name.
+fn has_duplicate_column(alloc: Global, table: &TableDecl) -> Result<bool, NoMemory>
+    ensures { IfOk result (λ b. b ≡ column_doubled table.now) }
 {
-    columns.iter().any(|column| column.name == *name)
+    let mut names = BTreeSet::new(alloc);
+    let mut sql_names = BTreeSet::new(alloc);
+    for column in table.columns.as_slice() {
+        let is_new = names.insert(column.name.as_str())?;
+        let is_new_in_sql = sql_names.insert(column.sql_name.as_str())?;
+        if !(is_new && is_new_in_sql) {
+            return Ok(true);
+        }
+    }
+    Ok(false)
 }
 
-fn misses_any(columns: &[ColumnDecl], names: &[SqlText]) -> bool
-    ensures { result ≡ list_any (λ k. not (column_stands columns.now k)) names.now }
+/// Two relations are of the same two tables, in one direction or both.
+fn has_repeated_relation(alloc: Global, joinables: &[JoinableDecl]) -> Result<bool, NoMemory>
+    ensures { IfOk result (λ b. b ≡ any_two relate_alike joinables.now) }
 {
-    names.iter().any(|name| !has_column(columns, name))
+    let mut related = BTreeSet::new(alloc);
+    for joinable in joinables {
+        let child = joinable.child.as_str();
+        let parent = joinable.parent.as_str();
+        let is_new_reversed = !related.contains(&(parent, child));
+        let is_new = related.insert((child, parent))?;
+        if !(is_new_reversed && is_new) {
+            return Ok(true);
+        }
+    }
+    Ok(false)
 }
 
-fn lacks_key(table: &TableDecl) -> bool
-    ensures { result ≡ key_lacking table.now }
+/// The names of the columns.
+fn column_names<'d>(alloc: Global, columns: &'d [ColumnDecl]) -> Result<BTreeSet<&'d str>, NoMemory>
+    ensures { IfOk result (λ s. (q : List ℕ) → has_name s q ≡ column_stands columns.now q) }
 {
-    let columns = table.columns.as_slice();
+    let mut names = BTreeSet::new(alloc);
+    for column in columns {
+        names.insert(column.name.as_str())?;
+    }
+    Ok(names)
+}
+
+fn misses_any(names: &BTreeSet<&str>, key: &[SqlText]) -> bool
+    ensures { result ≡ list_any (λ k. not (has_name names.now k)) key.now }
+{
+    key.iter().any(|name| !names.contains(name.as_str()))
+}
+
+fn lacks_key(alloc: Global, table: &TableDecl) -> Result<bool, NoMemory>
+    ensures { IfOk result (λ b. b ≡ key_lacking table.now) }
+{
     let key = table.primary_key.as_slice();
-    key.is_empty() || misses_any(columns, key)
+    if key.is_empty() {
+        return Ok(true);
+    }
+    let names = column_names(alloc, table.columns.as_slice())?;
+    Ok(misses_any(&names, key))
 }
 
 fn lacks_columns(table: &TableDecl) -> bool
@@ -83,53 +106,25 @@ fn lacks_columns(table: &TableDecl) -> bool
     table.columns.as_slice().is_empty()
 }
 
-fn has_duplicate_column(table: &TableDecl) -> bool
-    ensures { result ≡ column_doubled table.now }
-{
-    any_two_clash(table.columns.as_slice())
-}
-
-fn find_table<'d>(tables: &'d [TableDecl], name: &SqlText) -> Option<&'d TableDecl>
-    ensures { option_map (λ t. t.now) result ≡ table_named tables.now name.now }
-{
-    for table in tables {
-        if table.name == *name {
-            return Some(table);
-        }
-    }
-    None
-}
-
-fn find_column<'d>(columns: &'d [ColumnDecl], name: &SqlText) -> Option<&'d ColumnDecl>
-    ensures { option_map (λ c. c.now) result ≡ column_named columns.now name.now }
-{
-    for column in columns {
-        if column.name == *name {
-            return Some(column);
-        }
-    }
-    None
-}
-
-fn has_table(tables: &[TableDecl], name: &SqlText) -> bool
+fn has_table(tables: &Tables, name: &SqlText) -> bool
     ensures { result ≡ table_stands tables.now name.now }
 {
-    tables.iter().any(|table| table.name == *name)
+    tables.find(name.as_str()).is_some()
 }
 
-fn lacks_table(tables: &[TableDecl], one: &SqlText, other: &SqlText) -> bool
+fn lacks_table(tables: &Tables, one: &SqlText, other: &SqlText) -> bool
     ensures { result ≡ table_lacking tables.now one.now other.now }
 {
     !has_table(tables, one) || !has_table(tables, other)
 }
 
-fn any_relation_lacks_table(tables: &[TableDecl], joinables: &[JoinableDecl]) -> bool
+fn any_relation_lacks_table(tables: &Tables, joinables: &[JoinableDecl]) -> bool
     ensures { result ≡ list_any (λ j. table_lacking tables.now j.child j.parent) joinables.now }
 {
     joinables.iter().any(|joinable| lacks_table(tables, &joinable.child, &joinable.parent))
 }
 
-fn any_pair_lacks_table(tables: &[TableDecl], together: &[(SqlText, SqlText)]) -> bool
+fn any_pair_lacks_table(tables: &Tables, together: &[(SqlText, SqlText)]) -> bool
     ensures { result ≡ list_any (λ p. table_lacking tables.now p.0 p.1) together.now }
 {
     together
@@ -137,11 +132,12 @@ fn any_pair_lacks_table(tables: &[TableDecl], together: &[(SqlText, SqlText)]) -
         .any(|pair| lacks_table(tables, &pair.0, &pair.1))
 }
 
-fn find_single<'d>(key: &[SqlText], columns: &'d [ColumnDecl]) -> Option<&'d ColumnDecl>
-    ensures { option_map (λ c. c.now) result ≡ single_column key.now columns.now }
+/// The column of a key that has one alone.
+fn find_single(table: &Table) -> Option<&ColumnDecl>
+    ensures { option_map (λ c. c.now) result ≡ single_column table.now.primary_key table.now.columns }
 {
-    match key {
-        [name] => find_column(columns, name),
+    match table.primary_key() {
+        [name] => table.find_column(name.as_str()),
         _ => None,
     }
 }
@@ -159,7 +155,7 @@ fn bases_agree(column: Option<&ColumnDecl>, key: Option<&ColumnDecl>) -> bool
     }
 }
 
-fn refers(child: Option<&TableDecl>, parent: Option<&TableDecl>, key: &SqlText) -> bool
+fn refers(child: Option<&Table>, parent: Option<&Table>, key: &SqlText) -> bool
     ensures { result
         ≡ referring (option_map (λ t. t.now) child.entry) (option_map (λ t. t.now) parent.entry)
         key.now }
@@ -168,23 +164,20 @@ fn refers(child: Option<&TableDecl>, parent: Option<&TableDecl>, key: &SqlText) 
         None => true,
         Some(child) => match parent {
             None => true,
-            Some(parent) => bases_agree(
-                find_column(child.columns.as_slice(), key),
-                find_single(parent.primary_key.as_slice(), parent.columns.as_slice()),
-            ),
+            Some(parent) => bases_agree(child.find_column(key.as_str()), find_single(parent)),
         },
     }
 }
 
-fn is_bad_joinable(tables: &[TableDecl], joinable: &JoinableDecl) -> bool
+fn is_bad_joinable(tables: &Tables, joinable: &JoinableDecl) -> bool
     ensures { result ≡ bad tables.now joinable.now }
 {
-    let child = find_table(tables, &joinable.child);
-    let parent = find_table(tables, &joinable.parent);
+    let child = tables.find(joinable.child.as_str());
+    let parent = tables.find(joinable.parent.as_str());
     joinable.child == joinable.parent || !refers(child, parent, &joinable.key)
 }
 
-fn any_is_bad(tables: &[TableDecl], joinables: &[JoinableDecl]) -> bool
+fn any_is_bad(tables: &Tables, joinables: &[JoinableDecl]) -> bool
     ensures { result ≡ list_any (λ j. bad tables.now j) joinables.now }
 {
     joinables
@@ -198,20 +191,30 @@ fn any_lacks_columns(tables: &[TableDecl]) -> bool
     tables.iter().any(|table| lacks_columns(table))
 }
 
-fn any_has_duplicate_column(tables: &[TableDecl]) -> bool
-    ensures { result ≡ list_any column_doubled tables.now }
+fn any_has_duplicate_column(alloc: Global, tables: &[TableDecl]) -> Result<bool, NoMemory>
+    ensures { IfOk result (λ b. b ≡ list_any column_doubled tables.now) }
 {
-    tables.iter().any(|table| has_duplicate_column(table))
+    for table in tables {
+        if has_duplicate_column(alloc, table)? {
+            return Ok(true);
+        }
+    }
+    Ok(false)
 }
 
-fn any_lacks_key(tables: &[TableDecl]) -> bool
-    ensures { result ≡ list_any key_lacking tables.now }
+fn any_lacks_key(alloc: Global, tables: &[TableDecl]) -> Result<bool, NoMemory>
+    ensures { IfOk result (λ b. b ≡ list_any key_lacking tables.now) }
 {
-    tables.iter().any(|table| lacks_key(table))
+    for table in tables {
+        if lacks_key(alloc, table)? {
+            return Ok(true);
+        }
+    }
+    Ok(false)
 }
 
 fn names_unknown_table(
-    tables: &[TableDecl],
+    tables: &Tables,
     joinables: &[JoinableDecl],
     together: &[(SqlText, SqlText)],
 ) -> bool
@@ -225,44 +228,63 @@ fn names_unknown_table(
     any_relation_lacks_table(tables, joinables) || any_pair_lacks_table(tables, together)
 }
 
-fn has_bad_joinable(tables: &[TableDecl], joinables: &[JoinableDecl]) -> bool
-    ensures { result
-        ≡ (list_any (λ j. bad tables.now j) joinables.now || any_two relate_alike joinables.now) }
+fn has_bad_joinable(
+    alloc: Global,
+    tables: &Tables,
+    joinables: &[JoinableDecl],
+) -> Result<bool, NoMemory>
+    ensures { IfOk result (λ b. b
+        ≡ (list_any (λ j. bad tables.now j) joinables.now || any_two relate_alike joinables.now)) }
 {
-    any_is_bad(tables, joinables) || any_two_clash(joinables)
+    if any_is_bad(tables, joinables) {
+        return Ok(true);
+    }
+    has_repeated_relation(alloc, joinables)
 }
 
-/// The first refusal that holds of the declarations, if any does.
-#[tactic(auto, unfolding(crate::specs::Refusals::least_refusal))]
-pub(crate) fn refusal(
+/// The first refusal that holds of the tables alone, if any does.
+#[tactic(auto, unfolding(crate::specs::inside::Split::tables_refusal))]
+pub(crate) fn table_refusal(
+    alloc: Global,
     tables: &[TableDecl],
+) -> Result<Option<SchemaError>, NoMemory>
+    ensures { IfOk result (λ o. o ≡ tables_refusal tables.now) }
+{
+    if has_duplicate_table(alloc, tables)? {
+        return Ok(Some(SchemaError::DuplicateTable));
+    }
+    if any_lacks_columns(tables) {
+        return Ok(Some(SchemaError::NoColumns));
+    }
+    if any_has_duplicate_column(alloc, tables)? {
+        return Ok(Some(SchemaError::DuplicateColumn));
+    }
+    if any_lacks_key(alloc, tables)? {
+        return Ok(Some(SchemaError::UnknownKey));
+    }
+    Ok(None)
+}
+
+/// The first refusal that holds of relations and pairs of tables, if any does.
+#[tactic(auto, unfolding(crate::specs::inside::Split::relations_refusal))]
+pub(crate) fn relation_refusal(
+    alloc: Global,
+    tables: &Tables,
     joinables: &[JoinableDecl],
     together: &[(SqlText, SqlText)],
-) -> Option<SchemaError>
-    ensures { result
-        ≡ least_refusal (record {
+) -> Result<Option<SchemaError>, NoMemory>
+    ensures { IfOk result (λ o. o
+        ≡ relations_refusal (record {
           tables = tables.now;
           joinables = joinables.now;
           together = together.now;
-        }) }
+        })) }
 {
-    if any_two_clash(tables) {
-        return Some(SchemaError::DuplicateTable);
-    }
-    if any_lacks_columns(tables) {
-        return Some(SchemaError::NoColumns);
-    }
-    if any_has_duplicate_column(tables) {
-        return Some(SchemaError::DuplicateColumn);
-    }
-    if any_lacks_key(tables) {
-        return Some(SchemaError::UnknownKey);
-    }
     if names_unknown_table(tables, joinables, together) {
-        return Some(SchemaError::UnknownTable);
+        return Ok(Some(SchemaError::UnknownTable));
     }
-    if has_bad_joinable(tables, joinables) {
-        return Some(SchemaError::BadJoinable);
+    if has_bad_joinable(alloc, tables, joinables)? {
+        return Ok(Some(SchemaError::BadJoinable));
     }
-    None
+    Ok(None)
 }

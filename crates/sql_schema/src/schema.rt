@@ -1,10 +1,9 @@
-ghost use Rattle.std.specs.Prelude.{◌≡◌, Bool, false, IfOk};
-ghost use Rattle.std.specs.List.{list_any};
+ghost use Rattle.std.specs.Prelude.{◌≡◌, Bool, IfOk};
 ghost use Rattle.sql_schema.specs.Together.{pair_names, may_stand_together};
-ghost use Rattle.sql_schema.specs.Refusals.{is_unsound};
 ghost use Rattle.sql_schema.specs.declared.declaration.TableDecl.{TableDecl};
 
-use crate::refusal::refusal;
+use crate::refusal::{relation_refusal, table_refusal};
+use crate::tables::Tables;
 use crate::{JoinableDecl, NoMemory, SchemaError, SqlText, Table, TableDecl};
 use std::alloc::Global;
 use std::marker::Model;
@@ -95,8 +94,7 @@ impl SchemaBuilder {
         Ok(())
     }
 
-    /// The schema of the declarations, or the first refusal that holds of them, in the order of `SchemaError`. Tables,
-    /// columns of a table and relations are each compared in pairs.
+    /// The schema of the declarations, or the first refusal that holds of them, in the order of `SchemaError`.
     pub fn build(self) -> Result<Schema, SchemaError>
         ensures kept { IfOk result (λ s. s ≡ self) }
         ensures sound { OnOk result (least_refusal self ≡ None) }
@@ -108,35 +106,28 @@ impl SchemaBuilder {
             joinables,
             together,
         } = self;
-        match refusal(tables.as_slice(), joinables.as_slice(), together.as_slice()) {
+        let found = table_refusal(alloc, tables.as_slice())?;
+        match found {
             Some(error) => return Err(error),
             None => {}
         }
-        let tables = sound_tables(alloc, tables)?;
-        Ok(Schema {
-            tables,
-            joinables,
-            together,
-        })
+        let tables = Tables::new(alloc, tables)?;
+        let refused = relation_refusal(alloc, &tables, joinables.as_slice(), together.as_slice())?;
+        match refused {
+            Some(refusal) => Err(refusal),
+            None => Ok(Schema {
+                tables,
+                joinables,
+                together,
+            }),
+        }
     }
-}
-
-/// The same tables, each known to be sound.
-fn sound_tables(alloc: Global, decls: Vec<TableDecl>) -> Result<Vec<Table>, NoMemory>
-    requires { list_any is_unsound decls.items ≡ false }
-    ensures { IfOk result (λ v. v.items ≡ decls.items) }
-{
-    let mut tables = Vec::new(alloc);
-    for decl in decls {
-        tables.push(Table::new(alloc, decl)?)?;
-    }
-    Ok(tables)
 }
 
 /// Declarations of which no refusal holds.
 #[derive(Debug, Drop)]
 pub struct Schema {
-    tables: Vec<Table>,
+    tables: Tables,
     joinables: Vec<JoinableDecl>,
     together: Vec<(SqlText, SqlText)>,
 }
@@ -149,13 +140,13 @@ impl Model for Schema {
     ghost Value = { Declarations };
 
     ghost view = { λ s. record {
-      tables = s.tables.items;
+      tables = s.tables;
       joinables = s.joinables.items;
       together = s.together.items;
     } };
 
     ghost invariant = { λ s. least_refusal (record {
-      tables = s.tables.items;
+      tables = s.tables;
       joinables = s.joinables.items;
       together = s.together.items;
     })
@@ -171,12 +162,7 @@ impl Schema {
     pub fn table(&self, name: &str) -> Option<&Table>
         ensures { option_map (λ t. t.now) result ≡ table_named self.now.tables name.now }
     {
-        for table in self.tables.as_slice() {
-            if table.name() == name {
-                return Some(table);
-            }
-        }
-        None
+        self.tables.find(name)
     }
 
     /// The tables, in the order in which they were declared.

@@ -1,5 +1,6 @@
 ghost use Rattle.std.specs.Prelude.{◌≡◌, ℕ, Option, IfOk};
 
+use crate::names::{Names, index_names, index_of};
 use crate::{ColumnDecl, NoMemory, SqlText, SqlType, TableDecl};
 use std::alloc::Global;
 use std::marker::Model;
@@ -9,45 +10,57 @@ use std::rc::Rc;
 /// key of one column or more. Copies share the declaration, so a copy takes no memory.
 #[derive(Debug)]
 pub struct Table {
-    decl: Rc<TableDecl>,
+    declared: Rc<Declared>,
+}
+
+/// A declaration of a table, with an index of its columns' names.
+#[derive(Debug, Drop)]
+struct Declared {
+    decl: TableDecl,
+    names: Names,
 }
 
 impl Drop for Table {
     fn drop(self) {
-        let Table { decl: _ } = self;
+        let Table { declared: _ } = self;
     }
 }
 
 impl Model for Table {
-    ghost use Rattle.std.specs.Prelude.{◌≡◌, false};
+    ghost use Rattle.std.specs.Prelude.{◌≡◌, false, length};
+    ghost use Rattle.std.specs.BTreeMap.{get_by_text};
     ghost use Rattle.sql_schema.specs.declared.declaration.TableDecl.{TableDecl};
     ghost use Rattle.sql_schema.specs.Refusals.{is_unsound};
+    ghost use Rattle.sql_schema.specs.inside.Indices.{Indexes};
 
     ghost Value = { TableDecl };
 
-    ghost view = { λ t. t.decl.value };
+    ghost view = { λ t. t.declared.value.decl };
 
-    ghost invariant = { λ t. is_unsound t.decl.value ≡ false };
+    ghost invariant = { λ t. (is_unsound t.declared.value.decl ≡ false)
+        × Indexes (λ c. c.name) (get_by_text t.declared.value.names) t.declared.value.decl.columns
+        (length t.declared.value.decl.columns) };
 }
 
 impl Table {
     ghost use Rattle.std.specs.Prelude.{◌≡◌, false, IfOk, option_map};
-    ghost use Rattle.sql_schema.specs.Columns.{column_in, columns_in};
+    ghost use Rattle.sql_schema.specs.Columns.{column_in, column_named, columns_in};
     ghost use Rattle.sql_schema.specs.Refusals.{is_unsound};
 
     pub(crate) fn new(alloc: Global, decl: TableDecl) -> Result<Table, NoMemory>
         requires { is_unsound decl ≡ false }
         ensures { IfOk result (λ t. t ≡ decl) }
     {
-        let decl = Rc::new(alloc, decl)?;
-        Ok(Table { decl })
+        let names = index_names(alloc, decl.columns.as_slice())?;
+        let declared = Rc::new(alloc, Declared { decl, names })?;
+        Ok(Table { declared })
     }
 
     /// The name by which Rust code looks it up.
     pub fn name(&self) -> &str
         ensures { result.now ≡ self.now.name }
     {
-        self.decl.name.as_str()
+        self.declared.decl.name.as_str()
     }
 
     /// The schema, where it has one, and the name in SQL.
@@ -55,11 +68,11 @@ impl Table {
         ensures schema { option_map (λ s. s.now) result.0 ≡ self.now.schema }
         ensures name { result.1.now ≡ self.now.sql_name }
     {
-        let schema = match &self.decl.schema {
+        let schema = match &self.declared.decl.schema {
             None => None,
             Some(schema) => Some(schema.as_str()),
         };
-        (schema, self.decl.sql_name.as_str())
+        (schema, self.declared.decl.sql_name.as_str())
     }
 
     /// The declarations of the columns, in order.
@@ -68,39 +81,48 @@ impl Table {
         // Every table is sound.
         ensures sound { is_unsound self.now ≡ false }
     {
-        self.decl.columns.as_slice()
+        self.declared.decl.columns.as_slice()
     }
 
     /// The names of the columns of the primary key, in order.
     pub fn primary_key(&self) -> &[SqlText]
         ensures { result.now ≡ self.now.primary_key }
     {
-        self.decl.primary_key.as_slice()
+        self.declared.decl.primary_key.as_slice()
     }
 
     /// The column of that name, or None where there is none.
     pub fn column(&self, alloc: Global, name: &str) -> Result<Option<Column>, NoMemory>
         ensures { IfOk result (λ c. c ≡ column_in self.now name.now) }
     {
-        for decl in self.columns() {
-            if decl.name.as_str() == name {
+        match index_of(&self.declared.names, name) {
+            None => Ok(None),
+            Some(index) => {
                 let table = self.try_clone(alloc)?;
-                let decl = decl.try_clone(alloc)?;
-                return Ok(Some(Column { table, decl }));
+                Ok(Some(Column { table, index }))
             }
         }
-        Ok(None)
+    }
+
+    /// The declaration of the column of that name, or None where there is none.
+    pub(crate) fn find_column(&self, name: &str) -> Option<&ColumnDecl>
+        ensures { option_map (λ c. c.now) result ≡ column_named self.now.columns name.now }
+    {
+        match index_of(&self.declared.names, name) {
+            None => None,
+            Some(index) => Some(&self.declared.decl.columns.as_slice()[index]),
+        }
     }
 
     /// All columns, in order.
     pub fn all_columns(&self, alloc: Global) -> Result<Vec<Column>, NoMemory>
         ensures { IfOk result (λ v. v.items ≡ columns_in self.now) }
     {
+        let columns = self.columns();
         let mut all = Vec::new(alloc);
-        for decl in self.columns() {
+        for (index, _decl) in columns.iter().enumerate() {
             let table = self.try_clone(alloc)?;
-            let decl = decl.try_clone(alloc)?;
-            all.push(Column { table, decl })?;
+            all.push(Column { table, index })?;
         }
         Ok(all)
     }
@@ -109,33 +131,45 @@ impl Table {
     pub fn try_clone(&self, _alloc: Global) -> Result<Table, NoMemory>
         ensures { IfOk result (λ v. v ≡ self.now) }
     {
-        let decl = self.decl.clone()?;
-        Ok(Table { decl })
+        let declared = self.declared.clone()?;
+        Ok(Table { declared })
     }
 }
 
-/// A column of a table. Contracts see it as the table's declaration and its own.
+/// A column of a table. Contracts see it as the table's declaration and its own. Copies share the declaration.
 #[derive(Debug)]
 pub struct Column {
     table: Table,
-    decl: ColumnDecl,
+    /// Its index among the table's columns.
+    index: usize,
 }
 
 impl Drop for Column {
     fn drop(self) {
-        let Column { table: _, decl: _ } = self;
+        let Column { table: _, index: _ } = self;
     }
 }
 
 impl Model for Column {
-    ghost use Rattle.sql_schema.specs.Columns.{DeclaredColumn, column_of};
+    ghost use Rattle.std.specs.Prelude.{◌<◌, length};
+    ghost use Rattle.sql_schema.specs.Columns.{DeclaredColumn};
+    ghost use Rattle.sql_schema.specs.inside.ColumnAt.{column_at};
 
     ghost Value = { DeclaredColumn };
 
-    ghost view = { λ c. column_of c.table c.decl };
+    ghost view = { λ c. column_at c.table c.index };
+
+    ghost invariant = { λ c. c.index < length c.table.columns };
 }
 
 impl Column {
+    /// Its declaration.
+    fn decl(&self) -> &ColumnDecl
+        ensures { result.now ≡ self.now.decl }
+    {
+        &self.table.columns()[self.index]
+    }
+
     /// The table that it is a column of.
     pub fn table(&self) -> &Table
         ensures { result.now ≡ self.now.table }
@@ -147,21 +181,21 @@ impl Column {
     pub fn name(&self) -> &str
         ensures { result.now ≡ self.now.decl.name }
     {
-        self.decl.name.as_str()
+        self.decl().name.as_str()
     }
 
     /// The name in SQL.
     pub fn sql_name(&self) -> &str
         ensures { result.now ≡ self.now.decl.sql_name }
     {
-        self.decl.sql_name.as_str()
+        self.decl().sql_name.as_str()
     }
 
     /// The type of its values.
     pub fn ty(&self) -> SqlType
         ensures { result ≡ self.now.decl.ty }
     {
-        self.decl.ty
+        self.decl().ty
     }
 
     /// The same column, of the same table.
@@ -169,8 +203,10 @@ impl Column {
         ensures { IfOk result (λ v. v ≡ self.now) }
     {
         let table = self.table.try_clone(alloc)?;
-        let decl = self.decl.try_clone(alloc)?;
-        Ok(Column { table, decl })
+        Ok(Column {
+            table,
+            index: self.index,
+        })
     }
 }
 
@@ -188,6 +224,6 @@ impl SizeRestrictedColumn for Column {
     ghost greatest_length = { λ c. c.decl.max_length };
 
     fn max_length(&self) -> Option<u64> {
-        self.decl.max_length
+        self.decl().max_length
     }
 }

@@ -1,0 +1,4 @@
+pub mod ColumnAt
+pub mod Indices
+pub mod NameSets
+pub mod Split
