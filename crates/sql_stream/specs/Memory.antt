@@ -18,6 +18,6 @@ pub record Store : Type 0 where
   pub calls : ℕ
   pub faults : ℕ
 
--- a count, one higher unless it stands at its last value
+-- a count, one higher unless it is at its last value
 abbrev pub counted : ℕ → ℕ
 counted n = min (n + 1) (2 ^ 64 - 1)

@@ -1,7 +1,7 @@
 //! Bytes from outside and to outside, in pieces, with a count of the failures.
 //!
-//! A contract can say which bytes a memory object gives and holds. Of standard input and output it says only that a
-//! failure is answered where one was counted.
+//! A contract can say which bytes a memory object gives and holds. Of standard input and output it says only that each
+//! failure was counted.
 #![tactic(auto)]
 
 mod memory;

@@ -1,8 +1,9 @@
 ghost use Rattle.std.specs.Prelude.{◌≡◌, ◌≤◌, ◌<◌, ◌^◌, ◌+◌, ◌-◌, ◌↔◌, drop, length, min, Some, IfOk, OnErr, IsErr, Contains, ◌⊎◌, []};
 ghost use Rattle.std.specs.Io.{ReadsAtMost, WritesAtMost};
-ghost use Rattle.std.specs.Io.KnownBytes.{ReadConsumes, WriteAppends};
+ghost use Rattle.std.specs.Io.KnownBytes.{WriteAppends};
 ghost use Rattle.sql_stream.specs.Causes.{HasCause};
 ghost use Rattle.sql_stream.specs.Memory.{counted};
+ghost use Rattle.sql_stream.specs.Reading.{Reads};
 
 use crate::outside::{Failed, Sink, Source, give};
 use std::alloc::{AllocError, Global};
@@ -67,7 +68,7 @@ impl Source for MemorySource {
 
     fn read(&mut self, out: &mut [u8]) -> Result<usize, Failed>
         ensures bound { ReadsAtMost result out.new }
-        ensures bytes { ReadConsumes (Some self.old.left) (Some self.new.left) result out.new }
+        ensures bytes { Reads (Some self.old.left) (Some self.new.left) result out.new }
         ensures cause { HasCause self.old.faults self.new.faults result }
         // It fails at the calls that were named, and gives as much as it can at any other.
         ensures fails { IsErr result ↔ Contains self.old.failing (counted self.old.calls) }

@@ -1,6 +1,7 @@
 ghost use Rattle.std.specs.Prelude.{◌≡◌, ◌↔◌, ◌<◌, ◌≤◌, List, ℕ, length, IfOk, IfErr, OnOk};
 ghost use Rattle.std.specs.Io.KnownBytes.{Consumes, IsAtEnd};
-ghost use Rattle.sql_stream.specs.Causes.{HasCause, Rose};
+ghost use Rattle.sql_stream.specs.Causes.{HasCause, HasRisen};
+ghost use Rattle.sql_stream.specs.Reading.{Gives};
 ghost use Rattle.sql_stream.specs.declared.reading.ReadError.TheVariants.{NoMemory, Fault, TooLarge};
 
 use crate::outside::{Failed, Source};
@@ -40,12 +41,14 @@ pub fn read_all<S: Source>(
 ) -> Result<Vec<u8>, ReadError>
     ensures all { IfOk result (λ bytes. Consumes (S.left source.old) (S.left source.new) bytes.items
         × IsAtEnd (S.left source.new) × (length bytes.items ≤ limit)) }
-    // What it had given before an error: more than the limit exactly where that is the error.
+    // What it had given before an error: more than the limit exactly where that is the error. The bytes after that are
+    // left, but for those that a failed read may lose.
     ensures given { IfErr result (λ e. (given : List ℕ)
-        × Consumes (S.left source.old) (S.left source.new) given
+        × Gives (S.left source.old) (S.left source.new) given
+        × ((e ≡ Fault → ⊥) → Consumes (S.left source.old) (S.left source.new) given)
         × ((e ≡ TooLarge) ↔ (limit < length given))) }
     ensures fault { IfErr result (λ e. e ≡ Fault
-        → Rose (S.faults source.old) (S.faults source.new)) }
+        → HasRisen (S.faults source.old) (S.faults source.new)) }
     ensures no_fault { IfErr result (λ e. (e ≡ Fault → ⊥)
         → S.faults source.new ≡ S.faults source.old) }
     ensures ok { OnOk result (S.faults source.new ≡ S.faults source.old) }

@@ -3,7 +3,7 @@ ghost use Rattle.std.specs.Prelude.{◌≡◌, None};
 use crate::outside::{Failed, Sink, Source};
 use std::io::{Lock, Read, StdinLock, StdoutLock, Write};
 
-/// A reader of std, whose failures are counted. It tells what the reader tells.
+/// A reader of std, whose failures are counted. Its bytes are known where the reader's are.
 #[derive(Drop)]
 pub struct CountedReader<R> {
     inner: R,
@@ -20,7 +20,7 @@ impl<R: Read> CountedReader<R> {
     }
 }
 
-/// Standard input. It tells no content.
+/// Standard input. Its bytes are not known.
 pub type StdSource = CountedReader<StdinLock<'static>>;
 
 impl CountedReader<StdinLock<'static>> {
@@ -48,7 +48,7 @@ impl<R: Read> Source for CountedReader<R> {
     }
 }
 
-/// Standard output, flushed in each write. It tells no content.
+/// Standard output, flushed in each write. What it holds is not known.
 #[derive(Drop)]
 pub struct StdSink {
     inner: StdoutLock<'static>,

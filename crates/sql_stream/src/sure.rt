@@ -42,7 +42,7 @@ impl Source for SureSource {
     }
 }
 
-/// A sink that never fails, keeps no bytes and tells none.
+/// A sink that never fails and keeps no bytes.
 #[derive(Debug, Drop)]
 pub struct SureSink;
 

@@ -4,7 +4,7 @@ ghost use Rattle.sql_stream.specs.Causes.{HasCause};
 
 use crate::outside::{Failed, Sink};
 
-/// Writes the whole text, or a front of it where the sink fails.
+/// Writes the whole text, or a prefix of it where the sink fails.
 pub fn write_all<K: Sink>(sink: &mut K, text: &[u8]) -> Result<(), Failed>
     ensures all { OnOk result (Appends (K.held sink.old) (K.held sink.new) text.now) }
     ensures front { OnErr result ((done rest : List ℕ) × (text.now ≡ done ++ rest)

@@ -2,6 +2,7 @@ use Rattle.std.proofs.Common.{◌≡◌, ℕ, ◌-◌, ◌<◌, List, ◌++◌, 
 use Rattle.std.proofs.lemmas.Result.{err_from_is_err_and}
 use Rattle.std.proofs.KnownBytes.{Consumes-trans}
 use Rattle.sql_stream.specs.declared.reading.ReadError.TheVariants.{NoMemory, TooLarge}
+use Rattle.sql_stream.proofs.Readings.{gives-consumed}
 use Rattle.sql_stream.proofs.reading.read_all.Goals as goal
 
 joined : (limit : ℕ) (xs ys : List ℕ) (n : ℕ) → n ≤ length ys → limit - length xs < n → limit < length (xs ++ take n ys)
@@ -15,9 +16,11 @@ pub returns-then-count-limit-clause-given : goal.returns-then-count-limit-clause
 returns-then-count-limit-clause-given g c =
     let l = c.loop-bytes in
     let n = c.in_ok-count.count in
-    let over : c.args.limit - length l.bytes.items < n = search rules in (
+    let over : c.args.limit - length l.bytes.items < n = search rules in
+    let given = Consumes-trans _ _ _ _ _ l.invariant.given c.in_ok-count.ensures.bytes.0 in (
       l.bytes.items ++ take n c.read.new.out,
-      Consumes-trans _ _ _ _ _ l.invariant.given c.in_ok-count.ensures.bytes.0,
+      gives-consumed _ _ _ given,
+      (λ other. given),
       (λ _. joined c.args.limit l.bytes.items c.read.new.out n c.in_ok-count.ensures.bound.0 over, λ _. refl),
     )
 
@@ -35,6 +38,7 @@ returns-in_err-extend_from_slice-clause-given g c =
     c.from_residual-in_err-extend_from_slice.ensures.1 in
     rw is (
       some,
-      given,
+      gives-consumed _ _ _ given,
+      (λ other. given),
       (λ large. absurd (let wrong : NoMemory ≡ TooLarge = sym made ∙ large in cc), λ over. absurd (omega arith)),
     )
