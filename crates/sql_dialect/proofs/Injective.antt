@@ -5,9 +5,9 @@ use Rattle.std.proofs.lemmas.List.{append_cancel_right}
 use Rattle.sql_dialect.specs.Quote.{doubled, quoted_by}
 use Rattle.sql_dialect.specs.Written.{quoted}
 use Rattle.sql_dialect.specs.declared.backend.Dialect.{Dialect}
-use Rattle.sql_dialect.specs.declared.backend.Dialect.TheVariants.{Pg, Mysql, Sqlite}
+use Rattle.sql_dialect.specs.declared.backend.Dialect.TheVariants.{Pg, Mysql, Sqlite, Bracket}
 
--- a byte in front of the rest, twice where it is the mark
+-- a byte before the rest, twice where it is the mark
 abbrev put : ℕ → Bool → ℕ → List ℕ → List ℕ
 put mark is a rest = cond is (mark ∷ (mark ∷ rest)) (a ∷ rest)
 
@@ -31,12 +31,13 @@ doubled-injective mark (a ∷ xs) (b ∷ ys) h =
     let rest = doubled-injective mark xs ys p.1 in
     λ i. p.0 i ∷ rest i
 
-quoted_by-injective : (mark : ℕ) (a b : List ℕ) → quoted_by mark a ≡ quoted_by mark b → a ≡ b
-quoted_by-injective mark a b h =
+quoted_by-injective : (start mark : ℕ) (a b : List ℕ) → quoted_by start mark a ≡ quoted_by start mark b → a ≡ b
+quoted_by-injective start mark a b h =
     let e : doubled mark a ++ mark ∷ [] ≡ doubled mark b ++ mark ∷ [] = cc in
     doubled-injective mark a b (append_cancel_right (doubled mark a) (doubled mark b) (mark ∷ []) e)
 
 pub quoted-injective : (d : Dialect) (a b : List ℕ) → quoted d a ≡ quoted d b → a ≡ b
-quoted-injective Pg a b h = quoted_by-injective 34 a b h
-quoted-injective Mysql a b h = quoted_by-injective 96 a b h
-quoted-injective Sqlite a b h = quoted_by-injective 96 a b h
+quoted-injective Pg a b h = quoted_by-injective 34 34 a b h
+quoted-injective Mysql a b h = quoted_by-injective 96 96 a b h
+quoted-injective Sqlite a b h = quoted_by-injective 96 96 a b h
+quoted-injective Bracket a b h = quoted_by-injective 91 93 a b h

@@ -7,5 +7,6 @@ abbrev pub doubled : ℕ → List ℕ → List ℕ
 doubled mark [] = []
 doubled mark (b ∷ bs) = if b == mark then mark ∷ (mark ∷ doubled mark bs) else b ∷ doubled mark bs
 
-abbrev pub quoted_by : ℕ → List ℕ → List ℕ
-quoted_by mark name = mark ∷ (doubled mark name ++ mark ∷ [])
+-- between a quote that opens it and the one that ends it
+abbrev pub quoted_by : ℕ → ℕ → List ℕ → List ℕ
+quoted_by start mark name = start ∷ (doubled mark name ++ mark ∷ [])

@@ -1,6 +1,6 @@
 -- The forms in which a dialect writes what the dialects write differently.
 use Rattle.sql_dialect.specs.declared.backend.Dialect.{Dialect}
-use Rattle.sql_dialect.specs.declared.backend.Dialect.TheVariants.{Pg, Mysql, Sqlite}
+use Rattle.sql_dialect.specs.declared.backend.Dialect.TheVariants.{Pg, Mysql, Sqlite, Bracket}
 use Rattle.sql_dialect.specs.declared.syntax.EmptyFromClauseSyntax.{EmptyFromClauseSyntax}
 use Rattle.sql_dialect.specs.declared.syntax.EmptyFromClauseSyntax.TheVariants.{AnsiSqlFromClauseSyntax}
 use Rattle.sql_dialect.specs.declared.syntax.ExistsSyntax.{ExistsSyntax}
@@ -24,6 +24,7 @@ abbrev pub array : Dialect → ArrayComparison
 array Pg = PgStyleArrayComparison
 array Mysql = AnsiSqlArrayComparison
 array Sqlite = AnsiSqlArrayComparison
+array Bracket = AnsiSqlArrayComparison
 
 abbrev pub select : Dialect → SelectStatementSyntax
 select d = AnsiSqlSelectStatement

@@ -5,12 +5,13 @@ use crate::builder::QueryBuilder;
 use crate::syntax::SqlDialect;
 use std::alloc::Global;
 
-/// The SQL of a database: PostgreSQL's, MySQL's or SQLite's.
+/// The SQL of a database: PostgreSQL's, MySQL's or SQLite's, or a fourth of this project's own.
 #[derive(Debug, Clone, Copy, PartialEq, Eq, PartialOrd, Ord, Hash)]
 pub enum Dialect {
     Pg,
     Mysql,
     Sqlite,
+    Bracket,
 }
 
 /// A database that statements are written for. It speaks one dialect, and its builders write that dialect.

@@ -5,7 +5,7 @@ ghost use Rattle.sql_dialect.specs.declared.backend.Dialect.{Dialect};
 use std::alloc::AllocError;
 use thiserror::Error;
 
-/// Want of memory.
+/// Out of memory.
 pub type NoMemory = AllocError;
 
 /// Why a builder takes no further placeholder. Its text and its count are then as they were.
@@ -35,13 +35,14 @@ pub trait QueryBuilder {
         ensures ok { OnOk result (text self.new ≡ text self.old ++ sql.now) }
         ensures err { OnErr result (text self.new ≡ text self.old) };
 
-    /// Appends a name between the dialect's quotes, each quote in it doubled: `"a""b"`, or `` `a"b` ``.
+    /// Appends a name between the dialect's quotes, each closing quote in it doubled: `"a""b"`, `` `a"b` ``, or `[a"b]`.
     fn push_identifier(&mut self, name: &str) -> Result<(), NoMemory>
         ensures count { count self.new ≡ count self.old }
         ensures ok { OnOk result (text self.new ≡ text self.old ++ quoted dialect name.now) }
         ensures err { OnErr result (text self.new ≡ text self.old) };
 
-    /// Appends the placeholder of one more value: `$1`, `$2` .. in PostgreSQL, `?` in MySQL and SQLite.
+    /// Appends the placeholder of one more value: `$1`, `$2` .. in PostgreSQL, `?` in MySQL and SQLite,
+    /// `@p1`, `@p2` .. in Bracket.
     fn push_bind_param(&mut self) -> Result<(), BindError>
         ensures text { OnOk result
             (text self.new ≡ text self.old ++ placeholder dialect (count self.old + 1)) }

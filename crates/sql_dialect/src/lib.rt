@@ -1,7 +1,8 @@
-//! The three dialects, and the builders that write a statement's text in each.
+//! The four dialects, and the builders that write a statement's text in each.
 #![tactic(auto)]
 
 mod backend;
+mod bracket;
 mod builder;
 mod combination;
 mod laws;
@@ -13,6 +14,7 @@ mod sqlite;
 mod syntax;
 
 pub use backend::{Backend, Dialect};
+pub use bracket::{Bracket, BracketQueryBuilder};
 pub use builder::{BindError, NoMemory, QueryBuilder};
 pub use combination::{Combinator, DuplicateRule};
 pub use laws::quoted_names_differ;
@@ -23,6 +25,7 @@ pub use markers::{
 };
 pub use mysql::{Mysql, MysqlQueryBuilder};
 pub use pg::{Pg, PgQueryBuilder};
+pub use quote::quote_name;
 pub use sqlite::{Sqlite, SqliteQueryBuilder};
 pub use syntax::{
     AliasSyntax, ArrayComparison, EmptyFromClauseSyntax, ExistsSyntax, SelectStatementSyntax,

@@ -19,11 +19,8 @@ pub struct Mysql;
 impl SqlDialect for Mysql {
     ghost answers_as = { D.Mysql };
 
-    fn supports(&self, combinator: Combinator, _rule: DuplicateRule) -> bool {
-        match combinator {
-            Combinator::Union => true,
-            Combinator::Intersect | Combinator::Except => false,
-        }
+    fn supports(&self, _combinator: Combinator, _rule: DuplicateRule) -> bool {
+        true
     }
 
     fn empty_from_clause_syntax(&self) -> EmptyFromClauseSyntax {
@@ -104,7 +101,7 @@ impl QueryBuilder for MysqlQueryBuilder {
     }
 
     fn push_identifier(&mut self, name: &str) -> Result<(), NoMemory> {
-        let quoted = quote(self.alloc, '`', name)?;
+        let quoted = quote(self.alloc, '`', '`', name)?;
         self.sql.push_str(quoted.as_str())
     }
 

@@ -89,7 +89,7 @@ impl PgQueryBuilder {
         PgQueryBuilder::with_bind_idx(alloc, 0)
     }
 
-    /// A builder of the text behind some other that has numbered `bind_idx` placeholders.
+    /// A builder of the text after some other that has numbered `bind_idx` placeholders.
     pub fn with_bind_idx(alloc: Global, bind_idx: u32) -> PgQueryBuilder
         ensures { result ≡ record { text = []; count = bind_idx } }
     {
@@ -120,7 +120,7 @@ impl QueryBuilder for PgQueryBuilder {
     }
 
     fn push_identifier(&mut self, name: &str) -> Result<(), NoMemory> {
-        let quoted = quote(self.alloc, '"', name)?;
+        let quoted = quote(self.alloc, '"', '"', name)?;
         self.sql.push_str(quoted.as_str())
     }
 

@@ -1,16 +1,19 @@
 ghost use Rattle.std.specs.Prelude.{◌≡◌, ◌<◌, ◌++◌, ◌∷◌, [], IfOk, OnOk, string_bytes};
 ghost use Rattle.sql_dialect.specs.Quote.{quoted_by};
+ghost use Rattle.sql_dialect.specs.Written.{quoted};
 
+use crate::backend::Dialect;
 use crate::builder::NoMemory;
 use std::alloc::Global;
 
-/// The name between two quotes, with each quote in it doubled.
-pub fn quote(alloc: Global, mark: char, name: &str) -> Result<String, NoMemory>
-    requires { mark < 128 }
-    ensures { IfOk result (λ s. string_bytes s ≡ quoted_by mark name.now) }
+/// The name between two quotes, with each quote that ends a name doubled in it.
+pub fn quote(alloc: Global, start: char, mark: char, name: &str) -> Result<String, NoMemory>
+    requires start { start < 128 }
+    requires end { mark < 128 }
+    ensures { IfOk result (λ s. string_bytes s ≡ quoted_by start mark name.now) }
 {
     let mut out = String::new(alloc);
-    out.push(mark)?;
+    out.push(start)?;
     let mut rest = name;
     while let Some((before, after)) = rest.split_once(mark) {
         out.push_str(before)?;
@@ -28,4 +31,16 @@ fn push_twice(out: &mut String, mark: char) -> Result<(), NoMemory>
 {
     out.push(mark)?;
     out.push(mark)
+}
+
+/// The name as a builder of the dialect writes it.
+pub fn quote_name(alloc: Global, dialect: Dialect, name: &str) -> Result<String, NoMemory>
+    ensures { IfOk result (λ s. string_bytes s ≡ quoted dialect name.now) }
+{
+    match dialect {
+        Dialect::Pg => quote(alloc, '"', '"', name),
+        Dialect::Mysql => quote(alloc, '`', '`', name),
+        Dialect::Sqlite => quote(alloc, '`', '`', name),
+        Dialect::Bracket => quote(alloc, '[', ']', name),
+    }
 }

@@ -105,7 +105,7 @@ impl QueryBuilder for SqliteQueryBuilder {
     }
 
     fn push_identifier(&mut self, name: &str) -> Result<(), NoMemory> {
-        let quoted = quote(self.alloc, '`', name)?;
+        let quoted = quote(self.alloc, '`', '`', name)?;
         self.sql.push_str(quoted.as_str())
     }
 

@@ -6,7 +6,7 @@ use Rattle.sql_dialect.proofs.quote.quote.Given as goal
 
 abbrev pub invariant-loop-before : goal.invariant-loop-before
 invariant-loop-before l =
-    shadow (Utf8 l.rest) × (string_bytes l.out ++ doubled l.mark l.rest ≡ l.mark ∷ doubled l.mark l.name)
+    shadow (Utf8 l.rest) × (string_bytes l.out ++ doubled l.mark l.rest ≡ l.fn.start ∷ doubled l.mark l.name)
 
 abbrev pub decreases-loop-before : goal.decreases-loop-before
 decreases-loop-before l = length l.rest

@@ -1,0 +1,167 @@
+ghost use Rattle.std.specs.Prelude.{◌≡◌, ◌+◌, ◌++◌, [], ◌∷◌, ◌<◌, ◌^◌, IfOk};
+ghost use Rattle.std.specs.Prelude.{refl};
+ghost use Rattle.sql_dialect.specs.declared.backend.Dialect.TheVariants as D;
+
+use crate::backend::{Backend, Dialect};
+use crate::builder::{BindError, NoMemory, QueryBuilder};
+use crate::combination::{Combinator, DuplicateRule};
+use crate::quote::quote;
+use crate::syntax::{
+    AliasSyntax, ArrayComparison, EmptyFromClauseSyntax, ExistsSyntax, SelectStatementSyntax,
+    SqlDialect,
+};
+use itoa::Buffer;
+use std::alloc::Global;
+use std::marker::Model;
+
+/// A dialect of this project: names in square brackets, placeholders `@p1`, pages by OFFSET and FETCH.
+#[derive(Debug, Clone, Copy, PartialEq, Eq)]
+pub struct Bracket;
+
+impl SqlDialect for Bracket {
+    ghost answers_as = { D.Bracket };
+
+    fn supports(&self, combinator: Combinator, rule: DuplicateRule) -> bool {
+        match (combinator, rule) {
+            (Combinator::Union, _) => true,
+            (_, DuplicateRule::Distinct) => true,
+            (_, DuplicateRule::All) => false,
+        }
+    }
+
+    fn empty_from_clause_syntax(&self) -> EmptyFromClauseSyntax {
+        EmptyFromClauseSyntax::AnsiSqlFromClauseSyntax
+    }
+
+    fn exists_syntax(&self) -> ExistsSyntax {
+        ExistsSyntax::AnsiSqlExistsSyntax
+    }
+
+    fn array_comparison(&self) -> ArrayComparison {
+        ArrayComparison::AnsiSqlArrayComparison
+    }
+
+    fn select_statement_syntax(&self) -> SelectStatementSyntax {
+        SelectStatementSyntax::AnsiSqlSelectStatement
+    }
+
+    fn alias_syntax(&self) -> AliasSyntax {
+        AliasSyntax::AsAliasSyntax
+    }
+}
+
+impl Backend for Bracket {
+    type QueryBuilder = BracketQueryBuilder;
+
+    ghost speaks = { D.Bracket };
+
+    fn dialect(&self) -> Dialect {
+        Dialect::Bracket
+    }
+
+    fn query_builder(&self, alloc: Global) -> BracketQueryBuilder {
+        BracketQueryBuilder::new(alloc)
+    }
+
+    ghost builds = { refl };
+
+    ghost answers = { refl };
+}
+
+/// Writes text in this dialect: names in square brackets, placeholders `@p1`, `@p2` and so on.
+#[derive(Debug, Drop)]
+pub struct BracketQueryBuilder {
+    alloc: Global,
+    sql: String,
+    bind_idx: u32,
+}
+
+impl Model for BracketQueryBuilder {
+    ghost use Rattle.std.specs.Prelude.{ℕ, List, string_bytes};
+    ghost use Rattle.sql_dialect.specs.Built.{Built};
+
+    ghost Value = { Built };
+
+    ghost view = { λ b. record { text = string_bytes b.sql; count = b.bind_idx } };
+}
+
+impl BracketQueryBuilder {
+    /// An empty builder, whose first placeholder will be `@p1`.
+    pub fn new(alloc: Global) -> BracketQueryBuilder
+        ensures { result ≡ record { text = []; count = 0 } }
+    {
+        BracketQueryBuilder::with_bind_idx(alloc, 0)
+    }
+
+    /// A builder of the text after some other that has numbered `bind_idx` placeholders.
+    pub fn with_bind_idx(alloc: Global, bind_idx: u32) -> BracketQueryBuilder
+        ensures { result ≡ record { text = []; count = bind_idx } }
+    {
+        BracketQueryBuilder {
+            alloc,
+            sql: String::new(alloc),
+            bind_idx,
+        }
+    }
+
+    /// The number of the last placeholder, or 0.
+    pub fn bind_idx(&self) -> u32
+        ensures { result ≡ self.now.count }
+    {
+        self.bind_idx
+    }
+}
+
+impl QueryBuilder for BracketQueryBuilder {
+    ghost dialect = { D.Bracket };
+
+    ghost text = { λ b. b.text };
+
+    ghost count = { λ b. b.count };
+
+    fn push_sql(&mut self, sql: &str) -> Result<(), NoMemory> {
+        self.sql.push_str(sql)
+    }
+
+    fn push_identifier(&mut self, name: &str) -> Result<(), NoMemory> {
+        let quoted = quote(self.alloc, '[', ']', name)?;
+        self.sql.push_str(quoted.as_str())
+    }
+
+    fn push_bind_param(&mut self) -> Result<(), BindError> {
+        if self.bind_idx == u32::MAX {
+            return Err(BindError::TooManyBinds);
+        }
+        let next = self.bind_idx + 1;
+        let mut buffer = Buffer::new();
+        let mut place = String::new(self.alloc);
+        if place.push_str("@p").is_err() {
+            return Err(BindError::NoMemory);
+        }
+        if place.push_str(buffer.format(next)).is_err() {
+            return Err(BindError::NoMemory);
+        }
+        if self.sql.push_str(place.as_str()).is_err() {
+            return Err(BindError::NoMemory);
+        }
+        self.bind_idx = next;
+        Ok(())
+    }
+
+    fn push_bind_param_value_only(&mut self) -> Result<(), BindError> {
+        if self.bind_idx == u32::MAX {
+            return Err(BindError::TooManyBinds);
+        }
+        self.bind_idx += 1;
+        Ok(())
+    }
+
+    fn finish(self) -> String {
+        let BracketQueryBuilder {
+            alloc: _,
+            sql,
+            bind_idx: _,
+        } = self;
+        sql
+    }
+}
