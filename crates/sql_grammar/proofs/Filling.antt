@@ -5,8 +5,8 @@ use Rattle.sql_dialect.specs.declared.backend.Dialect.{Dialect}
 use Rattle.sql_grammar.specs.Tree.{Query}
 use Rattle.sql_grammar.specs.Numbering.{mark_of, numbered, Fills}
 use Rattle.sql_grammar.specs.Values.{values_query}
-use Rattle.sql_grammar.proofs.Numbers.{after_query-count, fills_query}
-use Rattle.sql_grammar.proofs.Replaced.{each_query-each, after_query-each}
+use Rattle.sql_grammar.proofs.Numbers.{after-count, fills_query}
+use Rattle.sql_grammar.proofs.Replaced.{each_query-each, query-alike}
 
 pub fills : {V : Type 0} (d : Dialect) (t : Query V) → Fills (numbered d t) (values_query t) t
 fills d t =
@@ -17,5 +17,5 @@ fills d t =
 pub as_many : {V : Type 0} (d : Dialect) (t : Query V) → length (values_query (numbered d t)) ≡ length (values_query t)
 as_many d t =
     let whole : (n : ℕ) → 0 + n ≡ n = λ n. omega arith in
-    sym (whole _) ∙ sym (after_query-count 0 (numbered d t)) ∙ after_query-each (λ n v. mark_of d n) 0 t
-    ∙ after_query-count 0 t ∙ whole _
+    sym (whole _) ∙ sym (after-count 0 (values_query (numbered d t))) ∙ (query-alike (λ n v. mark_of d n) 0 t).same 0
+    ∙ after-count 0 (values_query t) ∙ whole _

@@ -1,6 +1,7 @@
 pub mod Machine
 pub mod Parts
 pub mod OneReading
+pub mod EveryKind
 pub mod TokenLaws
 pub mod TokenRules
 pub mod TextLaws

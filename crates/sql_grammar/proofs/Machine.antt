@@ -1,11 +1,11 @@
 -- A machine that takes the tokens from the last to the first, and keeps what they have come to in a list.
 -- It takes any dialect, and more than the grammar: only that it gives back the tree of each reading counts.
 use Rattle.std.specs.Prelude.{ℕ, List, [], ◌∷◌, Option, Some, None, Bool, true, false, nat_eq}
-use Rattle.sql_grammar.specs.Token.{Comparison, Equal, Keyword, SELECT, DISTINCT, ON, FROM, WHERE, GROUP, BY, HAVING, ORDER, ASC, DESC, LIMIT, OFFSET, FOR, UPDATE, SHARE, NO, KEY, SKIP, LOCKED, NOWAIT, UNION, INTERSECT, EXCEPT, ALL, AS, ONLY, TABLESAMPLE, BERNOULLI, SYSTEM, REPEATABLE, INNER, LEFT, OUTER, JOIN, EXISTS, AND, OR, NOT, IS, NULL, COUNT, ANY, IN, Token, Quoted, Word, Number, Sign, Open, Close, Comma, Dot, Star, Minus}
+use Rattle.sql_grammar.specs.Token.{Comparison, Equal, Keyword, SELECT, DISTINCT, ON, FROM, WHERE, GROUP, BY, HAVING, ORDER, ASC, DESC, LIMIT, OFFSET, FOR, UPDATE, SHARE, NO, KEY, SKIP, LOCKED, NOWAIT, UNION, INTERSECT, EXCEPT, ALL, AS, ONLY, TABLESAMPLE, BERNOULLI, SYSTEM, REPEATABLE, INNER, LEFT, OUTER, JOIN, EXISTS, AND, OR, NOT, IS, NULL, COUNT, ANY, IN, ROWS, FETCH, NEXT, Token, Quoted, Word, Number, Sign, Open, Close, Comma, Dot, Star, Minus}
 use Rattle.sql_grammar.specs.Token as token
-use Rattle.sql_grammar.specs.MarkTree.{Mark, Name, Logic, And, Or, Direction, Plain, Ascending, Descending, JoinKind, Inner, LeftOuter, SampleMethod, Bernoulli, System, SetOperator, Union, Intersect, Except, LockMode, ForUpdate, ForNoKeyUpdate, ForShare, ForKeyShare, LockWait, Waits, SkipLocked, NoWait, Lock, Unlocked, Locks, Sample, Whole, Sampled, Page, PageBy, Places, OnlyPlace, MorePlace, MaybePlaces, NoPlaces, SomePlaces, Expression, Path, Placeholder, SingleValue, Exists, Compared, Connected, Not, NullTest, CountAll, Count, InList, InQuery, Constant, Expressions, OnlyExpression, MoreExpression, Items, OnlyItem, MoreItem, Source, Table, Alias, Join, MaybeExpression, NoExpression, SomeExpression, MaybeExpressions, NoExpressions, SomeExpressions, MaybeItems, NoItems, SomeItems, MaybeSource, NoSource, SomeSource, Distinctness, Every, Distinct, DistinctOn, Query, Select, Combined}
+use Rattle.sql_grammar.specs.MarkTree.{Mark, Name, Logic, And, Or, Direction, Plain, Ascending, Descending, JoinKind, Inner, LeftOuter, SampleMethod, Bernoulli, System, SetOperator, Union, Intersect, Except, LockMode, ForUpdate, ForNoKeyUpdate, ForShare, ForKeyShare, LockWait, Waits, SkipLocked, NoWait, Lock, Unlocked, Locks, Sample, Whole, Sampled, Page, PageBy, FetchBy, Places, OnlyPlace, MorePlace, MaybePlaces, NoPlaces, SomePlaces, Expression, Path, Placeholder, SingleValue, Exists, Compared, Connected, Not, NullTest, CountAll, Count, InList, InQuery, Constant, Expressions, OnlyExpression, MoreExpression, Items, OnlyItem, MoreItem, Source, Table, Alias, Join, MaybeExpression, NoExpression, SomeExpression, MaybeExpressions, NoExpressions, SomeExpressions, MaybeItems, NoItems, SomeItems, MaybeSource, NoSource, SomeSource, Distinctness, Every, Distinct, DistinctOn, Query, Select, Combined}
 
--- what stands behind the first part of a bracket, with the bracket's end
+-- what stands after the first part of a bracket, with the bracket's end
 pub data Rest : Type 0 where
   Compares : Comparison → Expression → Rest
   Joins : Logic → Expression → Rest
@@ -15,7 +15,7 @@ pub data Rest : Type 0 where
   Equals : List ℕ → Rest
   JoinsTo : JoinKind → Source → Expression → Rest
 
--- the clauses behind a selection
+-- the clauses after a selection
 pub record Clauses : Type 0 where
   pub source : MaybeSource
   pub filter : MaybeExpression
@@ -23,8 +23,7 @@ pub record Clauses : Type 0 where
   pub having : MaybeExpression
   pub order : MaybeItems
   pub places : MaybePlaces
-  pub limit : Option Mark
-  pub offset : Option Mark
+  pub page : Page
   pub lock : Lock
 
 abbrev pub empty : Clauses
@@ -36,18 +35,17 @@ empty =
       having = NoExpression;
       order = NoItems;
       places = NoPlaces;
-      limit = None;
-      offset = None;
+      page = PageBy None None;
       lock = Unlocked;
     }
 
 pub data Item : Type 0 where
   -- a token as it is
   Raw : Token → Item
-  -- a dot and the path behind it
+  -- a dot and the path after it
   Dotted : Name → List Name → Item
   E : Expression → Item
-  -- a comma and the list behind it
+  -- a comma and the list after it
   Listed : Items → Item
   Numbered : Places → Item
   Ordered : Direction → Item
@@ -71,6 +69,10 @@ pub data Item : Type 0 where
   Distinctly : Distinctness → Item
   Waiting : LockWait → Item
   Locking : LockMode → LockWait → Item
+  -- `ROWS ONLY` without and with its first word, and the number of rows to fetch
+  OnlyLast : Item
+  RowsOnly : Item
+  Fetches : Mark → Item
   Tail : Clauses → Item
 
 abbrev pub Stack : Type 0
@@ -78,6 +80,7 @@ Stack = List Item
 
 -- how closely an item joins to what stands before it
 unfoldable pub rank : Item → ℕ
+rank (E e) = 0
 rank (Dotted a ns) = 0
 rank (Combines o all q) = 0
 rank (Ordered by) = 1
@@ -87,6 +90,9 @@ rank (AliasAs a) = 3
 rank (SampledBy s) = 3
 rank (Seeded m) = 3
 rank (Waiting w) = 3
+rank OnlyLast = 3
+rank RowsOnly = 3
+rank (Fetches l) = 3
 rank _ = 4
 
 unfoldable pub top : Stack → ℕ
@@ -126,7 +132,7 @@ unfoldable pub expressions_of : Items → Expressions
 expressions_of (OnlyItem e by) = OnlyExpression e
 expressions_of (MoreItem e by more) = MoreExpression e (expressions_of more)
 
--- parts that may stand in front of a stack
+-- parts that may stand first on a stack
 unfoldable pub direction_of : Stack → Direction × Stack
 direction_of (Ordered by ∷ σ) = (by, σ)
 direction_of σ = (Plain, σ)
@@ -199,7 +205,7 @@ unfoldable pub in_query : Bool → Option Query → Stack → Stack
 in_query b (Some q) σ = Right (IsInQuery b q) ∷ σ
 in_query b None σ = []
 
--- behind IN, ANY and ALL
+-- after IN, ANY and ALL
 unfoldable pub in_row : Bool → Stack → Stack
 in_row b (Row is ∷ x ∷ σ) = Right (IsIn b is) ∷ σ
 in_row b (E e ∷ x ∷ σ) = in_query b (query_in e) σ
@@ -252,13 +258,10 @@ open_expression e (SampledBy s ∷ σ) = open_source (Table (name_in e) (names_i
 open_expression e (x ∷ σ) = Row (OnlyItem e Plain) ∷ σ
 open_expression e [] = []
 
-unfoldable pub page_by : Option Mark → Option Mark → Page
-page_by l o = PageBy l o
-
 unfoldable pub combined : Query → SetOperator → Bool → Query → Clauses × Stack → Stack
-combined a by all b (t, σ) = Q (Combined a by all b t.places (PageBy t.limit t.offset)) ∷ σ
+combined a by all b (t, σ) = Q (Combined a by all b t.places t.page) ∷ σ
 
--- behind a query in brackets
+-- after a query in brackets
 unfoldable pub grouped : Query → Stack → Stack
 grouped q (Combines by all b ∷ σ) = combined q by all b (tail_of σ)
 grouped q σ = E (SingleValue q) ∷ σ
@@ -286,7 +289,7 @@ open_bracket _ = []
 unfoldable pub select_list : Distinctness → Items × Stack → Stack
 select_list u (is, σ) =
     let c = tail_of σ in let t = c.0 in
-    Q (Select u (expressions_of is) t.source t.filter t.group t.having t.order (PageBy t.limit t.offset) t.lock) ∷ c.1
+    Q (Select u (expressions_of is) t.source t.filter t.group t.having t.order t.page t.lock) ∷ c.1
 
 unfoldable pub select_from : Distinctness → Stack → Stack
 select_from u (E e ∷ σ) = select_list u (items_of e σ)
@@ -358,17 +361,36 @@ order_by (E e ∷ σ) = put_order (items_of e σ)
 order_by (Raw t ∷ σ) = order_token t σ
 order_by _ = []
 
+unfoldable pub put_page : Page → Clauses × Stack → Stack
+put_page p (t, σ) = Tail (record t { page = p }) ∷ σ
+
+unfoldable pub offset_in : Page → Option Mark
+offset_in (PageBy l o) = o
+offset_in (FetchBy o l) = o
+
+unfoldable pub put_limit : Mark → Clauses × Stack → Stack
+put_limit l (t, σ) = Tail (record t { page = PageBy (Some l) (offset_in t.page) }) ∷ σ
+
 unfoldable pub limit_token : Token → Stack → Stack
 limit_token Minus (x ∷ σ) = σ
 limit_token _ σ = σ
 
 unfoldable pub limit_by : Stack → Stack
-limit_by (E e ∷ σ) = let c = tail_of σ in Tail (record c.0 { limit = Some (mark_in e) }) ∷ c.1
+limit_by (E e ∷ σ) = put_limit (mark_in e) (tail_of σ)
 limit_by (Raw t ∷ σ) = limit_token t σ
 limit_by _ = []
 
+unfoldable pub offset_of : Mark → Stack → Stack
+offset_of o (Fetches l ∷ σ) = put_page (FetchBy (Some o) l) (tail_of σ)
+offset_of o σ = put_page (PageBy None (Some o)) (tail_of σ)
+
+unfoldable pub no_offset : Stack → Stack
+no_offset (Fetches l ∷ σ) = put_page (FetchBy None l) (tail_of σ)
+no_offset _ = []
+
 unfoldable pub offset_by : Stack → Stack
-offset_by (E e ∷ σ) = let c = tail_of σ in Tail (record c.0 { offset = Some (mark_in e) }) ∷ c.1
+offset_by (E e ∷ σ) = offset_of (mark_in e) σ
+offset_by (Raw t ∷ σ) = no_offset σ
 offset_by _ = []
 
 unfoldable pub lock_by : Stack → Stack
@@ -404,7 +426,15 @@ only_item (s, σ) = S s ∷ σ
 
 unfoldable pub only : Stack → Stack
 only (E e ∷ σ) = only_item (after_name true (name_in e) (names_in e) σ)
-only _ = []
+only σ = OnlyLast ∷ σ
+
+unfoldable pub rows : Stack → Stack
+rows (OnlyLast ∷ σ) = RowsOnly ∷ σ
+rows σ = σ
+
+unfoldable pub fetch : Stack → Stack
+fetch (E e ∷ x ∷ σ) = Fetches (mark_in e) ∷ σ
+fetch _ = []
 
 unfoldable pub sampled : SampleMethod → Stack → Stack
 sampled by (Row is ∷ σ) = let m = seed_of σ in SampledBy (Sampled by (mark_in (first is)) m.0) ∷ m.1
@@ -505,6 +535,9 @@ word NULL σ = null σ
 word COUNT σ = count σ
 word ANY σ = Raw (Word ANY) ∷ σ
 word IN σ = in_row false σ
+word ROWS σ = rows σ
+word FETCH σ = σ
+word NEXT σ = fetch σ
 
 unfoldable pub step : Token → Stack → Stack
 step (Quoted a) σ = quoted a σ

@@ -1,135 +1,20 @@
 -- The placeholders of a tree: how many there are, and what stands at each.
-use Rattle.std.proofs.Common.{◌≡◌, ℕ, zero, suc, ◌+◌, List, [], ◌∷◌, ◌++◌, length, Option, Some, None, refl, ap, ◌∙◌, arith, length-append}
+use Rattle.std.proofs.Common.{◌≡◌, ℕ, zero, suc, ◌+◌, List, [], ◌∷◌, ◌++◌, length, Option, Some, None, refl, ap, ◌∙◌, arith}
 use Rattle.std.specs.List.{slice_get}
-use Rattle.sql_grammar.specs.Tree.{Sample, Whole, Sampled, Page, PageBy, Expression, Path, Placeholder, SingleValue, Exists, Compared, Connected, Not, NullTest, CountAll, Count, InList, InQuery, Constant, Expressions, OnlyExpression, MoreExpression, Items, OnlyItem, MoreItem, Source, Table, Alias, Join, MaybeExpression, NoExpression, SomeExpression, MaybeExpressions, NoExpressions, SomeExpressions, MaybeItems, NoItems, SomeItems, MaybeSource, NoSource, SomeSource, Distinctness, Every, Distinct, DistinctOn, Query, Select, Combined}
-use Rattle.sql_grammar.specs.Numbering.{each_expression, after_expression, each_expressions, after_expressions, each_items, after_items, each_source, after_source, each_maybe, after_maybe, each_maybe_expressions, after_maybe_expressions, each_maybe_items, after_maybe_items, each_maybe_source, after_maybe_source, each_distinct, after_distinct, each_query, after_query, each_marks, after_marks, each_option, after_option, each_sample, after_sample, each_page, after_page}
+use Rattle.sql_grammar.specs.Tree.{Sample, Whole, Sampled, Page, PageBy, FetchBy, Expression, Path, Placeholder, SingleValue, Exists, Compared, Connected, Not, NullTest, CountAll, Count, InList, InQuery, Constant, Expressions, OnlyExpression, MoreExpression, Items, OnlyItem, MoreItem, Source, Table, Alias, Join, MaybeExpression, NoExpression, SomeExpression, MaybeExpressions, NoExpressions, SomeExpressions, MaybeItems, NoItems, SomeItems, MaybeSource, NoSource, SomeSource, Distinctness, Every, Distinct, DistinctOn, Query, Select, Combined}
+use Rattle.sql_grammar.specs.Numbering.{each_expression, each_expressions, each_items, each_source, each_maybe, each_maybe_expressions, each_maybe_items, each_maybe_source, each_distinct, each_query, each_marks, each_option, each_sample, each_page, after}
 use Rattle.sql_grammar.specs.Values.{values_expression, values_expressions, values_items, values_source, values_maybe, values_maybe_expressions, values_maybe_items, values_maybe_source, values_distinct, values_query, values_marks, values_option, values_sample, values_page}
 
 -- ## How many there are
 
-pub after_marks-count : {M : Type 0} (n : ℕ) (ms : List M) → after_marks n ms ≡ n + length ms
-after_marks-count n [] = omega arith
-after_marks-count n (m ∷ ms) = after_marks-count (suc n) ms ∙ omega arith
+pub after-count : {M : Type 0} (n : ℕ) (ms : List M) → after n ms ≡ n + length ms
+after-count n [] = omega arith
+after-count n (m ∷ ms) = after-count (suc n) ms ∙ omega arith
 
-pub after_option-count : {M : Type 0} (n : ℕ) (o : Option M) → after_option n o ≡ n + length (values_option o)
-after_option-count n None = omega arith
-after_option-count n (Some m) = omega arith
-
-pub after_sample-count : {M : Type 0} (n : ℕ) (s : Sample M) → after_sample n s ≡ n + length (values_sample s)
-after_sample-count n Whole = omega arith
-after_sample-count n (Sampled by p s) = after_option-count (suc n) s ∙ omega arith
-
--- the count of two lists, one behind the other
-two_counts : {M : Type 0} (n a b : ℕ) (xs ys : List M) → a ≡ n + length xs → b ≡ a + length ys
-    → b ≡ n + length (xs ++ ys)
-two_counts n a b xs ys h k = rw (length-append xs ys) (omega arith)
-
-pub after_page-count : {M : Type 0} (n : ℕ) (p : Page M) → after_page n p ≡ n + length (values_page p)
-after_page-count n (PageBy l o) =
-    two_counts n _ _ (values_option l) (values_option o) (after_option-count n l)
-    (after_option-count (after_option n l) o)
-
-one_count : {M : Type 0} (n : ℕ) (m : M) → suc n ≡ n + length (m ∷ [])
-one_count n m = omega arith
-
-module _ {M : Type 0} where
-  mutual
-    pub after_expression-count : (n : ℕ) (t : Expression M) → after_expression n t ≡ n + length (values_expression t)
-    after_expression-count n (Path a ns) = omega arith
-    after_expression-count n (Placeholder m) = one_count n m
-    after_expression-count n (SingleValue q) = after_query-count n q
-    after_expression-count n (Exists q) = after_query-count n q
-    after_expression-count n (Compared by a b) =
-        two_counts n _ _ (values_expression a) (values_expression b) (after_expression-count n a)
-        (after_expression-count (after_expression n a) b)
-    after_expression-count n (Connected by a b) =
-        two_counts n _ _ (values_expression a) (values_expression b) (after_expression-count n a)
-        (after_expression-count (after_expression n a) b)
-    after_expression-count n (Not a) = after_expression-count n a
-    after_expression-count n (NullTest k a) = after_expression-count n a
-    after_expression-count n CountAll = omega arith
-    after_expression-count n (Count a) = after_expression-count n a
-    after_expression-count n (InList k a m ms) =
-        two_counts n _ _ (values_expression a) ((m ∷ []) ++ values_marks ms) (after_expression-count n a)
-        (two_counts (after_expression n a) _ _ (m ∷ []) (values_marks ms) (one_count (after_expression n a) m)
-        (after_marks-count (suc (after_expression n a)) ms))
-    after_expression-count n (InQuery k a q) =
-        two_counts n _ _ (values_expression a) (values_query q) (after_expression-count n a)
-        (after_query-count (after_expression n a) q)
-    after_expression-count n (Constant k) = omega arith
-
-    pub after_expressions-count : (n : ℕ) (t : Expressions M)
-        → after_expressions n t ≡ n + length (values_expressions t)
-    after_expressions-count n (OnlyExpression a) = after_expression-count n a
-    after_expressions-count n (MoreExpression a more) =
-        two_counts n _ _ (values_expression a) (values_expressions more) (after_expression-count n a)
-        (after_expressions-count (after_expression n a) more)
-
-    pub after_items-count : (n : ℕ) (t : Items M) → after_items n t ≡ n + length (values_items t)
-    after_items-count n (OnlyItem a by) = after_expression-count n a
-    after_items-count n (MoreItem a by more) =
-        two_counts n _ _ (values_expression a) (values_items more) (after_expression-count n a)
-        (after_items-count (after_expression n a) more)
-
-    pub after_source-count : (n : ℕ) (t : Source M) → after_source n t ≡ n + length (values_source t)
-    after_source-count n (Table a ns o s) = after_sample-count n s
-    after_source-count n (Alias a ns b) = omega arith
-    after_source-count n (Join k a b e) =
-        two_counts n _ _ (values_source a) (values_source b ++ values_expression e) (after_source-count n a)
-        (two_counts (after_source n a) _ _ (values_source b) (values_expression e)
-        (after_source-count (after_source n a) b) (after_expression-count (after_source (after_source n a) b) e))
-
-    pub after_maybe-count : (n : ℕ) (t : MaybeExpression M) → after_maybe n t ≡ n + length (values_maybe t)
-    after_maybe-count n NoExpression = omega arith
-    after_maybe-count n (SomeExpression e) = after_expression-count n e
-
-    pub after_maybe_expressions-count : (n : ℕ) (t : MaybeExpressions M)
-        → after_maybe_expressions n t ≡ n + length (values_maybe_expressions t)
-    after_maybe_expressions-count n NoExpressions = omega arith
-    after_maybe_expressions-count n (SomeExpressions es) = after_expressions-count n es
-
-    pub after_maybe_items-count : (n : ℕ) (t : MaybeItems M) → after_maybe_items n t ≡ n + length (values_maybe_items t)
-    after_maybe_items-count n NoItems = omega arith
-    after_maybe_items-count n (SomeItems is) = after_items-count n is
-
-    pub after_maybe_source-count : (n : ℕ) (t : MaybeSource M)
-        → after_maybe_source n t ≡ n + length (values_maybe_source t)
-    after_maybe_source-count n NoSource = omega arith
-    after_maybe_source-count n (SomeSource s) = after_source-count n s
-
-    pub after_distinct-count : (n : ℕ) (t : Distinctness M) → after_distinct n t ≡ n + length (values_distinct t)
-    after_distinct-count n Every = omega arith
-    after_distinct-count n Distinct = omega arith
-    after_distinct-count n (DistinctOn es) = after_expressions-count n es
-
-    pub after_query-count : (n : ℕ) (t : Query M) → after_query n t ≡ n + length (values_query t)
-    after_query-count n (Select u es s w gb hv o p l) =
-        let n1 = after_distinct n u in
-        let n2 = after_expressions n1 es in
-        let n3 = after_maybe_source n2 s in
-        let n4 = after_maybe n3 w in
-        let n5 = after_maybe_expressions n4 gb in
-        let n6 = after_maybe n5 hv in
-        let n7 = after_maybe_items n6 o in
-        let r7 = values_page p in
-        let r6 = values_maybe_items o ++ r7 in
-        let r5 = values_maybe hv ++ r6 in
-        let r4 = values_maybe_expressions gb ++ r5 in
-        let r3 = values_maybe w ++ r4 in
-        let r2 = values_maybe_source s ++ r3 in
-        let r1 = values_expressions es ++ r2 in
-        two_counts n _ _ (values_distinct u) r1 (after_distinct-count n u)
-        (two_counts n1 _ _ (values_expressions es) r2 (after_expressions-count n1 es)
-        (two_counts n2 _ _ (values_maybe_source s) r3 (after_maybe_source-count n2 s)
-        (two_counts n3 _ _ (values_maybe w) r4 (after_maybe-count n3 w)
-        (two_counts n4 _ _ (values_maybe_expressions gb) r5 (after_maybe_expressions-count n4 gb)
-        (two_counts n5 _ _ (values_maybe hv) r6 (after_maybe-count n5 hv)
-        (two_counts n6 _ _ (values_maybe_items o) r7 (after_maybe_items-count n6 o)
-        (after_page-count n7 p)))))))
-    after_query-count n (Combined a by all b o p) =
-        two_counts n _ _ (values_query a) (values_query b ++ values_page p) (after_query-count n a)
-        (two_counts (after_query n a) _ _ (values_query b) (values_page p) (after_query-count (after_query n a) b)
-        (after_page-count (after_query (after_query n a) b) p))
+-- two lists, one after the other
+pub after-append : {M : Type 0} (n : ℕ) (xs ys : List M) → after n (xs ++ ys) ≡ after (after n xs) ys
+after-append n [] ys = refl
+after-append n (x ∷ xs) ys = after-append (suc n) xs ys
 
 -- ## What stands at each
 
@@ -160,7 +45,7 @@ back_at n a xs ys bs q h k m e =
     ap (slice_get bs) (let l : a + k ≡ n + (length xs + k) = omega arith in l)
     ∙ h (length xs + k) m (get-right xs ys k ∙ e)
 
--- a list and the list behind it, each where it stands
+-- a list and the list after it, each where it stands
 both_at : {M : Type 0} (n a : ℕ) (xs ys bs : List M) → a ≡ n + length xs → StandsAt n (xs ++ ys) bs
     → StandsAt n xs bs × StandsAt a ys bs
 both_at n a xs ys bs q h = (front_at n xs ys bs h, back_at n a xs ys bs q h)
@@ -199,8 +84,14 @@ module _ {M : Type 0} (bs : List M) where
   fills_page n (PageBy l o) h =
       rw (
         fills_option n l (front_at n (values_option l) (values_option o) bs h),
-        fills_option (after_option n l) o
-            (back_at n (after_option n l) (values_option l) (values_option o) bs (after_option-count n l) h),
+        fills_option (after n (values_option l)) o
+            (back_at n (after n (values_option l)) (values_option l) (values_option o) bs (after-count n (values_option l)) h),
+      )
+  fills_page n (FetchBy o l) h =
+      rw (
+        fills_option n o (front_at n (values_option o) (l ∷ []) bs h),
+        one_at (after n (values_option o)) l bs
+            (back_at n (after n (values_option o)) (values_option o) (l ∷ []) bs (after-count n (values_option o)) h),
       )
 
   mutual
@@ -212,19 +103,19 @@ module _ {M : Type 0} (bs : List M) where
     fills_expression n (Exists q) h = rw (fills_query n q h)
     fills_expression n (Compared by a b) h =
         let h1 =
-        back_at n (after_expression n a) (values_expression a) (values_expression b) bs (after_expression-count n a)
+        back_at n (after n (values_expression a)) (values_expression a) (values_expression b) bs (after-count n (values_expression a))
         h in
         rw (
           fills_expression n a (front_at n (values_expression a) (values_expression b) bs h),
-          fills_expression (after_expression n a) b h1,
+          fills_expression (after n (values_expression a)) b h1,
         )
     fills_expression n (Connected by a b) h =
         let h1 =
-        back_at n (after_expression n a) (values_expression a) (values_expression b) bs (after_expression-count n a)
+        back_at n (after n (values_expression a)) (values_expression a) (values_expression b) bs (after-count n (values_expression a))
         h in
         rw (
           fills_expression n a (front_at n (values_expression a) (values_expression b) bs h),
-          fills_expression (after_expression n a) b h1,
+          fills_expression (after n (values_expression a)) b h1,
         )
     fills_expression n (Not a) h = rw (fills_expression n a h)
     fills_expression n (NullTest k a) h = rw (fills_expression n a h)
@@ -232,22 +123,22 @@ module _ {M : Type 0} (bs : List M) where
     fills_expression n (Count a) h = rw (fills_expression n a h)
     fills_expression n (InList k a m ms) h =
         let h1 =
-        back_at n (after_expression n a) (values_expression a) ((m ∷ []) ++ values_marks ms) bs
-        (after_expression-count n a) h in
+        back_at n (after n (values_expression a)) (values_expression a) ((m ∷ []) ++ values_marks ms) bs
+        (after-count n (values_expression a)) h in
         let h2 =
-        back_at (after_expression n a) (suc (after_expression n a)) (m ∷ []) (values_marks ms) bs
-        (one_count (after_expression n a) m) h1 in
+        back_at (after n (values_expression a)) (suc (after n (values_expression a))) (m ∷ []) (values_marks ms) bs
+        (after-count (after n (values_expression a)) (m ∷ [])) h1 in
         rw (
           fills_expression n a (front_at n (values_expression a) ((m ∷ []) ++ values_marks ms) bs h),
-          one_at (after_expression n a) m bs (front_at (after_expression n a) (m ∷ []) (values_marks ms) bs h1),
-          fills_marks (suc (after_expression n a)) ms h2,
+          one_at (after n (values_expression a)) m bs (front_at (after n (values_expression a)) (m ∷ []) (values_marks ms) bs h1),
+          fills_marks (suc (after n (values_expression a))) ms h2,
         )
     fills_expression n (InQuery k a q) h =
         let h1 =
-        back_at n (after_expression n a) (values_expression a) (values_query q) bs (after_expression-count n a) h in
+        back_at n (after n (values_expression a)) (values_expression a) (values_query q) bs (after-count n (values_expression a)) h in
         rw (
           fills_expression n a (front_at n (values_expression a) (values_query q) bs h),
-          fills_query (after_expression n a) q h1,
+          fills_query (after n (values_expression a)) q h1,
         )
     fills_expression n (Constant k) h = refl
 
@@ -256,22 +147,22 @@ module _ {M : Type 0} (bs : List M) where
     fills_expressions n (OnlyExpression a) h = rw (fills_expression n a h)
     fills_expressions n (MoreExpression a more) h =
         let h1 =
-        back_at n (after_expression n a) (values_expression a) (values_expressions more) bs
-        (after_expression-count n a) h in
+        back_at n (after n (values_expression a)) (values_expression a) (values_expressions more) bs
+        (after-count n (values_expression a)) h in
         rw (
           fills_expression n a (front_at n (values_expression a) (values_expressions more) bs h),
-          fills_expressions (after_expression n a) more h1,
+          fills_expressions (after n (values_expression a)) more h1,
         )
 
     pub fills_items : (n : ℕ) (t : Items M) → StandsAt n (values_items t) bs → each_items at n t ≡ each_items self n t
     fills_items n (OnlyItem a by) h = rw (fills_expression n a h)
     fills_items n (MoreItem a by more) h =
         let h1 =
-        back_at n (after_expression n a) (values_expression a) (values_items more) bs (after_expression-count n a)
+        back_at n (after n (values_expression a)) (values_expression a) (values_items more) bs (after-count n (values_expression a))
         h in
         rw (
           fills_expression n a (front_at n (values_expression a) (values_items more) bs h),
-          fills_items (after_expression n a) more h1,
+          fills_items (after n (values_expression a)) more h1,
         )
 
     pub fills_source : (n : ℕ) (t : Source M) → StandsAt n (values_source t) bs
@@ -280,16 +171,16 @@ module _ {M : Type 0} (bs : List M) where
     fills_source n (Alias a ns b) h = refl
     fills_source n (Join k a b e) h =
         let h1 =
-        back_at n (after_source n a) (values_source a) (values_source b ++ values_expression e) bs
-        (after_source-count n a) h in
+        back_at n (after n (values_source a)) (values_source a) (values_source b ++ values_expression e) bs
+        (after-count n (values_source a)) h in
         let h2 =
-        back_at (after_source n a) (after_source (after_source n a) b) (values_source b) (values_expression e) bs
-        (after_source-count (after_source n a) b) h1 in
+        back_at (after n (values_source a)) (after (after n (values_source a)) (values_source b)) (values_source b) (values_expression e) bs
+        (after-count (after n (values_source a)) (values_source b)) h1 in
         rw (
           fills_source n a (front_at n (values_source a) (values_source b ++ values_expression e) bs h),
-          fills_source (after_source n a) b
-              (front_at (after_source n a) (values_source b) (values_expression e) bs h1),
-          fills_expression (after_source (after_source n a) b) e h2,
+          fills_source (after n (values_source a)) b
+              (front_at (after n (values_source a)) (values_source b) (values_expression e) bs h1),
+          fills_expression (after (after n (values_source a)) (values_source b)) e h2,
         )
 
     pub fills_maybe : (n : ℕ) (t : MaybeExpression M) → StandsAt n (values_maybe t) bs
@@ -320,13 +211,13 @@ module _ {M : Type 0} (bs : List M) where
 
     pub fills_query : (n : ℕ) (t : Query M) → StandsAt n (values_query t) bs → each_query at n t ≡ each_query self n t
     fills_query n (Select u es s w gb hv o p l) h =
-        let n1 = after_distinct n u in
-        let n2 = after_expressions n1 es in
-        let n3 = after_maybe_source n2 s in
-        let n4 = after_maybe n3 w in
-        let n5 = after_maybe_expressions n4 gb in
-        let n6 = after_maybe n5 hv in
-        let n7 = after_maybe_items n6 o in
+        let n1 = after n (values_distinct u) in
+        let n2 = after n1 (values_expressions es) in
+        let n3 = after n2 (values_maybe_source s) in
+        let n4 = after n3 (values_maybe w) in
+        let n5 = after n4 (values_maybe_expressions gb) in
+        let n6 = after n5 (values_maybe hv) in
+        let n7 = after n6 (values_maybe_items o) in
         let r7 = values_page p in
         let r6 = values_maybe_items o ++ r7 in
         let r5 = values_maybe hv ++ r6 in
@@ -334,13 +225,13 @@ module _ {M : Type 0} (bs : List M) where
         let r3 = values_maybe w ++ r4 in
         let r2 = values_maybe_source s ++ r3 in
         let r1 = values_expressions es ++ r2 in
-        let h1 = both_at n n1 (values_distinct u) r1 bs (after_distinct-count n u) h in
-        let h2 = both_at n1 n2 (values_expressions es) r2 bs (after_expressions-count n1 es) h1.1 in
-        let h3 = both_at n2 n3 (values_maybe_source s) r3 bs (after_maybe_source-count n2 s) h2.1 in
-        let h4 = both_at n3 n4 (values_maybe w) r4 bs (after_maybe-count n3 w) h3.1 in
-        let h5 = both_at n4 n5 (values_maybe_expressions gb) r5 bs (after_maybe_expressions-count n4 gb) h4.1 in
-        let h6 = both_at n5 n6 (values_maybe hv) r6 bs (after_maybe-count n5 hv) h5.1 in
-        let h7 = both_at n6 n7 (values_maybe_items o) r7 bs (after_maybe_items-count n6 o) h6.1 in
+        let h1 = both_at n n1 (values_distinct u) r1 bs (after-count n (values_distinct u)) h in
+        let h2 = both_at n1 n2 (values_expressions es) r2 bs (after-count n1 (values_expressions es)) h1.1 in
+        let h3 = both_at n2 n3 (values_maybe_source s) r3 bs (after-count n2 (values_maybe_source s)) h2.1 in
+        let h4 = both_at n3 n4 (values_maybe w) r4 bs (after-count n3 (values_maybe w)) h3.1 in
+        let h5 = both_at n4 n5 (values_maybe_expressions gb) r5 bs (after-count n4 (values_maybe_expressions gb)) h4.1 in
+        let h6 = both_at n5 n6 (values_maybe hv) r6 bs (after-count n5 (values_maybe hv)) h5.1 in
+        let h7 = both_at n6 n7 (values_maybe_items o) r7 bs (after-count n6 (values_maybe_items o)) h6.1 in
         rw (
           fills_distinct n u h1.0,
           fills_expressions n1 es h2.0,
@@ -353,13 +244,13 @@ module _ {M : Type 0} (bs : List M) where
         )
     fills_query n (Combined a by all b o p) h =
         let h1 =
-        back_at n (after_query n a) (values_query a) (values_query b ++ values_page p) bs (after_query-count n a)
+        back_at n (after n (values_query a)) (values_query a) (values_query b ++ values_page p) bs (after-count n (values_query a))
         h in
         let h2 =
-        back_at (after_query n a) (after_query (after_query n a) b) (values_query b) (values_page p) bs
-        (after_query-count (after_query n a) b) h1 in
+        back_at (after n (values_query a)) (after (after n (values_query a)) (values_query b)) (values_query b) (values_page p) bs
+        (after-count (after n (values_query a)) (values_query b)) h1 in
         rw (
           fills_query n a (front_at n (values_query a) (values_query b ++ values_page p) bs h),
-          fills_query (after_query n a) b (front_at (after_query n a) (values_query b) (values_page p) bs h1),
-          fills_page (after_query (after_query n a) b) p h2,
+          fills_query (after n (values_query a)) b (front_at (after n (values_query a)) (values_query b) (values_page p) bs h1),
+          fills_page (after (after n (values_query a)) (values_query b)) p h2,
         )

@@ -1,16 +1,16 @@
 -- The machine gives back the tree that the tokens were put together from.
-use Rattle.std.proofs.Common.{◌≡◌, ◌≤◌, List, [], ◌∷◌, Option, Some, None, Bool, true, false, refl, sym, ap, ◌∙◌, lit≤, arith, codes}
+use Rattle.std.proofs.Common.{◌≡◌, ◌≤◌, List, [], ◌∷◌, Option, Some, None, Bool, true, false, refl, ap, ◌∙◌, lit≤, arith, codes}
 use Rattle.sql_dialect.specs.declared.backend.Dialect.{Dialect}
-use Rattle.sql_dialect.specs.declared.backend.Dialect.TheVariants.{Pg, Mysql, Sqlite}
-use Rattle.sql_grammar.specs.Token.{Keyword, SELECT, DISTINCT, ON, FROM, WHERE, GROUP, BY, HAVING, ORDER, LIMIT, OFFSET, FOR, ALL, EXISTS, NOT, COUNT, Comparison, Equal, Token, Quoted, Word, Number, Sign, Open, Close, Comma, Dot, Star, Minus}
+use Rattle.sql_dialect.specs.declared.backend.Dialect.TheVariants.{Pg, Mysql, Sqlite, Bracket}
+use Rattle.sql_grammar.specs.Token.{Keyword, SELECT, DISTINCT, ON, FROM, WHERE, GROUP, BY, HAVING, ORDER, LIMIT, OFFSET, ONLY, ROWS, FETCH, NEXT, FOR, ALL, EXISTS, NOT, COUNT, Comparison, Equal, Token, Quoted, Word, Number, Sign, Open, Close, Comma, Dot, Star, Minus}
 use Rattle.sql_grammar.specs.Token as token
-use Rattle.sql_grammar.specs.MarkTree.{Mark, Logic, And, Or, Plain, SetOperator, Union, Intersect, Except, LockMode, ForUpdate, ForNoKeyUpdate, ForShare, ForKeyShare, LockWait, Waits, SkipLocked, NoWait, Lock, Unlocked, Locks, PageBy, MaybePlaces, NoPlaces, SomePlaces, Expression, Path, Placeholder, SingleValue, Exists, Compared, Connected, Not, NullTest, CountAll, Count, InList, InQuery, Constant, Expressions, OnlyExpression, MoreExpression, Items, OnlyItem, MoreItem, Source, Table, Alias, Join, MaybeExpression, NoExpression, SomeExpression, MaybeExpressions, NoExpressions, SomeExpressions, MaybeItems, NoItems, SomeItems, MaybeSource, NoSource, SomeSource, Distinctness, Every, Distinct, DistinctOn, Query, Select, Combined}
+use Rattle.sql_grammar.specs.MarkTree.{Mark, Logic, And, Or, Plain, SetOperator, Union, Intersect, Except, LockMode, ForUpdate, ForNoKeyUpdate, ForShare, ForKeyShare, LockWait, Waits, SkipLocked, NoWait, Lock, Unlocked, Locks, Page, PageBy, FetchBy, MaybePlaces, NoPlaces, SomePlaces, Expression, Path, Placeholder, SingleValue, Exists, Compared, Connected, Not, NullTest, CountAll, Count, InList, InQuery, Constant, Expressions, OnlyExpression, MoreExpression, Items, OnlyItem, MoreItem, Source, Table, Alias, Join, MaybeExpression, NoExpression, SomeExpression, MaybeExpressions, NoExpressions, SomeExpressions, MaybeItems, NoItems, SomeItems, MaybeSource, NoSource, SomeSource, Distinctness, Every, Distinct, DistinctOn, Query, Select, Combined}
 use Rattle.sql_grammar.specs.Grammar as r
 use Rattle.sql_grammar.proofs.Machine as m
 use Rattle.sql_grammar.proofs.Machine.{Item, Raw, E, Q, Listed, Row, Right, S, OnExpression, Waiting, Locking, Rest, Compares, Joins, IsNull, IsIn, IsInQuery, JoinsTo, Clauses, empty, Tail, Combines, Side, Stack, top, fold, tail_of}
-use Rattle.sql_grammar.proofs.Parts.{grouped-free, wait-free, names-law, behind, plain, expressions-back, items-back, direction-law, direction-calm, listed-calm, comma-items, row-items, push_direction, marked, marks-law, more_marks-back, first_mark-back, places-back, places-law, push_source, source-back, from-push, open-push, kind-law, table-law, alias-law}
+use Rattle.sql_grammar.proofs.Parts.{grouped-free, wait-free, names-law, behind, plain, expressions-back, items-back, direction-law, direction-calm, listed-calm, comma-items, row-items, push_direction, marked, marks-law, more_marks-back, first_mark-back, places-back, places-law, push_source, from-push, open-push, kind-law, table-law, alias-law}
 
--- Behind the tokens come these clauses, and then this stack. A list or a source may end before them.
+-- After the tokens come these clauses, and then this stack. A list or a source may end before them.
 pub record Ready (rest : List Token) (t : Clauses) (σ : Stack) : Type 0 where
   pub tail : tail_of (fold rest) ≡ (t, σ)
   pub calm : 4 ≤ top (fold rest)
@@ -61,25 +61,63 @@ unfolding m.fold m.step m.word m.limit_by m.limit_token r.no_limit
 no_limit-law Pg u = refl
 no_limit-law Mysql u = refl
 no_limit-law Sqlite u = refl
+no_limit-law Bracket u = refl
 
-offset-law : (t : Clauses) (o : Mark) (rest : List Token) (σ : Stack) → Ready rest t σ
-    → fold (Word OFFSET ∷ token.Mark o ∷ rest) ≡ Tail (record t { offset = Some o }) ∷ σ
-unfolding m.fold m.step m.word m.offset_by m.mark_in
-offset-law t o rest σ h = ap (λ (c : Clauses × Stack). Tail (record c.0 { offset = Some o }) ∷ c.1) h.tail
+offset-free : (o : Mark) (σ : Stack) → 4 ≤ top σ → m.offset_of o σ ≡ m.put_page (PageBy None (Some o)) (tail_of σ)
+unfolding m.offset_of m.top m.rank
+offset-free o [] h = refl
+offset-free o (m.Fetches l ∷ σ) h = absurd (omega arith)
+offset-free o (x ∷ σ) h = refl
 
-limit-law : (t : Clauses) (l : Mark) (rest : List Token) (σ : Stack) → Ready rest t σ
-    → fold (Word LIMIT ∷ token.Mark l ∷ rest) ≡ Tail (record t { limit = Some l }) ∷ σ
-unfolding m.fold m.step m.word m.limit_by m.mark_in
-limit-law t l rest σ h = ap (λ (c : Clauses × Stack). Tail (record c.0 { limit = Some l }) ∷ c.1) h.tail
+rows-free : (σ : Stack) → 4 ≤ top σ → m.rows σ ≡ σ
+unfolding m.rows m.top m.rank
+rows-free [] h = refl
+rows-free (m.OnlyLast ∷ σ) h = absurd (omega arith)
+rows-free (x ∷ σ) h = refl
 
-pub page-law : (d : Dialect) (t : Clauses) (l o : Option Mark) (rest : List Token) (σ : Stack)
-    → Ready rest (record t { limit = None; offset = None }) σ
-    → Ready (r.page d (PageBy l o) rest) (record t { limit = l; offset = o }) σ
-unfolding r.page
-page-law d t None None rest σ h = h
-page-law d t None (Some o) rest σ h = ready _ (no_limit-law d _ ∙ offset-law _ o rest σ h)
-page-law d t (Some l) None rest σ h = ready _ (limit-law _ l rest σ h)
-page-law d t (Some l) (Some o) rest σ h = ready _ (limit-law _ l _ σ (ready _ (offset-law _ o rest σ h)))
+only-free : (σ : Stack) → 4 ≤ top σ → m.only σ ≡ m.OnlyLast ∷ σ
+unfolding m.only m.top m.rank
+only-free [] h = refl
+only-free (E e ∷ σ) h = absurd (omega arith)
+only-free (x ∷ σ) h = refl
+
+rows-law : (d : Dialect) (rest : List Token) → 4 ≤ top (fold rest) → fold (r.rows d rest) ≡ fold rest
+unfolding m.fold m.step m.word r.rows
+rows-law Pg rest h = refl
+rows-law Mysql rest h = refl
+rows-law Sqlite rest h = refl
+rows-law Bracket rest h = rows-free (fold rest) h
+
+offset-law : (d : Dialect) (t : Clauses) (o : Mark) (rest : List Token) (σ : Stack) → Ready rest t σ
+    → fold (Word OFFSET ∷ token.Mark o ∷ r.rows d rest) ≡ Tail (record t { page = PageBy None (Some o) }) ∷ σ
+unfolding m.fold m.step m.word m.offset_by m.mark_in m.put_page
+offset-law d t o rest σ h =
+    ap (m.offset_of o) (rows-law d rest h.calm) ∙ offset-free o (fold rest) h.calm
+    ∙ ap (m.put_page (PageBy None (Some o))) h.tail
+
+limit-law : (t : Clauses) (l : Mark) (o : Option Mark) (rest : List Token) (σ : Stack)
+    → Ready rest (record t { page = PageBy None o }) σ
+    → fold (Word LIMIT ∷ token.Mark l ∷ rest) ≡ Tail (record t { page = PageBy (Some l) o }) ∷ σ
+unfolding m.fold m.step m.word m.limit_by m.mark_in m.put_limit m.offset_in
+limit-law t l o rest σ h = ap (m.put_limit l) h.tail
+
+fetch-law : (l : Mark) (rest : List Token) → 4 ≤ top (fold rest) → fold (r.fetch l rest) ≡ m.Fetches l ∷ fold rest
+unfolding m.fold m.step m.word m.rows m.fetch m.mark_in r.fetch
+fetch-law l rest h = ap (λ τ. m.rows (m.fetch (E (Placeholder l) ∷ m.rows τ))) (only-free (fold rest) h)
+
+pub page-law : (d : Dialect) (t : Clauses) (p : Page) (rest : List Token) (σ : Stack)
+    → Ready rest (record t { page = PageBy None None }) σ → Ready (r.page d p rest) (record t { page = p }) σ
+unfolding r.page m.fold m.step m.word m.offset_by m.offset_of m.no_offset m.mark_in m.put_page r.rows
+page-law d t (PageBy None None) rest σ h = h
+page-law d t (PageBy None (Some o)) rest σ h = ready _ (no_limit-law d _ ∙ offset-law d _ o rest σ h)
+page-law d t (PageBy (Some l) None) rest σ h = ready _ (limit-law t l None rest σ h)
+page-law d t (PageBy (Some l) (Some o)) rest σ h =
+    let u = Word OFFSET ∷ token.Mark o ∷ rest in
+    ready _ (limit-law t l (Some o) u σ (ready u (offset-law Pg _ o rest σ h)))
+page-law d t (FetchBy None l) rest σ h =
+    ready _ (ap m.no_offset (fetch-law l rest h.calm) ∙ ap (m.put_page (FetchBy None l)) h.tail)
+page-law d t (FetchBy (Some o) l) rest σ h =
+    ready _ (ap (m.offset_of o) (fetch-law l rest h.calm) ∙ ap (m.put_page (FetchBy (Some o) l)) h.tail)
 
 pub by_places-law : (t : Clauses) (o : MaybePlaces) (rest : List Token) (σ : Stack)
     → Ready rest (record t { places = NoPlaces }) σ → Ready (r.by_places o rest) (record t { places = o }) σ
@@ -91,17 +129,19 @@ by_places-law t (SomePlaces ps) rest σ h =
     ∙ ap (λ (c : Clauses × Stack). Tail (record c.0 { places = SomePlaces ps }) ∷ c.1) h.tail)
 
 -- sides of a combination
-side_of : Dialect → Stack → Stack
+unfoldable pub side_of : Dialect → Stack → Stack
 side_of Pg σ = σ
 side_of Mysql σ = σ
+side_of Bracket σ = σ
 side_of Sqlite σ = m.select (Raw Star ∷ m.from σ)
 
-side-law : (d : Dialect) (q : Query) (rest : List Token)
+pub side-law : (d : Dialect) (q : Query) (rest : List Token)
     → fold (r.query d q (Close ∷ rest)) ≡ Q q ∷ Raw Close ∷ fold rest
     → fold (r.side_open d (r.query d q (Close ∷ rest))) ≡ side_of d (m.grouped q (fold rest))
 unfolding m.fold m.step m.word m.open_bracket m.open_query r.side_open side_of
 side-law Pg q rest h = ap m.open_bracket h
 side-law Mysql q rest h = ap m.open_bracket h
+side-law Bracket q rest h = ap m.open_bracket h
 side-law Sqlite q rest h = ap (λ σ. m.select (Raw Star ∷ m.from (m.open_bracket σ))) h
 
 side-query : (d : Dialect) (q : Query) (σ : Stack) → side_of d (Q q ∷ σ) ≡ Q q ∷ σ
@@ -109,6 +149,7 @@ unfolding m.select m.select_star m.from side_of
 side-query Pg q σ = refl
 side-query Mysql q σ = refl
 side-query Sqlite q σ = refl
+side-query Bracket q σ = refl
 
 combines-law : (by : SetOperator) (u : List Token) → fold (r.operator by ∷ u) ≡ m.combines by (fold u)
 unfolding m.fold m.step m.word r.operator
@@ -122,12 +163,14 @@ unfolding m.fold m.step m.word m.combines m.all_or_not m.select m.select_star m.
 all-law Pg by false q u σ h = ap (m.combines by) h
 all-law Pg by true q u σ h = ap (λ τ. m.combines by (Raw (Word ALL) ∷ τ)) h
 all-law Mysql by false q u σ h = ap (m.combines by) h
+all-law Bracket by false q u σ h = ap (m.combines by) h
 all-law Mysql by true q u σ h = ap (λ τ. m.combines by (Raw (Word ALL) ∷ τ)) h
+all-law Bracket by true q u σ h = ap (λ τ. m.combines by (Raw (Word ALL) ∷ τ)) h
 all-law Sqlite by false q u σ h = ap (m.combines by) h
 all-law Sqlite by true q u σ h = ap (λ τ. m.combines by (Raw (Word ALL) ∷ τ)) h
 
 combined-law : (q : Query) (by : SetOperator) (all : Bool) (b : Query) (t : Clauses) (σ τ : Stack) → tail_of τ ≡ (t, σ)
-    → m.grouped q (Combines by all b ∷ τ) ≡ Q (Combined q by all b t.places (PageBy t.limit t.offset)) ∷ σ
+    → m.grouped q (Combines by all b ∷ τ) ≡ Q (Combined q by all b t.places t.page) ∷ σ
 unfolding m.grouped m.combined
 combined-law q by all b t σ τ h = ap (m.combined q by all b) h
 
@@ -149,7 +192,9 @@ unfolding m.fold m.step m.word m.sign m.sign_token m.in_row m.negated m.not_of m
 among-row Pg false is u σ h = ap (m.in_row false) h
 among-row Pg true is u σ h = ap (m.in_row true) h
 among-row Mysql false is u σ h = ap (m.in_row false) h
+among-row Bracket false is u σ h = ap (m.in_row false) h
 among-row Mysql true is u σ h = ap (λ τ. m.not_of (m.in_row false τ)) h
+among-row Bracket true is u σ h = ap (λ τ. m.not_of (m.in_row false τ)) h
 among-row Sqlite false is u σ h = ap (m.in_row false) h
 among-row Sqlite true is u σ h = ap (λ τ. m.not_of (m.in_row false τ)) h
 
@@ -159,7 +204,9 @@ unfolding m.fold m.step m.word m.sign m.sign_token m.in_row m.in_query m.query_i
 among-query Pg false q u σ h = ap (m.in_row false) h
 among-query Pg true q u σ h = ap (m.in_row true) h
 among-query Mysql false q u σ h = ap (m.in_row false) h
+among-query Bracket false q u σ h = ap (m.in_row false) h
 among-query Mysql true q u σ h = ap (λ τ. m.not_of (m.in_row false τ)) h
+among-query Bracket true q u σ h = ap (λ τ. m.not_of (m.in_row false τ)) h
 among-query Sqlite false q u σ h = ap (m.in_row false) h
 among-query Sqlite true q u σ h = ap (λ τ. m.not_of (m.in_row false τ)) h
 
@@ -182,7 +229,7 @@ right-calm : (x : Rest) (σ : Stack) → 1 ≤ top (Right x ∷ σ)
 unfolding m.top m.rank
 right-calm x σ = lit≤ tt
 
-close-calm : (rest : List Token) → 4 ≤ top (fold (Close ∷ rest))
+pub close-calm : (rest : List Token) → 4 ≤ top (fold (Close ∷ rest))
 unfolding m.fold m.step m.top m.rank
 close-calm rest = lit≤ tt
 
@@ -242,7 +289,7 @@ from-law t s u rest σ h g =
     ∙ ap (λ (c : Clauses × Stack). Tail (record c.0 { source = SomeSource s }) ∷ c.1) h.tail)
 
 -- a selection
-on-law : (es : Expressions) (u rest : List Token)
+pub on-law : (es : Expressions) (u rest : List Token)
     → fold u ≡ E (m.first (plain es)) ∷ behind (plain es) (fold (Close ∷ rest))
     → fold (Word DISTINCT ∷ Word ON ∷ Open ∷ u) ≡ m.Distinctly (DistinctOn es) ∷ fold rest
 unfolding m.fold m.step m.word m.on m.distinctly
@@ -257,16 +304,16 @@ plain-distinct e σ u h = ap m.distinctly h
 
 select-items : (u : Distinctness) (es : Expressions) (t : Clauses) (σ τ : Stack) → 3 ≤ top τ → tail_of τ ≡ (t, σ) →
     m.select_from u (E (m.first (plain es)) ∷ behind (plain es) τ)
-    ≡ Q (Select u es t.source t.filter t.group t.having t.order (PageBy t.limit t.offset) t.lock) ∷ σ
+    ≡ Q (Select u es t.source t.filter t.group t.having t.order t.page t.lock) ∷ σ
 unfolding m.select_from m.select_list
 select-items u es t σ τ c h =
     ap (m.select_list u) (items-back (plain es) τ c)
     ∙ ap
     (λ (x : Clauses × Stack). Q (Select u (m.expressions_of (plain es)) x.0.source x.0.filter x.0.group x.0.having
-    x.0.order (PageBy x.0.limit x.0.offset) x.0.lock)
+    x.0.order x.0.page x.0.lock)
     ∷ x.1)
     h
-    ∙ ap (λ xs. Q (Select u xs t.source t.filter t.group t.having t.order (PageBy t.limit t.offset) t.lock) ∷ σ)
+    ∙ ap (λ xs. Q (Select u xs t.source t.filter t.group t.having t.order t.page t.lock) ∷ σ)
     (expressions-back es)
 
 select-distinct : (u : Distinctness) (e : Expression) (σ : Stack) (v : List Token) → fold v ≡ m.Distinctly u ∷ E e ∷ σ
@@ -453,25 +500,25 @@ module _ (d : Dialect) where
         ∙ ap (λ τ. m.Distinctly (DistinctOn es) ∷ τ) h)
 
     pub query-law : (q : Query) (rest : List Token) → Ends rest → fold (r.query d q rest) ≡ Q q ∷ fold rest
-    query-law (Select u es f w g h o (PageBy l k) x) rest ends =
+    query-law (Select u es f w g h o p x) rest ends =
         let σ = fold rest in
         let t1 = lock-law x rest ends in
-        let t2 = page-law d (record empty { lock = x }) l k _ σ t1 in
-        let t3 = order-ready o (record empty { lock = x; limit = l; offset = k }) _ σ t2 in
-        let t4 = having-ready h (record empty { lock = x; limit = l; offset = k; order = o }) _ σ t3 in
-        let t5 = group-ready g (record empty { lock = x; limit = l; offset = k; order = o; having = h }) _ σ t4 in
+        let t2 = page-law d (record empty { lock = x }) p _ σ t1 in
+        let t3 = order-ready o (record empty { lock = x; page = p }) _ σ t2 in
+        let t4 = having-ready h (record empty { lock = x; page = p; order = o }) _ σ t3 in
+        let t5 = group-ready g (record empty { lock = x; page = p; order = o; having = h }) _ σ t4 in
         let t6 =
-        where-ready w (record empty { lock = x; limit = l; offset = k; order = o; having = h; group = g }) _ σ t5 in
+        where-ready w (record empty { lock = x; page = p; order = o; having = h; group = g }) _ σ t5 in
         let t7 =
         from-ready f
-        (record empty { lock = x; limit = l; offset = k; order = o; having = h; group = g; filter = w }) _ σ
+        (record empty { lock = x; page = p; order = o; having = h; group = g; filter = w }) _ σ
         t6 in
         selection-law u (m.first (plain es)) _ _ (expressions-law es _ (omega (arith, t7.calm)))
         ∙ select-items u es _ σ _ (omega (arith, t7.calm)) t7.tail
-    query-law (Combined a by all b o (PageBy l k)) rest ends =
+    query-law (Combined a by all b o p) rest ends =
         let σ = fold rest in
-        let t1 = page-law d empty l k rest σ ends in
-        let t2 = by_places-law (record empty { limit = l; offset = k }) o _ σ t1 in
+        let t1 = page-law d empty p rest σ ends in
+        let t2 = by_places-law (record empty { page = p }) o _ σ t1 in
         let c1 =
         side-law d b _ (query-law b (Close ∷ _) (ends-close _))
         ∙ ap (side_of d) (grouped-free b _ (omega (arith, t2.calm))) in
@@ -479,38 +526,9 @@ module _ (d : Dialect) where
         side-law d a _ (query-law a (Close ∷ _) (ends-close _)) ∙ ap (λ τ. side_of d (m.grouped a τ)) c2
         ∙ ap (side_of d) (combined-law a by all b _ σ _ t2.tail) ∙ side-query d _ σ
 
--- What was put together from tokens is read back from them.
-pub one-query : (d : Dialect) (tokens : List Token) (a b : Query) → r.Reads d tokens a → r.Reads d tokens b → a ≡ b
-one-query d tokens a b x y =
-    let p = query-law d a [] ends-empty in
-    let q = query-law d b [] ends-empty in
-    let v = x.1 in
-    let w = y.1 in
-    cc
-
-empty-calm : 4 ≤ top (fold [])
+pub empty-calm : 4 ≤ top (fold [])
 unfolding m.fold m.top
 empty-calm = lit≤ tt
-
-pub one-expression : (d : Dialect) (tokens : List Token) (a b : Expression) → r.ReadsExpression d tokens a
-    → r.ReadsExpression d tokens b → a ≡ b
-one-expression d tokens a b x y =
-    let p = expression-law d a [] (omega (arith, empty-calm)) in
-    let q = expression-law d b [] (omega (arith, empty-calm)) in
-    let v = x.1 in
-    let w = y.1 in
-    cc
-
-pub one-source : (d : Dialect) (tokens : List Token) (a b : Source) → r.ReadsSource d tokens a
-    → r.ReadsSource d tokens b → a ≡ b
-one-source d tokens a b x y =
-    let p = source-back a (fold []) empty-calm in
-    let q = source-back b (fold []) empty-calm in
-    let u = source-law d a [] empty-calm in
-    let v = source-law d b [] empty-calm in
-    let e : m.source_of (fold tokens) ≡ (a, fold []) = ap (λ ts. m.source_of (fold ts)) x.1 ∙ ap m.source_of u ∙ p in
-    let g : m.source_of (fold tokens) ≡ (b, fold []) = ap (λ ts. m.source_of (fold ts)) y.1 ∙ ap m.source_of v ∙ q in
-    ap (λ (p : Source × Stack). p.0) (sym e ∙ g)
 
 -- Where there is a reading, the machine finds it.
 pub found : (d : Dialect) (tokens : List Token) (q : Query) → r.Reads d tokens q → m.candidate tokens ≡ Some q

@@ -1,4 +1,4 @@
--- What the machine makes of parts without recursion, and of what stands behind a part.
+-- What the machine makes of parts without recursion, and of what stands after a part.
 use Rattle.std.proofs.Common.{◌≡◌, ℕ, ◌≤◌, List, [], ◌∷◌, Option, Some, None, Bool, true, false, refl, ap, ◌∙◌, lit≤, arith}
 use Rattle.sql_grammar.specs.Token.{AS, Token, Quoted, Word, Number, Close, Comma}
 use Rattle.sql_grammar.specs.MarkTree.{Mark, Name, Direction, Plain, Ascending, Descending, JoinKind, Inner, LeftOuter, SampleMethod, Bernoulli, System, Waits, Sample, Whole, Sampled, Places, OnlyPlace, MorePlace, Expression, Path, Placeholder, SingleValue, Expressions, OnlyExpression, MoreExpression, Items, OnlyItem, MoreItem, Source, Table, Alias, Join, Query}
@@ -6,7 +6,7 @@ use Rattle.sql_grammar.specs.Grammar as r
 use Rattle.sql_grammar.proofs.Machine as m
 use Rattle.sql_grammar.proofs.Machine.{Item, Raw, Dotted, E, Listed, Numbered, Ordered, Row, Right, S, AliasAs, SampledBy, Seeded, OnExpression, Waiting, Rest, JoinsTo, Clauses, empty, Tail, Combines, Side, Stack, top, fold}
 
--- Where nothing that belongs to it stands behind a part, the part ends.
+-- Where nothing that belongs to it stands after a part, the part ends.
 pub quoted-free : (a : Name) (σ : Stack) → 1 ≤ top σ → m.quoted a σ ≡ E (Path a []) ∷ σ
 unfolding m.quoted m.top m.rank
 quoted-free a [] h = refl

@@ -7,7 +7,8 @@ use Rattle.sql_grammar.specs.Fits.{FitsQuery}
 use Rattle.sql_grammar.specs.MarkTree.{Query}
 use Rattle.sql_grammar.specs.Text.{text}
 use Rattle.sql_grammar.specs.Reading.{IsReading, OnlyReading}
-use Rattle.sql_grammar.proofs.OneReading.{one-query}
+use Rattle.sql_grammar.specs.Kinds as kind
+use Rattle.sql_grammar.proofs.EveryKind.{one-tree}
 use Rattle.sql_grammar.proofs.TextLaws.{written}
 
 some_back : List Token → Option (List Token) → List Token
@@ -17,7 +18,8 @@ some_back x (Some y) = y
 -- No text has two readings.
 pub one-text : (d : Dialect) (t : List ℕ) (a b : Query) → IsReading d t a → IsReading d t b → a ≡ b
 unfolding some_back
-one-text d t a b x y = one-query d x.0 a b x.2 (subst (λ ts. Reads d ts b) (ap (some_back x.0) (sym y.1 ∙ x.1)) y.2)
+one-text d t a b x y =
+    one-tree d kind.Query x.0 a b x.2 (subst (λ ts. Reads d ts b) (ap (some_back x.0) (sym y.1 ∙ x.1)) y.2)
 
 -- Where a tree is a reading, it is the only one.
 pub only : (d : Dialect) (t : List ℕ) (q : Query) → IsReading d t q → OnlyReading d t q

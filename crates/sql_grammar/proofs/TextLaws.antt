@@ -2,10 +2,10 @@
 use Rattle.std.proofs.Common.{◌≡◌, ℕ, ◌+◌, List, [], ◌∷◌, ◌++◌, Option, Some, None, Bool, true, false, refl, sym, ap, arith, codes, add-one}
 use Rattle.std.specs.Fmt.{decimal}
 use Rattle.sql_dialect.specs.declared.backend.Dialect.{Dialect}
-use Rattle.sql_dialect.specs.declared.backend.Dialect.TheVariants.{Pg, Mysql, Sqlite}
-use Rattle.sql_grammar.specs.Token.{Comparison, Equal, NotEqual, Keyword, SELECT, DISTINCT, ON, FROM, WHERE, GROUP, BY, HAVING, ORDER, ASC, DESC, LIMIT, OFFSET, FOR, UPDATE, SHARE, NO, KEY, SKIP, LOCKED, NOWAIT, ALL, AS, ONLY, TABLESAMPLE, BERNOULLI, SYSTEM, REPEATABLE, INNER, LEFT, OUTER, JOIN, EXISTS, AND, OR, NOT, IS, NULL, COUNT, ANY, IN, UNION, INTERSECT, EXCEPT, Token, Quoted, Word, Number, Sign, Open, Close, Comma, Dot, Star, Minus}
+use Rattle.sql_dialect.specs.declared.backend.Dialect.TheVariants.{Pg, Mysql, Sqlite, Bracket}
+use Rattle.sql_grammar.specs.Token.{Comparison, Equal, NotEqual, Keyword, SELECT, DISTINCT, ON, FROM, WHERE, GROUP, BY, HAVING, ORDER, ASC, DESC, LIMIT, OFFSET, FOR, UPDATE, SHARE, NO, KEY, SKIP, LOCKED, NOWAIT, ALL, AS, ONLY, TABLESAMPLE, BERNOULLI, SYSTEM, REPEATABLE, INNER, LEFT, OUTER, JOIN, EXISTS, AND, OR, NOT, IS, NULL, COUNT, ANY, IN, ROWS, FETCH, NEXT, UNION, INTERSECT, EXCEPT, Token, Quoted, Word, Number, Sign, Open, Close, Comma, Dot, Star, Minus}
 use Rattle.sql_grammar.specs.Token as token
-use Rattle.sql_grammar.specs.MarkTree.{Mark, Name, Logic, And, Or, Direction, Plain, Ascending, Descending, JoinKind, Inner, LeftOuter, SetOperator, Union, Intersect, Except, PageBy, Bernoulli, System, ForUpdate, ForNoKeyUpdate, ForShare, ForKeyShare, LockWait, Waits, SkipLocked, NoWait, Lock, Unlocked, Locks, Sample, Whole, Sampled, Places, OnlyPlace, MorePlace, MaybePlaces, NoPlaces, SomePlaces, Expression, Path, Placeholder, SingleValue, Exists, Compared, Connected, Not, NullTest, CountAll, Count, InList, InQuery, Constant, Expressions, OnlyExpression, MoreExpression, Items, OnlyItem, MoreItem, Source, Table, Alias, Join, MaybeExpression, NoExpression, SomeExpression, MaybeExpressions, NoExpressions, SomeExpressions, MaybeItems, NoItems, SomeItems, MaybeSource, NoSource, SomeSource, Distinctness, Every, Distinct, DistinctOn, Query, Select, Combined}
+use Rattle.sql_grammar.specs.MarkTree.{Mark, Name, Logic, And, Or, Direction, Plain, Ascending, Descending, JoinKind, Inner, LeftOuter, SetOperator, Union, Intersect, Except, Page, PageBy, FetchBy, Bernoulli, System, ForUpdate, ForNoKeyUpdate, ForShare, ForKeyShare, LockWait, Waits, SkipLocked, NoWait, Lock, Unlocked, Locks, Sample, Whole, Sampled, Places, OnlyPlace, MorePlace, MaybePlaces, NoPlaces, SomePlaces, Expression, Path, Placeholder, SingleValue, Exists, Compared, Connected, Not, NullTest, CountAll, Count, InList, InQuery, Constant, Expressions, OnlyExpression, MoreExpression, Items, OnlyItem, MoreItem, Source, Table, Alias, Join, MaybeExpression, NoExpression, SomeExpression, MaybeExpressions, NoExpressions, SomeExpressions, MaybeItems, NoItems, SomeItems, MaybeSource, NoSource, SomeSource, Distinctness, Every, Distinct, DistinctOn, Query, Select, Combined}
 use Rattle.sql_grammar.specs.Numbering.{mark_of}
 use Rattle.sql_grammar.specs.Fits as f
 use Rattle.sql_grammar.specs.Grammar as r
@@ -15,7 +15,7 @@ use Rattle.sql_grammar.specs.Spelling as spell
 use Rattle.sql_grammar.specs.Spelling.{spelling}
 use Rattle.sql_grammar.specs.Tokens as lex
 use Rattle.sql_grammar.specs.Tokens.{State, AfterQuote, InWord, InNumber, InPlaceholder, Breaks}
-use Rattle.sql_grammar.proofs.TokenLaws.{Has, Stops, not_quote, quoted-law, word-law, space, opening, closing, comma, dot, star, minus, equals, sign-law, mark-digits, question-mysql, question-sqlite, number, decimal-numeral}
+use Rattle.sql_grammar.proofs.TokenLaws.{Has, Stops, not_quote, quoted-law, word-law, space, opening, closing, comma, dot, star, minus, equals, sign-law, mark-digits, at-digits, question-mysql, question-sqlite, number, decimal-numeral}
 
 abbrev pub BreaksAt : List ℕ → Type 0
 BreaksAt [] = Unit {0}
@@ -28,19 +28,19 @@ pub record Both (d : Dialect) (text : List ℕ) (ts : List Token) : Type 0 where
 
 at-32 : Breaks 32
 unfolding spell.is_letter spell.is_digit
-at-32 = record { letter = refl; digit = refl; equal = refl; double = refl; back = refl }
+at-32 = record { letter = refl; digit = refl; equal = refl; double = refl; back = refl; square = refl }
 
 at-41 : Breaks 41
 unfolding spell.is_letter spell.is_digit
-at-41 = record { letter = refl; digit = refl; equal = refl; double = refl; back = refl }
+at-41 = record { letter = refl; digit = refl; equal = refl; double = refl; back = refl; square = refl }
 
 at-44 : Breaks 44
 unfolding spell.is_letter spell.is_digit
-at-44 = record { letter = refl; digit = refl; equal = refl; double = refl; back = refl }
+at-44 = record { letter = refl; digit = refl; equal = refl; double = refl; back = refl; square = refl }
 
 at-46 : Breaks 46
 unfolding spell.is_letter spell.is_digit
-at-46 = record { letter = refl; digit = refl; equal = refl; double = refl; back = refl }
+at-46 = record { letter = refl; digit = refl; equal = refl; double = refl; back = refl; square = refl }
 
 stops-name : (d : Dialect) (n rest : List ℕ) → BreaksAt rest → Stops d (AfterQuote n) rest
 unfolding lex.extended
@@ -62,7 +62,7 @@ unfolding lex.extended
 stops-number d n [] b = tt
 stops-number d n (c ∷ cs) b = rw b.digit refl
 
--- a space, a closing bracket or a comma in front
+-- a space, a closing bracket or a comma before the rest
 spaced : (d : Dialect) (rest : List ℕ) (ts : List Token) → Has d rest ts → Both d (32 ∷ rest) ts
 spaced d rest ts h = record { has = space d rest ts h; breaks = at-32 }
 
@@ -72,7 +72,7 @@ closed d rest ts h = record { has = closing d rest ts h; breaks = at-41 }
 separated : (d : Dialect) (rest : List ℕ) (ts : List Token) → Has d rest ts → Both d (44 ∷ 32 ∷ rest) (Comma ∷ ts)
 separated d rest ts h = record { has = comma d (32 ∷ rest) ts (space d rest ts h); breaks = at-44 }
 
--- a word in front, with a space or a bracket behind it, or where the text breaks
+-- a word, with a space or a bracket after it, or where the text breaks
 word : (d : Dialect) (k : Keyword) (rest : List ℕ) (ts : List Token) → Has d rest ts
     → Has d (spelling k ++ 32 ∷ rest) (Word k ∷ ts)
 unfolding lex.extended spell.is_letter
@@ -101,7 +101,7 @@ names-text d a [] rest ts h = quoted-text d a rest ts h
 names-text d a (b ∷ bs) rest ts h = quoted-text d a _ _ (dotted d _ _ (names-text d b bs rest ts h))
 
 mark-text : (d : Dialect) (p : Mark) (rest : List ℕ) (ts : List Token) → f.FitsMark d p → Both d rest ts
-    → Has d (x.mark p rest) (token.Mark p ∷ ts)
+    → Has d (x.mark d p rest) (token.Mark p ∷ ts)
 unfolding x.mark
 mark-text Pg None rest ts k h = absurd k
 mark-text Pg (Some n) rest ts k h = mark-digits n rest ts k.0 k.1 (stops-mark Pg (decimal n) rest h.breaks) h.has
@@ -109,9 +109,12 @@ mark-text Mysql None rest ts k h = question-mysql rest ts h.has
 mark-text Mysql (Some n) rest ts k h = absurd k
 mark-text Sqlite None rest ts k h = question-sqlite rest ts h.has
 mark-text Sqlite (Some n) rest ts k h = absurd k
+mark-text Bracket None rest ts k h = absurd k
+mark-text Bracket (Some n) rest ts k h =
+    at-digits n rest ts k.0 k.1 (stops-mark Bracket (decimal n) rest h.breaks) h.has
 
 marks-text : (d : Dialect) (p : Mark) (ps : List Mark) (rest : List ℕ) (ts : List Token) → f.FitsMark d p
-    → f.FitsMarks d ps → Both d rest ts → Has d (x.marks p ps rest) (r.marks p ps ts)
+    → f.FitsMarks d ps → Both d rest ts → Has d (x.marks d p ps rest) (r.marks p ps ts)
 unfolding x.marks r.marks
 marks-text d p [] rest ts k ks h = mark-text d p rest ts k h
 marks-text d p (n ∷ ns) rest ts k ks h = mark-text d p _ _ k (separated d _ _ (marks-text d n ns rest ts ks.0 ks.1 h))
@@ -142,6 +145,9 @@ among-text Pg false rest ts h = spaced Pg _ _ (sign-law Pg Equal _ _ (word-open 
 among-text Pg true rest ts h = spaced Pg _ _ (sign-law Pg NotEqual _ _ (word-open Pg ALL rest ts h))
 among-text Mysql false rest ts h = spaced Mysql _ _ (word Mysql IN _ _ (opening Mysql rest ts h))
 among-text Mysql true rest ts h = spaced Mysql _ _ (word Mysql NOT _ _ (word Mysql IN _ _ (opening Mysql rest ts h)))
+among-text Bracket false rest ts h = spaced Bracket _ _ (word Bracket IN _ _ (opening Bracket rest ts h))
+among-text Bracket true rest ts h =
+    spaced Bracket _ _ (word Bracket NOT _ _ (word Bracket IN _ _ (opening Bracket rest ts h)))
 among-text Sqlite false rest ts h = spaced Sqlite _ _ (word Sqlite IN _ _ (opening Sqlite rest ts h))
 among-text Sqlite true rest ts h =
     spaced Sqlite _ _ (word Sqlite NOT _ _ (word Sqlite IN _ _ (opening Sqlite rest ts h)))
@@ -166,14 +172,14 @@ kind-text d Inner rest ts h = spaced d _ _ (word d INNER _ _ (word d JOIN rest t
 kind-text d LeftOuter rest ts h = spaced d _ _ (word d LEFT _ _ (word d OUTER _ _ (word d JOIN rest ts h)))
 
 seed-text : (d : Dialect) (s : Option Mark) (rest : List ℕ) (ts : List Token) → f.FitsMaybeMark d s → Both d rest ts
-    → Both d (x.seed s rest) (r.seed s ts)
+    → Both d (x.seed d s rest) (r.seed s ts)
 unfolding x.seed r.seed spell.spelling
 seed-text d None rest ts k h = h
 seed-text d (Some p) rest ts k h =
     spaced d _ _ (word-open d REPEATABLE _ _ (mark-text d p _ _ k (closed d rest ts h.has)))
 
 sample-text : (d : Dialect) (s : Sample) (rest : List ℕ) (ts : List Token) → f.FitsSample d s → Both d rest ts
-    → Both d (x.sample s rest) (r.sample s ts)
+    → Both d (x.sample d s rest) (r.sample s ts)
 unfolding x.sample x.method r.sample r.method spell.spelling
 sample-text d Whole rest ts k h = h
 sample-text d (Sampled Bernoulli p s) rest ts k h =
@@ -191,25 +197,49 @@ unfolding x.only r.only spell.spelling
 only-text d false rest ts h = h
 only-text d true rest ts h = space d _ _ (word d ONLY rest ts h)
 
-page-text : (d : Dialect) (limit offset : Option Mark) (rest : List ℕ) (ts : List Token) → f.FitsMaybeMark d limit
-    → f.FitsMaybeMark d offset → Both d rest ts
-    → Both d (x.page d (PageBy limit offset) rest) (r.page d (PageBy limit offset) ts)
-unfolding x.page r.page r.no_limit spell.spelling lex.extended spell.is_digit spell.all_digits
-page-text Pg None None rest ts j k h = h
-page-text Mysql None None rest ts j k h = h
-page-text Sqlite None None rest ts j k h = h
-page-text Pg None (Some o) rest ts j k h = spaced Pg _ _ (word Pg OFFSET _ _ (mark-text Pg o rest ts k h))
-page-text Mysql None (Some o) rest ts j k h =
+fetch-text : (l : Mark) (rest : List ℕ) (ts : List Token) → f.FitsMark Bracket l → Both Bracket rest ts
+    → Both Bracket (x.fetch Bracket l rest) (r.fetch l ts)
+unfolding x.fetch r.fetch spell.spelling
+fetch-text l rest ts k h =
+    let last = spaced Bracket _ _ (word Bracket ROWS _ _ (word-end Bracket ONLY rest ts h)) in
+    spaced Bracket _ _
+    (word Bracket ROWS _ _ (word Bracket FETCH _ _ (word Bracket NEXT _ _ (mark-text Bracket l _ _ k last))))
+
+limit-text : (d : Dialect) (l : Mark) (o : Option Mark) (rest : List ℕ) (ts : List Token) → f.FitsMark d l
+    → f.FitsMaybeMark d o → f.NotBracket d → Both d rest ts
+    → Both d (x.page d (PageBy (Some l) o) rest) (r.page d (PageBy (Some l) o) ts)
+unfolding x.page r.page r.rows spell.spelling
+limit-text d l None rest ts j k b h = spaced d _ _ (word d LIMIT _ _ (mark-text d l rest ts j h))
+limit-text d l (Some o) rest ts j k b h =
+    spaced d _ _ (word d LIMIT _ _ (mark-text d l _ _ j (spaced d _ _ (word d OFFSET _ _ (mark-text d o rest ts k h)))))
+
+page-text : (d : Dialect) (p : Page) (rest : List ℕ) (ts : List Token) → f.FitsPage d p → Both d rest ts
+    → Both d (x.page d p rest) (r.page d p ts)
+unfolding x.page r.page r.no_limit r.rows spell.spelling lex.extended spell.is_digit spell.all_digits
+page-text d (PageBy None None) rest ts k h = h
+page-text Pg (PageBy None (Some o)) rest ts k h = spaced Pg _ _ (word Pg OFFSET _ _ (mark-text Pg o rest ts k h))
+page-text Mysql (PageBy None (Some o)) rest ts k h =
     let offset = space Mysql _ _ (spaced Mysql _ _ (word Mysql OFFSET _ _ (mark-text Mysql o rest ts k h))).has in
     spaced Mysql _ _
     (word Mysql LIMIT _ _ (number Mysql (codes "18446744073709551615") _ _ refl (omega arith) refl offset))
-page-text Sqlite None (Some o) rest ts j k h =
+page-text Sqlite (PageBy None (Some o)) rest ts k h =
     let offset = space Sqlite _ _ (spaced Sqlite _ _ (word Sqlite OFFSET _ _ (mark-text Sqlite o rest ts k h))).has in
     spaced Sqlite _ _
     (word Sqlite LIMIT _ _ (minus Sqlite _ _ (number Sqlite (codes "1") _ _ refl (omega arith) refl offset)))
-page-text d (Some n) None rest ts j k h = spaced d _ _ (word d LIMIT _ _ (mark-text d n rest ts j h))
-page-text d (Some n) (Some o) rest ts j k h =
-    spaced d _ _ (word d LIMIT _ _ (mark-text d n _ _ j (spaced d _ _ (word d OFFSET _ _ (mark-text d o rest ts k h)))))
+page-text Bracket (PageBy None (Some o)) rest ts k h =
+    spaced Bracket _ _
+    (word Bracket OFFSET _ _ (mark-text Bracket o _ _ k (spaced Bracket _ _ (word-end Bracket ROWS rest ts h))))
+page-text d (PageBy (Some l) o) rest ts k h = limit-text d l o rest ts k.1 k.2 k.0 h
+page-text Bracket (FetchBy None l) rest ts k h =
+    let fetch = fetch-text l rest ts k.2 h in
+    spaced Bracket _ _
+    (word Bracket OFFSET _ _
+    (number Bracket (codes "0") _ _ refl (omega arith) (stops-number Bracket (codes "0") _ fetch.breaks) fetch.has))
+page-text Bracket (FetchBy (Some o) l) rest ts k h =
+    spaced Bracket _ _ (word Bracket OFFSET _ _ (mark-text Bracket o _ _ k.1 (fetch-text l rest ts k.2 h)))
+page-text Pg (FetchBy o l) rest ts k h = absurd k.0
+page-text Mysql (FetchBy o l) rest ts k h = absurd k.0
+page-text Sqlite (FetchBy o l) rest ts k h = absurd k.0
 
 wait-text : (d : Dialect) (w : LockWait) (rest : List ℕ) (ts : List Token) → Both d rest ts
     → Both d (x.wait w rest) (r.wait w ts)
@@ -256,6 +286,7 @@ side-text : (d : Dialect) (rest : List ℕ) (ts : List Token) → Has d rest ts
 unfolding x.side_open r.side_open spell.spelling
 side-text Pg rest ts h = opening Pg rest ts h
 side-text Mysql rest ts h = opening Mysql rest ts h
+side-text Bracket rest ts h = opening Bracket rest ts h
 side-text Sqlite rest ts h =
     word Sqlite SELECT _ _ (star Sqlite _ _ (space Sqlite _ _ (word Sqlite FROM _ _ (opening Sqlite rest ts h))))
 
@@ -276,14 +307,16 @@ listed-fits : (d : Dialect) (p : Mark) (ps : List Mark) → f.FitsList d p ps �
 listed-fits Pg p ps k = (k.0, rw k.1 tt)
 listed-fits Mysql p ps k = k
 listed-fits Sqlite p ps k = k
+listed-fits Bracket p ps k = k
 
-outer-fits : (d : Dialect) (l o : Option Mark) → f.FitsOuterPage d (PageBy l o)
-    → f.FitsMaybeMark d l × f.FitsMaybeMark d o
-outer-fits d (Some n) o k = k
-outer-fits d None None k = (tt, tt)
-outer-fits Pg None (Some o) k = (tt, k)
-outer-fits Mysql None (Some o) k = absurd k
-outer-fits Sqlite None (Some o) k = (tt, k)
+outer-fits : (d : Dialect) (p : Page) → f.FitsOuterPage d p → f.FitsPage d p
+outer-fits d (PageBy (Some l) o) k = k
+outer-fits d (PageBy None None) k = tt
+outer-fits Pg (PageBy None (Some o)) k = k
+outer-fits Mysql (PageBy None (Some o)) k = absurd k
+outer-fits Sqlite (PageBy None (Some o)) k = k
+outer-fits Bracket (PageBy None (Some o)) k = k
+outer-fits d (FetchBy o l) k = k
 
 module _ (d : Dialect) where
   mutual
@@ -379,17 +412,17 @@ module _ (d : Dialect) where
 
     pub query-text : (q : Query) (rest : List ℕ) (ts : List Token) → f.FitsQuery d q → Both d rest ts
         → Has d (x.query d q rest) (r.query d q ts)
-    query-text (Select u es f' w g h o (PageBy l k) z) rest ts j b =
+    query-text (Select u es f' w g h o p z) rest ts j b =
         word d SELECT _ _
         (distinct-text u _ _ j.0
         (expressions-text es _ _ j.1 (from-text f' _ _ j.2 (where-text w _ _ j.3 (group-text g _ _ j.4
-        (having-text h _ _ j.5 (order-text o _ _ j.6 (page-text d l k _ _ j.7.0 j.7.1 (lock-text d z rest ts b)))))))))
-    query-text (Combined a by all c o (PageBy l k)) rest ts j b =
-        let outer = outer-fits d l k j.4 in
+        (having-text h _ _ j.5 (order-text o _ _ j.6 (page-text d p _ _ j.7 (lock-text d z rest ts b)))))))))
+    query-text (Combined a by all c o p) rest ts j b =
+        let outer = outer-fits d p j.4 in
         side-text d _ _
         (query-text a _ _ j.0
         (closed d _ _ (operator-text d by _ _ (all-text d all _ _ (side-text d _ _ (query-text c _ _ j.2
-        (closed d _ _ (by_places-text d o _ _ j.3 (page-text d l k rest ts outer.0 outer.1 b)).has)))))))
+        (closed d _ _ (by_places-text d o _ _ j.3 (page-text d p rest ts outer b)).has)))))))
 
 -- What is written for a tree is read as that tree.
 pub written : (d : Dialect) (q : Query) → f.FitsQuery d q
@@ -397,9 +430,10 @@ pub written : (d : Dialect) (q : Query) → f.FitsQuery d q
 unfolding lex.tokens_from lex.put lex.ending x.text
 written d q k = (r.query d q [], query-text d q [] [] k (record { has = refl; breaks = tt }), (k, refl))
 
--- The placeholder behind n others is written as a builder writes it.
-pub mark-placeholder : (d : Dialect) (n : ℕ) (rest : List ℕ) → x.mark (mark_of d n) rest ≡ placeholder d (n + 1) ++ rest
+-- The placeholder after n others is written as a builder writes it.
+pub mark-placeholder : (d : Dialect) (n : ℕ) (rest : List ℕ) → x.mark d (mark_of d n) rest ≡ placeholder d (n + 1) ++ rest
 unfolding x.mark
 mark-placeholder Pg n rest = ap (λ k. 36 ∷ (decimal k ++ rest)) (sym (add-one n))
 mark-placeholder Mysql n rest = refl
 mark-placeholder Sqlite n rest = refl
+mark-placeholder Bracket n rest = ap (λ k. 64 ∷ 112 ∷ (decimal k ++ rest)) (sym (add-one n))

@@ -8,12 +8,12 @@ use Rattle.std.specs.Fmt.{decimal}
 use Rattle.sql_dialect.specs.Quote.{doubled}
 use Rattle.sql_dialect.specs.Written.{quoted}
 use Rattle.sql_dialect.specs.declared.backend.Dialect.{Dialect}
-use Rattle.sql_dialect.specs.declared.backend.Dialect.TheVariants.{Pg, Mysql, Sqlite}
+use Rattle.sql_dialect.specs.declared.backend.Dialect.TheVariants.{Pg, Mysql, Sqlite, Bracket}
 use Rattle.sql_grammar.specs.Token.{Comparison, Equal, NotEqual, Less, LessOrEqual, Greater, GreaterOrEqual, Keyword, SELECT, Token, Quoted, Word, Number, Mark, Sign, Open, Close, Comma, Dot, Star, Minus}
 use Rattle.sql_grammar.specs.Spelling as spell
-use Rattle.sql_grammar.specs.Spelling.{spelling, quote, is_letter, is_digit, all_letters, all_digits, is_placeholder_number}
+use Rattle.sql_grammar.specs.Spelling.{spelling, quote, end_quote, is_letter, is_digit, all_letters, all_digits, is_placeholder_number}
 use Rattle.sql_grammar.specs.Tokens as lex
-use Rattle.sql_grammar.specs.Tokens.{State, Between, InName, AfterQuote, InWord, InNumber, AfterDollar, InPlaceholder, AfterBang, AfterLess, AfterGreater, Whole, tokens_from, tokens, extended, begun, ending, Ending, Is, Breaks, NoQuoteAt}
+use Rattle.sql_grammar.specs.Tokens.{State, Between, InName, AfterQuote, InWord, InNumber, AfterAt, AfterDollar, InPlaceholder, AfterBang, AfterLess, AfterGreater, Whole, tokens_from, tokens, extended, begun, ending, Ending, Is, Breaks, NoQuoteAt}
 
 -- the text has these tokens
 abbrev pub Has : Dialect → List ℕ → List Token → Type 0
@@ -24,7 +24,7 @@ abbrev pub Stops : Dialect → State → List ℕ → Type 0
 Stops d s [] = Unit {0}
 Stops d s (c ∷ cs) = extended d s c ≡ None
 
--- Where a token ends, it stands in front of those behind it.
+-- Where a token ends, it stands before those after it.
 pub ends : (d : Dialect) (s : State) (t : Token) (rest : List ℕ) → ending s ≡ Is t → Stops d s rest
     → tokens_from d s rest ≡ lex.put (Is t) (tokens_from d Between rest)
 unfolding lex.tokens_from lex.put lex.from_extended lex.from_begun lex.ending lex.extended
@@ -46,45 +46,47 @@ whole d t [] ts h = flush d (Whole t) t [] ts refl tt h
 whole d t (c ∷ cs) ts h = flush d (Whole t) t (c ∷ cs) ts refl refl h
 
 -- a name in quotes
-quote-same : (d : Dialect) → nat_eq (quote d) (quote d) ≡ true
-unfolding spell.quote
+quote-same : (d : Dialect) → nat_eq (end_quote d) (end_quote d) ≡ true
+unfolding spell.end_quote
 quote-same Pg = refl
 quote-same Mysql = refl
 quote-same Sqlite = refl
+quote-same Bracket = refl
 
 begin-quoted : (d : Dialect) → begun d (quote d) ≡ Some (InName [])
 unfolding lex.begun lex.begun_name spell.quote spell.is_letter spell.is_digit
 begin-quoted Pg = refl
 begin-quoted Mysql = refl
 begin-quoted Sqlite = refl
+begin-quoted Bracket = refl
 
-name-step : (d : Dialect) (acc : List ℕ) (c : ℕ) (cs more : List ℕ) (b : Bool) → nat_eq c (quote d) ≡ b
-    → tokens_from d (InName acc) (doubled (quote d) (c ∷ cs) ++ more)
-    ≡ tokens_from d (InName (acc ++ c ∷ [])) (doubled (quote d) cs ++ more)
+name-step : (d : Dialect) (acc : List ℕ) (c : ℕ) (cs more : List ℕ) (b : Bool) → nat_eq c (end_quote d) ≡ b
+    → tokens_from d (InName acc) (doubled (end_quote d) (c ∷ cs) ++ more)
+    ≡ tokens_from d (InName (acc ++ c ∷ [])) (doubled (end_quote d) cs ++ more)
 unfolding lex.tokens_from lex.from_extended lex.extended
 name-step d acc c cs more true e =
-    let same : quote d ≡ c = sym (eqb-true c (quote d) e) in
+    let same : end_quote d ≡ c = sym (eqb-true c (end_quote d) e) in
     rw (e, quote-same, quote-same)
-    (ap (λ x. tokens_from d (InName (acc ++ x ∷ [])) (doubled (quote d) cs ++ more)) same)
+    (ap (λ x. tokens_from d (InName (acc ++ x ∷ [])) (doubled (end_quote d) cs ++ more)) same)
 name-step d acc c cs more false e = rw (e, e) refl
 
 -- the bytes of a name, each quote doubled
 pub name-run : (d : Dialect) (acc name more : List ℕ)
-    → tokens_from d (InName acc) (doubled (quote d) name ++ more) ≡ tokens_from d (InName (acc ++ name)) more
+    → tokens_from d (InName acc) (doubled (end_quote d) name ++ more) ≡ tokens_from d (InName (acc ++ name)) more
 name-run d acc [] more = ap (λ xs. tokens_from d (InName xs) more) (sym (append-nil acc))
 name-run d acc (c ∷ cs) more =
-    name-step d acc c cs more (nat_eq c (quote d)) refl ∙ name-run d (acc ++ c ∷ []) cs more
+    name-step d acc c cs more (nat_eq c (end_quote d)) refl ∙ name-run d (acc ++ c ∷ []) cs more
     ∙ ap (λ xs. tokens_from d (InName xs) more) (append_assoc acc (c ∷ []) cs)
 
 closing-quote : (d : Dialect) (name rest : List ℕ)
-    → tokens_from d (InName name) (quote d ∷ rest) ≡ tokens_from d (AfterQuote name) rest
+    → tokens_from d (InName name) (end_quote d ∷ rest) ≡ tokens_from d (AfterQuote name) rest
 unfolding lex.tokens_from lex.from_extended lex.extended
 closing-quote d name rest = rw quote-same refl
 
 body-law : (d : Dialect) (acc name rest : List ℕ)
-    → tokens_from d (InName acc) (doubled (quote d) name ++ quote d ∷ rest)
+    → tokens_from d (InName acc) (doubled (end_quote d) name ++ end_quote d ∷ rest)
     ≡ tokens_from d (AfterQuote (acc ++ name)) rest
-body-law d acc name rest = name-run d acc name (quote d ∷ rest) ∙ closing-quote d (acc ++ name) rest
+body-law d acc name rest = name-run d acc name (end_quote d ∷ rest) ∙ closing-quote d (acc ++ name) rest
 
 -- the quote that opens a name
 pub opening-quote : (d : Dialect) (rest : List ℕ)
@@ -92,13 +94,14 @@ pub opening-quote : (d : Dialect) (rest : List ℕ)
 unfolding lex.tokens_from lex.from_extended lex.from_begun lex.put lex.extended lex.ending
 opening-quote d rest = ap (λ x. lex.from_begun x (λ s'. tokens_from d s' rest)) (begin-quoted d)
 
--- a quoted name in front of more text, by the bytes that stand there
+-- a quoted name before more text, by the bytes that stand there
 quoted-bytes : (d : Dialect) (name rest : List ℕ)
-    → quoted d name ++ rest ≡ quote d ∷ (doubled (quote d) name ++ quote d ∷ rest)
-unfolding spell.quote
+    → quoted d name ++ rest ≡ quote d ∷ (doubled (end_quote d) name ++ end_quote d ∷ rest)
+unfolding spell.quote spell.end_quote
 quoted-bytes Pg name rest = ap (λ l. 34 ∷ l) (append_assoc (doubled 34 name) (34 ∷ []) rest)
 quoted-bytes Mysql name rest = ap (λ l. 96 ∷ l) (append_assoc (doubled 96 name) (96 ∷ []) rest)
 quoted-bytes Sqlite name rest = ap (λ l. 96 ∷ l) (append_assoc (doubled 96 name) (96 ∷ []) rest)
+quoted-bytes Bracket name rest = ap (λ l. 91 ∷ l) (append_assoc (doubled 93 name) (93 ∷ []) rest)
 
 pub quoted-name : (d : Dialect) (name rest : List ℕ)
     → tokens_from d Between (quoted d name ++ rest) ≡ tokens_from d (AfterQuote name) rest
@@ -202,7 +205,7 @@ pub equals : (d : Dialect) (rest : List ℕ) (ts : List Token) → Has d rest ts
 unfolding lex.tokens_from lex.from_extended lex.from_begun lex.put lex.extended lex.begun lex.ending spell.is_letter spell.is_digit
 equals d rest ts h = whole d (Sign Equal) rest ts h
 
--- comparisons, behind which a space stands
+-- comparisons, each with a space after it
 pub sign-law : (d : Dialect) (by : Comparison) (rest : List ℕ) (ts : List Token) → Has d rest ts
     → Has d (spell.sign_text by (32 ∷ rest)) (Sign by ∷ ts)
 unfolding lex.tokens_from lex.from_extended lex.from_begun lex.put lex.extended lex.begun lex.ending spell.is_letter spell.is_digit spell.sign_text
@@ -225,33 +228,44 @@ marking-run d acc (c ∷ cs) rest h =
     (marking-run d (acc ++ c ∷ []) cs rest q
     ∙ ap (λ xs. tokens_from d (InPlaceholder xs) rest) (append_assoc acc (c ∷ []) cs))
 
--- `$` and digits
-pub dollar-run : (w rest : List ℕ) → all_digits w ≡ true → 0 < length w
-    → tokens_from Pg Between (36 ∷ (w ++ rest)) ≡ tokens_from Pg (InPlaceholder w) rest
-unfolding lex.tokens_from lex.from_extended lex.from_begun lex.put lex.extended lex.begun lex.begun_name lex.begun_placeholder spell.quote lex.ending spell.is_letter spell.is_digit spell.all_digits
-dollar-run [] rest h n = absurd (omega arith)
-dollar-run (c ∷ cs) rest h n =
+-- digits after `$` or `@p`
+behind-run : (d : Dialect) (w rest : List ℕ) → all_digits w ≡ true → 0 < length w
+    → tokens_from d AfterDollar (w ++ rest) ≡ tokens_from d (InPlaceholder w) rest
+unfolding lex.tokens_from lex.from_extended lex.extended spell.all_digits
+behind-run d [] rest h n = absurd (omega arith)
+behind-run d (c ∷ cs) rest h n =
     let p : is_digit c ≡ true = and_true_left (is_digit c) (all_digits cs) h in
     let q : all_digits cs ≡ true = and_true_right (is_digit c) (all_digits cs) h in
-    rw p (marking-run Pg (c ∷ []) cs rest q)
+    rw p (marking-run d (c ∷ []) cs rest q)
+
+pub dollar-run : (w rest : List ℕ) → all_digits w ≡ true → 0 < length w
+    → tokens_from Pg Between (36 ∷ (w ++ rest)) ≡ tokens_from Pg (InPlaceholder w) rest
+unfolding lex.tokens_from lex.from_extended lex.from_begun lex.put lex.extended lex.begun lex.begun_name lex.begun_placeholder spell.quote lex.ending spell.is_letter spell.is_digit
+dollar-run w rest h n = behind-run Pg w rest h n
+
+pub at-run : (w rest : List ℕ) → all_digits w ≡ true → 0 < length w
+    → tokens_from Bracket Between (64 ∷ 112 ∷ (w ++ rest)) ≡ tokens_from Bracket (InPlaceholder w) rest
+unfolding lex.tokens_from lex.from_extended lex.from_begun lex.put lex.extended lex.begun lex.begun_name lex.begun_placeholder spell.quote lex.ending spell.is_letter spell.is_digit
+at-run w rest h n = behind-run Bracket w rest h n
 
 pub placeholder-ending : (w : List ℕ) → is_placeholder_number w ≡ true
     → ending (InPlaceholder w) ≡ Is (Mark (Some (spell.value_of w)))
 unfolding lex.ending
 placeholder-ending w u = rw u refl
 
-pub dollar : (w rest : List ℕ) (ts : List Token) → all_digits w ≡ true → 0 < length w → is_placeholder_number w ≡ true
-    → Stops Pg (InPlaceholder w) rest → Has Pg rest ts → Has Pg (36 ∷ (w ++ rest)) (Mark (Some (spell.value_of w)) ∷ ts)
-dollar w rest ts h n u stop g =
-    dollar-run w rest h n
-    ∙ flush Pg (InPlaceholder w) (Mark (Some (spell.value_of w))) rest ts (placeholder-ending w u) stop g
+place-ends : (d : Dialect) (w rest : List ℕ) (ts : List Token) → is_placeholder_number w ≡ true
+    → Stops d (InPlaceholder w) rest → Has d rest ts
+    → tokens_from d (InPlaceholder w) rest ≡ Some (Mark (Some (spell.value_of w)) ∷ ts)
+place-ends d w rest ts u stop g =
+    flush d (InPlaceholder w) (Mark (Some (spell.value_of w))) rest ts (placeholder-ending w u) stop g
 
 -- Two texts are joined. The second begins with a space or a bracket, a comma, a dot or the like.
-pub not_quote : (d : Dialect) (c : ℕ) → Breaks c → nat_eq c (quote d) ≡ false
-unfolding spell.quote
+pub not_quote : (d : Dialect) (c : ℕ) → Breaks c → nat_eq c (end_quote d) ≡ false
+unfolding spell.end_quote
 not_quote Pg c b = b.double
 not_quote Mysql c b = b.back
 not_quote Sqlite c b = b.back
+not_quote Bracket c b = b.square
 
 -- the number of a placeholder ends, where it is one
 join-place : (d : Dialect) (n : List ℕ) (c : ℕ) (b : List ℕ) (xs ys : List Token) (t : Bool)
@@ -277,6 +291,7 @@ join-end d (InWord w) c b xs ys k h g =
     flush d (InWord w) (spell.word_of w) (c ∷ b) ys refl (rw k.letter refl) g ∙ ap (λ zs. Some (zs ++ ys)) (some-back h)
 join-end d (InNumber n) c b xs ys k h g =
     flush d (InNumber n) (Number n) (c ∷ b) ys refl (rw k.digit refl) g ∙ ap (λ zs. Some (zs ++ ys)) (some-back h)
+join-end d AfterAt c b xs ys k h g = cc
 join-end d AfterDollar c b xs ys k h g = cc
 join-end d (InPlaceholder n) c b xs ys k h g = join-place d n c b xs ys (is_placeholder_number n) refl k h g
 join-end d AfterBang c b xs ys k h g = cc
@@ -360,13 +375,27 @@ is_placeholder_number-decimal n low high =
     let v = e.1 in
     place-first (decimal n) (first_decimal n low (omega arith)) (omega (arith, v))
 
+place-digits : (d : Dialect) (n : ℕ) (rest : List ℕ) (ts : List Token) → 0 < n → n < 4294967296
+    → Stops d (InPlaceholder (decimal n)) rest → Has d rest ts
+    → tokens_from d (InPlaceholder (decimal n)) rest ≡ Some (Mark (Some n) ∷ ts)
+place-digits d n rest ts low h stop g =
+    let e = decimal-numeral n (omega arith) in
+    place-ends d (decimal n) rest ts (is_placeholder_number-decimal n low h) stop g
+    ∙ ap (λ v. Some (Mark (Some v) ∷ ts)) e.1
+
 pub mark-digits : (n : ℕ) (rest : List ℕ) (ts : List Token) → 0 < n → n < 4294967296
     → Stops Pg (InPlaceholder (decimal n)) rest → Has Pg rest ts
     → Has Pg (36 ∷ (decimal n ++ rest)) (Mark (Some n) ∷ ts)
 mark-digits n rest ts low h stop g =
     let e = decimal-numeral n (omega arith) in
-    dollar (decimal n) rest ts e.0 e.2 (is_placeholder_number-decimal n low h) stop g
-    ∙ ap (λ v. Some (Mark (Some v) ∷ ts)) e.1
+    dollar-run (decimal n) rest e.0 e.2 ∙ place-digits Pg n rest ts low h stop g
+
+pub at-digits : (n : ℕ) (rest : List ℕ) (ts : List Token) → 0 < n → n < 4294967296
+    → Stops Bracket (InPlaceholder (decimal n)) rest → Has Bracket rest ts
+    → Has Bracket (64 ∷ 112 ∷ (decimal n ++ rest)) (Mark (Some n) ∷ ts)
+at-digits n rest ts low h stop g =
+    let e = decimal-numeral n (omega arith) in
+    at-run (decimal n) rest e.0 e.2 ∙ place-digits Bracket n rest ts low h stop g
 
 pub question-mysql : (rest : List ℕ) (ts : List Token) → Has Mysql rest ts → Has Mysql (63 ∷ rest) (Mark None ∷ ts)
 unfolding lex.tokens_from lex.from_extended lex.from_begun lex.put lex.extended lex.begun lex.begun_name lex.begun_placeholder spell.quote lex.ending spell.is_letter spell.is_digit

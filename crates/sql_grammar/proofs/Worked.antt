@@ -2,7 +2,7 @@
 use Rattle.std.proofs.Common.{◌≡◌, ℕ, List, [], ◌∷◌, Option, Some, None, refl, sym, rules, arith, codes}
 use Rattle.std.proofs.lemmas.Fmt.{decimal_digit}
 use Rattle.sql_dialect.specs.declared.backend.Dialect.{Dialect}
-use Rattle.sql_dialect.specs.declared.backend.Dialect.TheVariants.{Pg, Mysql, Sqlite}
+use Rattle.sql_dialect.specs.declared.backend.Dialect.TheVariants.{Pg, Mysql, Sqlite, Bracket}
 use Rattle.sql_grammar.specs.Token.{SELECT, Equal, LessOrEqual, Token, Quoted, Word, Unknown, Number, Mark, Sign, Open, Close, Dot}
 use Rattle.sql_grammar.specs.Spelling as spell
 use Rattle.sql_grammar.specs.Tokens as lex
@@ -11,11 +11,11 @@ use Rattle.sql_grammar.specs.Fits as f
 use Rattle.sql_grammar.specs.Grammar as r
 use Rattle.sql_grammar.specs.MarkTree.{Query}
 use Rattle.sql_grammar.specs.Reading.{OnlyReading}
-use Rattle.sql_grammar.specs.Examples.{pg_text, pg_query, mysql_text, mysql_query, sqlite_text, sqlite_query}
+use Rattle.sql_grammar.specs.Examples.{pg_text, pg_query, mysql_text, mysql_query, sqlite_text, sqlite_query, bracket_text, bracket_query}
 use Rattle.sql_grammar.proofs.Readings.{only}
 
 unfoldable pub computed : Dialect → List ℕ → Option (List Token)
-unfolding lex.tokens_from lex.from_extended lex.from_begun lex.put lex.ending lex.extended lex.begun lex.begun_name lex.begun_placeholder spell.quote spell.is_letter spell.is_digit spell.word_of spell.word_among spell.same_bytes spell.spelling spell.value_after spell.is_placeholder_number
+unfolding lex.tokens_from lex.from_extended lex.from_begun lex.put lex.ending lex.extended lex.begun lex.begun_name lex.begun_placeholder spell.quote spell.end_quote spell.is_letter spell.is_digit spell.word_of spell.word_among spell.same_bytes spell.spelling spell.value_after spell.is_placeholder_number
 computed d text = tokens d text
 
 pub spaces : tokens Pg (codes "SELECT   ( \"a\".\"x\"=$7 )")
@@ -39,6 +39,14 @@ lone_quote = refl
 pub lone_backtick : tokens Mysql (codes "SELECT `a``") ≡ None
 unfolding computed
 lone_backtick = refl
+
+pub square : tokens Bracket (codes "[a]]b[].[c]") ≡ Some (Quoted (codes "a]b[") ∷ Dot ∷ Quoted (codes "c") ∷ [])
+unfolding computed
+square = refl
+
+pub lone_square : tokens Bracket (codes "[a]]") ≡ None
+unfolding computed
+lone_square = refl
 
 pub lower : tokens Pg (codes "select") ≡ Some (Unknown (codes "select") ∷ [])
 unfolding computed
@@ -64,6 +72,22 @@ zero = refl
 pub leading_zero : tokens Pg (codes "SELECT $01") ≡ None
 unfolding computed
 leading_zero = refl
+
+pub last_on_bracket : tokens Bracket (codes "@p4294967295") ≡ Some (Mark (Some 4294967295) ∷ [])
+unfolding computed
+last_on_bracket = refl
+
+pub past_on_bracket : tokens Bracket (codes "@p4294967296") ≡ None
+unfolding computed
+past_on_bracket = refl
+
+pub leading_zero_on_bracket : tokens Bracket (codes "SELECT @p01") ≡ None
+unfolding computed
+leading_zero_on_bracket = refl
+
+pub spaced_number : tokens Bracket (codes "@p 1") ≡ None
+unfolding computed
+spaced_number = refl
 
 pub question : tokens Sqlite (codes "(?)") ≡ Some (Open ∷ Mark None ∷ Close ∷ [])
 unfolding computed
@@ -95,7 +119,7 @@ tab_in_name = refl
 
 -- the tokens of a tree, computed
 spelled : Dialect → Query → List Token
-unfolding r.names r.marks r.logic r.direction r.among r.constant r.kind r.method r.only r.seed r.sample r.no_limit r.page r.mode r.wait r.lock r.operator r.all_word r.side_open r.places r.by_places r.query
+unfolding r.names r.marks r.logic r.direction r.among r.constant r.kind r.method r.only r.seed r.sample r.no_limit r.rows r.fetch r.page r.mode r.wait r.lock r.operator r.all_word r.side_open r.places r.by_places r.query
 spelled d q = r.query d q []
 
 pg-fits : f.FitsQuery Pg pg_query
@@ -124,3 +148,11 @@ sqlite-fits = search (rules, arith)
 pub sqlite : OnlyReading Sqlite sqlite_text sqlite_query
 unfolding computed spelled
 sqlite = only Sqlite sqlite_text sqlite_query (r.query Sqlite sqlite_query [], refl, (sqlite-fits, refl))
+
+bracket-fits : f.FitsQuery Bracket bracket_query
+unfolding f.FitsQuery
+bracket-fits = search (rules, arith)
+
+pub bracket : OnlyReading Bracket bracket_text bracket_query
+unfolding computed spelled
+bracket = only Bracket bracket_text bracket_query (r.query Bracket bracket_query [], refl, (bracket-fits, refl))

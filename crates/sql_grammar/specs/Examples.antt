@@ -1,7 +1,7 @@
--- Three whole statements, by their texts and by what they say. The spaces are not those that the program writes.
+-- Four whole statements, by their texts and by what they say. The spaces are not those that the program writes.
 use Rattle.std.specs.Prelude.{ℕ, List, [], ◌∷◌, ◌++◌, Some, None, true, false, codes}
 use Rattle.sql_grammar.specs.Token.{Equal, Greater}
-use Rattle.sql_grammar.specs.MarkTree.{Descending, LeftOuter, System, Union, Except, ForUpdate, SkipLocked, Unlocked, Locks, Whole, Sampled, PageBy, OnlyPlace, NoPlaces, SomePlaces, Expression, Path, Placeholder, Compared, CountAll, InList, Constant, OnlyExpression, MoreExpression, OnlyItem, Source, Table, Alias, Join, NoExpression, SomeExpression, NoExpressions, SomeExpressions, NoItems, SomeItems, MaybeSource, NoSource, SomeSource, Every, DistinctOn, Query, Select, Combined}
+use Rattle.sql_grammar.specs.MarkTree.{Descending, LeftOuter, System, Union, Except, ForUpdate, SkipLocked, Unlocked, Locks, Whole, Sampled, PageBy, OnlyPlace, NoPlaces, SomePlaces, FetchBy, Expression, Path, Placeholder, Compared, CountAll, InList, Constant, OnlyExpression, MoreExpression, OnlyItem, Source, Table, Alias, Join, NoExpression, SomeExpression, NoExpressions, SomeExpressions, NoItems, SomeItems, MaybeSource, NoSource, SomeSource, Every, DistinctOn, Query, Select, Combined}
 
 -- On Pg: a distinct selection, a join with a sample, an array, a page and a lock.
 abbrev pub pg_text : List ℕ
@@ -67,3 +67,13 @@ sqlite_query =
     (Select Every (OnlyExpression (Placeholder None)) NoSource (SomeExpression (Constant false)) NoExpressions
     NoExpression NoItems (PageBy None None) Unlocked)
     NoPlaces (PageBy None (Some None))
+
+-- On Bracket: the rows to skip stand before those to take.
+abbrev pub bracket_text : List ℕ
+bracket_text = codes "SELECT [a].[x]FROM [a]WHERE([a].[x]IN(@p1,@p2))OFFSET @p3 ROWS FETCH NEXT @p4 ROWS ONLY"
+
+abbrev pub bracket_query : Query
+bracket_query =
+    Select Every (OnlyExpression column_x) table_a
+    (SomeExpression (InList false column_x (Some 1) (Some 2 ∷ []))) NoExpressions NoExpression NoItems
+    (FetchBy (Some (Some 3)) (Some 4)) Unlocked

@@ -3,8 +3,8 @@
 use Rattle.std.specs.Prelude.{◌≡◌, ℕ, ◌<◌, List, [], ◌∷◌, length, Option, Some, None, Bool, true, false}
 use Rattle.std.specs.Fmt.{decimal}
 use Rattle.sql_dialect.specs.declared.backend.Dialect.{Dialect}
-use Rattle.sql_dialect.specs.declared.backend.Dialect.TheVariants.{Pg, Mysql, Sqlite}
-use Rattle.sql_grammar.specs.MarkTree.{Mark, Name, SetOperator, Union, Intersect, Except, LockMode, ForUpdate, ForNoKeyUpdate, ForShare, ForKeyShare, Lock, Unlocked, Locks, Sample, Whole, Sampled, Page, PageBy, Places, OnlyPlace, MorePlace, MaybePlaces, NoPlaces, SomePlaces, Expression, Path, Placeholder, SingleValue, Exists, Compared, Connected, Not, NullTest, CountAll, Count, InList, InQuery, Constant, Expressions, OnlyExpression, MoreExpression, Items, OnlyItem, MoreItem, Source, Table, Alias, Join, MaybeExpression, NoExpression, SomeExpression, MaybeExpressions, NoExpressions, SomeExpressions, MaybeItems, NoItems, SomeItems, MaybeSource, NoSource, SomeSource, Distinctness, Every, Distinct, DistinctOn, Query, Select, Combined}
+use Rattle.sql_dialect.specs.declared.backend.Dialect.TheVariants.{Pg, Mysql, Sqlite, Bracket}
+use Rattle.sql_grammar.specs.MarkTree.{Mark, Name, SetOperator, Union, Intersect, Except, LockMode, ForUpdate, ForNoKeyUpdate, ForShare, ForKeyShare, Lock, Unlocked, Locks, Sample, Whole, Sampled, Page, PageBy, FetchBy, Places, OnlyPlace, MorePlace, MaybePlaces, NoPlaces, SomePlaces, Expression, Path, Placeholder, SingleValue, Exists, Compared, Connected, Not, NullTest, CountAll, Count, InList, InQuery, Constant, Expressions, OnlyExpression, MoreExpression, Items, OnlyItem, MoreItem, Source, Table, Alias, Join, MaybeExpression, NoExpression, SomeExpression, MaybeExpressions, NoExpressions, SomeExpressions, MaybeItems, NoItems, SomeItems, MaybeSource, NoSource, SomeSource, Distinctness, Every, Distinct, DistinctOn, Query, Select, Combined}
 
 -- ## Which dialect
 
@@ -12,21 +12,36 @@ abbrev pub OnPg : Dialect → Type 0
 OnPg Pg = Unit {0}
 OnPg Mysql = ⊥
 OnPg Sqlite = ⊥
+OnPg Bracket = ⊥
 
 abbrev pub NotPg : Dialect → Type 0
 NotPg Pg = ⊥
 NotPg Mysql = Unit {0}
 NotPg Sqlite = Unit {0}
+NotPg Bracket = Unit {0}
 
--- SQLite has no locks on rows.
+abbrev pub OnBracket : Dialect → Type 0
+OnBracket Pg = ⊥
+OnBracket Mysql = ⊥
+OnBracket Sqlite = ⊥
+OnBracket Bracket = Unit {0}
+
+abbrev pub NotBracket : Dialect → Type 0
+NotBracket Pg = Unit {0}
+NotBracket Mysql = Unit {0}
+NotBracket Sqlite = Unit {0}
+NotBracket Bracket = ⊥
+
+-- SQLite has no locks on rows, and Bracket has none.
 abbrev pub HasLocks : Dialect → Type 0
 HasLocks Pg = Unit {0}
 HasLocks Mysql = Unit {0}
 HasLocks Sqlite = ⊥
+HasLocks Bracket = ⊥
 
 -- ## Placeholders
 
--- A placeholder has a number on Pg alone, from 1 to 4294967295.
+-- A placeholder has a number on Pg and Bracket, from 1 to 4294967295.
 abbrev pub FitsMark : Dialect → Mark → Type 0
 FitsMark Pg None = ⊥
 FitsMark Pg (Some n) = (0 < n) × (n < 4294967296)
@@ -34,6 +49,8 @@ FitsMark Mysql None = Unit {0}
 FitsMark Mysql (Some n) = ⊥
 FitsMark Sqlite None = Unit {0}
 FitsMark Sqlite (Some n) = ⊥
+FitsMark Bracket None = ⊥
+FitsMark Bracket (Some n) = (0 < n) × (n < 4294967296)
 
 abbrev pub FitsMarks : Dialect → List Mark → Type 0
 FitsMarks d [] = Unit {0}
@@ -44,6 +61,7 @@ abbrev pub FitsList : Dialect → Mark → List Mark → Type 0
 FitsList Pg p ps = FitsMark Pg p × (ps ≡ [])
 FitsList Mysql p ps = FitsMark Mysql p × FitsMarks Mysql ps
 FitsList Sqlite p ps = FitsMark Sqlite p × FitsMarks Sqlite ps
+FitsList Bracket p ps = FitsMark Bracket p × FitsMarks Bracket ps
 
 abbrev pub FitsMaybeMark : Dialect → Option Mark → Type 0
 FitsMaybeMark d None = Unit {0}
@@ -52,12 +70,12 @@ FitsMaybeMark d (Some p) = FitsMark d p
 -- ## Paths, by the names after the first
 
 -- a column's path has two names or three
-abbrev pub IsColumn : List Name → Type 0
-IsColumn ns = (0 < length ns) × (length ns < 3)
+abbrev pub IsColumnPath : List Name → Type 0
+IsColumnPath ns = (0 < length ns) × (length ns < 3)
 
 -- a table's has one or two
-abbrev pub IsTable : List Name → Type 0
-IsTable ns = length ns < 2
+abbrev pub IsTablePath : List Name → Type 0
+IsTablePath ns = length ns < 2
 
 -- ## ONLY and TABLESAMPLE (PostgreSQL, SELECT, FROM Clause)
 
@@ -71,17 +89,21 @@ FitsSample d (Sampled by portion seed) = OnPg d × FitsMark d portion × FitsMay
 
 -- ## Pages
 
--- of a selection
+-- Of a selection. Bracket fetches where the others have LIMIT.
 abbrev pub FitsPage : Dialect → Page → Type 0
-FitsPage d (PageBy limit offset) = FitsMaybeMark d limit × FitsMaybeMark d offset
+FitsPage d (PageBy None offset) = FitsMaybeMark d offset
+FitsPage d (PageBy (Some limit) offset) = NotBracket d × FitsMark d limit × FitsMaybeMark d offset
+FitsPage d (FetchBy offset limit) = OnBracket d × FitsMaybeMark d offset × FitsMark d limit
 
 -- Of a combination: on Mysql no offset stands without a limit there.
 abbrev pub FitsOuterPage : Dialect → Page → Type 0
-FitsOuterPage d (PageBy (Some limit) offset) = FitsMark d limit × FitsMaybeMark d offset
+FitsOuterPage d (PageBy (Some limit) offset) = NotBracket d × FitsMark d limit × FitsMaybeMark d offset
 FitsOuterPage d (PageBy None None) = Unit {0}
 FitsOuterPage Pg (PageBy None (Some offset)) = FitsMark Pg offset
 FitsOuterPage Mysql (PageBy None (Some offset)) = ⊥
 FitsOuterPage Sqlite (PageBy None (Some offset)) = FitsMark Sqlite offset
+FitsOuterPage Bracket (PageBy None (Some offset)) = FitsMark Bracket offset
+FitsOuterPage d (FetchBy offset limit) = OnBracket d × FitsMaybeMark d offset × FitsMark d limit
 
 -- ## Locks (PostgreSQL, SELECT, The Locking Clause; MySQL, 13.2.13 SELECT Statement; SQLite has none)
 
@@ -97,16 +119,18 @@ FitsLock d (Locks by waiting) = FitsMode d by
 
 -- ## Combinations
 
--- Mysql has UNION alone (MySQL, UNION Clause). Sqlite has ALL behind UNION alone (SQLite, SELECT, Compound Select
--- Statements).
+-- Pg and Mysql have all (MySQL, 13.2.14 Set Operations). Sqlite has ALL after UNION alone (SQLite, SELECT, Compound Select
+-- Statements), and so has Bracket.
 abbrev pub FitsOperator : Dialect → SetOperator → Bool → Type 0
 FitsOperator d Union all = Unit {0}
 FitsOperator Pg Intersect all = Unit {0}
 FitsOperator Pg Except all = Unit {0}
-FitsOperator Mysql Intersect all = ⊥
-FitsOperator Mysql Except all = ⊥
+FitsOperator Mysql Intersect all = Unit {0}
+FitsOperator Mysql Except all = Unit {0}
 FitsOperator Sqlite Intersect all = all ≡ false
 FitsOperator Sqlite Except all = all ≡ false
+FitsOperator Bracket Intersect all = all ≡ false
+FitsOperator Bracket Except all = all ≡ false
 
 -- the digits of a number below 2 ^ 32, without leading zeros
 abbrev pub IsPlace : List ℕ → Type 0
@@ -125,7 +149,7 @@ FitsMaybePlaces (SomePlaces ps) = FitsPlaces ps
 unfoldable mutual
   -- A membership in a list of no values is a constant where there is no array.
   pub FitsExpression : Dialect → Expression → Type 0
-  FitsExpression d (Path a ns) = IsColumn ns
+  FitsExpression d (Path a ns) = IsColumnPath ns
   FitsExpression d (Placeholder p) = FitsMark d p
   FitsExpression d (SingleValue q) = FitsQuery d q
   FitsExpression d (Exists q) = FitsQuery d q
@@ -148,8 +172,8 @@ unfoldable mutual
   FitsItems d (MoreItem a by more) = FitsExpression d a × FitsItems d more
 
   pub FitsSource : Dialect → Source → Type 0
-  FitsSource d (Table a ns only sample) = IsTable ns × FitsOnly d only × FitsSample d sample
-  FitsSource d (Alias a ns b) = IsTable ns
+  FitsSource d (Table a ns only sample) = IsTablePath ns × FitsOnly d only × FitsSample d sample
+  FitsSource d (Alias a ns b) = IsTablePath ns
   FitsSource d (Join kind a b on) = FitsSource d a × FitsSource d b × FitsExpression d on
 
   pub FitsMaybeExpression : Dialect → MaybeExpression → Type 0

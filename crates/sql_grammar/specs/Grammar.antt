@@ -1,17 +1,17 @@
 -- The grammar, production by production: the tokens that each kind of tree is read from. Each function puts the tokens of
--- its tree in front of those that follow. Above it stands its production, in which words and signs stand for themselves,
--- `[x]` for x or nothing, `x..` for one or more separated by commas. A production without a dialect holds in all three.
+-- its tree before those that follow. Above it stands its production, in which words and signs stand for themselves,
+-- `[x]` for x or nothing, `x..` for one or more separated by commas. A production without a dialect holds in all four.
 -- (PostgreSQL, SELECT and 4.2 Value Expressions; MySQL, 13.2.13 SELECT Statement, JOIN Clause and UNION Clause; SQLite,
 -- SELECT and SQL Language Expressions.)
 use Rattle.std.specs.Prelude.{◌≡◌, ℕ, List, [], ◌∷◌, Option, Some, None, Bool, true, false, codes}
 use Rattle.sql_dialect.specs.declared.backend.Dialect.{Dialect}
-use Rattle.sql_dialect.specs.declared.backend.Dialect.TheVariants.{Pg, Mysql, Sqlite}
+use Rattle.sql_dialect.specs.declared.backend.Dialect.TheVariants.{Pg, Mysql, Sqlite, Bracket}
 use Rattle.sql_grammar.specs.Fits.{FitsQuery, FitsExpression, FitsSource}
-use Rattle.sql_grammar.specs.Token.{Comparison, Equal, NotEqual, Keyword, SELECT, DISTINCT, ON, FROM, WHERE, GROUP, BY, HAVING, ORDER, ASC, DESC, LIMIT, OFFSET, FOR, UPDATE, SHARE, NO, KEY, SKIP, LOCKED, NOWAIT, UNION, INTERSECT, EXCEPT, ALL, AS, ONLY, TABLESAMPLE, BERNOULLI, SYSTEM, REPEATABLE, INNER, LEFT, OUTER, JOIN, EXISTS, AND, OR, NOT, IS, NULL, COUNT, ANY, IN, Token, Quoted, Word, Number, Sign, Open, Close, Comma, Dot, Star, Minus}
+use Rattle.sql_grammar.specs.Token.{Comparison, Equal, NotEqual, Keyword, SELECT, DISTINCT, ON, FROM, WHERE, GROUP, BY, HAVING, ORDER, ASC, DESC, LIMIT, OFFSET, FOR, UPDATE, SHARE, NO, KEY, SKIP, LOCKED, NOWAIT, UNION, INTERSECT, EXCEPT, ALL, AS, ONLY, TABLESAMPLE, BERNOULLI, SYSTEM, REPEATABLE, INNER, LEFT, OUTER, JOIN, EXISTS, AND, OR, NOT, IS, NULL, COUNT, ANY, IN, ROWS, FETCH, NEXT, Token, Quoted, Word, Number, Sign, Open, Close, Comma, Dot, Star, Minus}
 use Rattle.sql_grammar.specs.Token as token
-use Rattle.sql_grammar.specs.MarkTree.{Mark, Name, Logic, And, Or, Direction, Plain, Ascending, Descending, JoinKind, Inner, LeftOuter, SampleMethod, Bernoulli, System, SetOperator, Union, Intersect, Except, LockMode, ForUpdate, ForNoKeyUpdate, ForShare, ForKeyShare, LockWait, Waits, SkipLocked, NoWait, Lock, Unlocked, Locks, Sample, Whole, Sampled, Page, PageBy, Places, OnlyPlace, MorePlace, MaybePlaces, NoPlaces, SomePlaces, Expression, Path, Placeholder, SingleValue, Exists, Compared, Connected, Not, NullTest, CountAll, Count, InList, InQuery, Constant, Expressions, OnlyExpression, MoreExpression, Items, OnlyItem, MoreItem, Source, Table, Alias, Join, MaybeExpression, NoExpression, SomeExpression, MaybeExpressions, NoExpressions, SomeExpressions, MaybeItems, NoItems, SomeItems, MaybeSource, NoSource, SomeSource, Distinctness, Every, Distinct, DistinctOn, Query, Select, Combined}
+use Rattle.sql_grammar.specs.MarkTree.{Mark, Name, Logic, And, Or, Direction, Plain, Ascending, Descending, JoinKind, Inner, LeftOuter, SampleMethod, Bernoulli, System, SetOperator, Union, Intersect, Except, LockMode, ForUpdate, ForNoKeyUpdate, ForShare, ForKeyShare, LockWait, Waits, SkipLocked, NoWait, Lock, Unlocked, Locks, Sample, Whole, Sampled, Page, PageBy, FetchBy, Places, OnlyPlace, MorePlace, MaybePlaces, NoPlaces, SomePlaces, Expression, Path, Placeholder, SingleValue, Exists, Compared, Connected, Not, NullTest, CountAll, Count, InList, InQuery, Constant, Expressions, OnlyExpression, MoreExpression, Items, OnlyItem, MoreItem, Source, Table, Alias, Join, MaybeExpression, NoExpression, SomeExpression, MaybeExpressions, NoExpressions, SomeExpressions, MaybeItems, NoItems, SomeItems, MaybeSource, NoSource, SomeSource, Distinctness, Every, Distinct, DistinctOn, Query, Select, Combined}
 
--- tokens that go in front of others
+-- tokens that go before others
 abbrev pub Front : Type 0
 Front = List Token → List Token
 
@@ -44,7 +44,7 @@ null_test false rest = Word IS ∷ Word NULL ∷ rest
 null_test true rest = Word IS ∷ Word NOT ∷ Word NULL ∷ rest
 
 -- = ANY | != ALL      on Pg (PostgreSQL, Subquery Expressions; Row and Array Comparisons)
--- IN | NOT IN         on Mysql and Sqlite (MySQL, Subqueries with ANY, IN, or SOME; SQLite, The IN and NOT IN operators)
+-- IN | NOT IN         on Mysql, Sqlite and Bracket (MySQL, Subqueries with ANY, IN, or SOME; SQLite, The IN and NOT IN operators)
 unfoldable pub among : Dialect → Bool → Front
 among Pg false rest = Sign Equal ∷ Word ANY ∷ rest
 among Pg true rest = Sign NotEqual ∷ Word ALL ∷ rest
@@ -52,6 +52,8 @@ among Mysql false rest = Word IN ∷ rest
 among Mysql true rest = Word NOT ∷ Word IN ∷ rest
 among Sqlite false rest = Word IN ∷ rest
 among Sqlite true rest = Word NOT ∷ Word IN ∷ rest
+among Bracket false rest = Word IN ∷ rest
+among Bracket true rest = Word NOT ∷ Word IN ∷ rest
 
 -- the right side of `1 = 0` and of `1 = 1`
 unfoldable pub constant : Bool → List ℕ
@@ -93,16 +95,32 @@ unfoldable pub no_limit : Dialect → Front
 no_limit Pg rest = rest
 no_limit Mysql rest = Word LIMIT ∷ Number (codes "18446744073709551615") ∷ rest
 no_limit Sqlite rest = Word LIMIT ∷ Minus ∷ Number (codes "1") ∷ rest
+no_limit Bracket rest = rest
+
+-- the word after the number of rows to skip
+unfoldable pub rows : Dialect → Front
+rows Pg rest = rest
+rows Mysql rest = rest
+rows Sqlite rest = rest
+rows Bracket rest = Word ROWS ∷ rest
+
+-- ROWS FETCH NEXT Placeholder ROWS ONLY
+unfoldable pub fetch : Mark → Front
+fetch l rest = Word ROWS ∷ Word FETCH ∷ Word NEXT ∷ token.Mark l ∷ Word ROWS ∷ Word ONLY ∷ rest
 
 -- Page = [LIMIT Placeholder] [OFFSET Placeholder]                            on Pg
 --      | [LIMIT Placeholder] | LIMIT Placeholder OFFSET Placeholder          on Mysql and Sqlite
 --      | LIMIT 18446744073709551615 OFFSET Placeholder                       on Mysql, in a Select
 --      | LIMIT - 1 OFFSET Placeholder                                        on Sqlite
+--      | [OFFSET Placeholder ROWS [FETCH NEXT Placeholder ROWS ONLY]]
+--      | OFFSET 0 ROWS FETCH NEXT Placeholder ROWS ONLY                      on Bracket
 unfoldable pub page : Dialect → Page → Front
 page d (PageBy None None) rest = rest
-page d (PageBy None (Some o)) rest = no_limit d (Word OFFSET ∷ token.Mark o ∷ rest)
+page d (PageBy None (Some o)) rest = no_limit d (Word OFFSET ∷ token.Mark o ∷ rows d rest)
 page d (PageBy (Some l) None) rest = Word LIMIT ∷ token.Mark l ∷ rest
 page d (PageBy (Some l) (Some o)) rest = Word LIMIT ∷ token.Mark l ∷ Word OFFSET ∷ token.Mark o ∷ rest
+page d (FetchBy None l) rest = Word OFFSET ∷ Number (codes "0") ∷ fetch l rest
+page d (FetchBy (Some o) l) rest = Word OFFSET ∷ token.Mark o ∷ fetch l rest
 
 -- Mode = UPDATE | SHARE               on Pg and Mysql
 --      | NO KEY UPDATE | KEY SHARE    on Pg
@@ -135,11 +153,12 @@ unfoldable pub all_word : Bool → Front
 all_word false rest = rest
 all_word true rest = Word ALL ∷ rest
 
--- Side = ( Query )                     on Pg and Mysql
+-- Side = ( Query )                     on Pg, Mysql and Bracket
 --      | SELECT * FROM ( Query )       on Sqlite, which has no brackets there
 unfoldable pub side_open : Dialect → Front
 side_open Pg rest = Open ∷ rest
 side_open Mysql rest = Open ∷ rest
+side_open Bracket rest = Open ∷ rest
 side_open Sqlite rest = Word SELECT ∷ Star ∷ Word FROM ∷ Open ∷ rest
 
 -- Place.. where Place = number [ASC | DESC]
@@ -165,9 +184,9 @@ unfoldable mutual
   --            | COUNT ( * ) | COUNT ( Expression )
   --            | ( Expression = ANY ( Placeholder ) ) | ( Expression != ALL ( Placeholder ) )      on Pg
   --            | ( Expression = ANY ( Query ) ) | ( Expression != ALL ( Query ) )                  on Pg
-  --            | ( Expression IN ( Placeholder.. ) ) | ( Expression NOT IN ( Placeholder.. ) )     on Mysql and Sqlite
-  --            | ( Expression IN ( Query ) ) | ( Expression NOT IN ( Query ) )                     on Mysql and Sqlite
-  --            | ( 1 = 0 ) | ( 1 = 1 )                                                             on Mysql and Sqlite
+  --            | ( Expression IN ( Placeholder.. ) ) | ( Expression NOT IN ( Placeholder.. ) )     on Mysql, Sqlite, Bracket
+  --            | ( Expression IN ( Query ) ) | ( Expression NOT IN ( Query ) )                     on Mysql, Sqlite, Bracket
+  --            | ( 1 = 0 ) | ( 1 = 1 )                                                             on Mysql, Sqlite, Bracket
   pub expression : Dialect → Expression → Front
   expression d (Path a ns) rest = names a ns rest
   expression d (Placeholder m) rest = token.Mark m ∷ rest

@@ -5,6 +5,7 @@ pub mod Tree
 pub mod MarkTree
 pub mod Fits
 pub mod Grammar
+pub mod Kinds
 pub mod Text
 pub mod Reading
 pub mod Numbering

@@ -1,6 +1,6 @@
 -- The trees of texts that are read: a mark stands at each place of a value. A normal tree is one of them.
 use Rattle.sql_grammar.specs.Tree as tree
-pub use Rattle.sql_grammar.specs.Tree.{Mark, Name, Logic, And, Or, Direction, Plain, Ascending, Descending, JoinKind, Inner, LeftOuter, SampleMethod, Bernoulli, System, SetOperator, Union, Intersect, Except, LockMode, ForUpdate, ForNoKeyUpdate, ForShare, ForKeyShare, LockWait, Waits, SkipLocked, NoWait, Lock, Unlocked, Locks, Whole, Sampled, PageBy, Places, OnlyPlace, MorePlace, MaybePlaces, NoPlaces, SomePlaces, Path, Placeholder, SingleValue, Exists, Compared, Connected, Not, NullTest, CountAll, Count, InList, InQuery, Constant, OnlyExpression, MoreExpression, OnlyItem, MoreItem, Table, Alias, Join, NoExpression, SomeExpression, NoExpressions, SomeExpressions, NoItems, SomeItems, NoSource, SomeSource, Every, Distinct, DistinctOn, Select, Combined}
+pub use Rattle.sql_grammar.specs.Tree.{Mark, Name, Logic, And, Or, Direction, Plain, Ascending, Descending, JoinKind, Inner, LeftOuter, SampleMethod, Bernoulli, System, SetOperator, Union, Intersect, Except, LockMode, ForUpdate, ForNoKeyUpdate, ForShare, ForKeyShare, LockWait, Waits, SkipLocked, NoWait, Lock, Unlocked, Locks, Whole, Sampled, PageBy, FetchBy, Places, OnlyPlace, MorePlace, MaybePlaces, NoPlaces, SomePlaces, Path, Placeholder, SingleValue, Exists, Compared, Connected, Not, NullTest, CountAll, Count, InList, InQuery, Constant, OnlyExpression, MoreExpression, OnlyItem, MoreItem, Table, Alias, Join, NoExpression, SomeExpression, NoExpressions, SomeExpressions, NoItems, SomeItems, NoSource, SomeSource, Every, Distinct, DistinctOn, Select, Combined}
 
 abbrev pub Sample : Type 0
 Sample = tree.Sample tree.Mark

@@ -2,95 +2,32 @@
 use Rattle.std.specs.Prelude.{◌≡◌, ℕ, suc, List, [], ◌∷◌, Option, Some, None}
 use Rattle.std.specs.List.{slice_get}
 use Rattle.sql_dialect.specs.declared.backend.Dialect.{Dialect}
-use Rattle.sql_dialect.specs.declared.backend.Dialect.TheVariants.{Pg, Mysql, Sqlite}
-use Rattle.sql_grammar.specs.Tree.{Mark, Sample, Whole, Sampled, Page, PageBy, Expression, Path, Placeholder, SingleValue, Exists, Compared, Connected, Not, NullTest, CountAll, Count, InList, InQuery, Constant, Expressions, OnlyExpression, MoreExpression, Items, OnlyItem, MoreItem, Source, Table, Alias, Join, MaybeExpression, NoExpression, SomeExpression, MaybeExpressions, NoExpressions, SomeExpressions, MaybeItems, NoItems, SomeItems, MaybeSource, NoSource, SomeSource, Distinctness, Every, Distinct, DistinctOn, Query, Select, Combined}
+use Rattle.sql_dialect.specs.declared.backend.Dialect.TheVariants.{Pg, Mysql, Sqlite, Bracket}
+use Rattle.sql_grammar.specs.Values.{values_expression, values_expressions, values_source, values_maybe, values_maybe_expressions, values_maybe_items, values_maybe_source, values_distinct, values_query, values_option}
+use Rattle.sql_grammar.specs.Tree.{Mark, Sample, Whole, Sampled, Page, PageBy, FetchBy, Expression, Path, Placeholder, SingleValue, Exists, Compared, Connected, Not, NullTest, CountAll, Count, InList, InQuery, Constant, Expressions, OnlyExpression, MoreExpression, Items, OnlyItem, MoreItem, Source, Table, Alias, Join, MaybeExpression, NoExpression, SomeExpression, MaybeExpressions, NoExpressions, SomeExpressions, MaybeItems, NoItems, SomeItems, MaybeSource, NoSource, SomeSource, Distinctness, Every, Distinct, DistinctOn, Query, Select, Combined}
 
 -- ## What stands at each place is replaced by f of the number of places before it and of itself
+
+-- how many places there are with these, where n come before them
+abbrev pub after : {M : Type 0} → ℕ → List M → ℕ
+after n [] = n
+after n (m ∷ ms) = after (suc n) ms
 
 abbrev pub each_marks : {M N : Type 0} → (ℕ → M → N) → ℕ → List M → List N
 each_marks f n [] = []
 each_marks f n (m ∷ ms) = f n m ∷ each_marks f (suc n) ms
 
-abbrev pub after_marks : {M : Type 0} → ℕ → List M → ℕ
-after_marks n [] = n
-after_marks n (m ∷ ms) = after_marks (suc n) ms
-
-abbrev pub after_option : {M : Type 0} → ℕ → Option M → ℕ
-after_option n None = n
-after_option n (Some m) = suc n
-
 abbrev pub each_option : {M N : Type 0} → (ℕ → M → N) → ℕ → Option M → Option N
 each_option f n None = None
 each_option f n (Some m) = Some (f n m)
-
-abbrev pub after_sample : {M : Type 0} → ℕ → Sample M → ℕ
-after_sample n Whole = n
-after_sample n (Sampled by p s) = after_option (suc n) s
 
 abbrev pub each_sample : {M N : Type 0} → (ℕ → M → N) → ℕ → Sample M → Sample N
 each_sample f n Whole = Whole
 each_sample f n (Sampled by p s) = Sampled by (f n p) (each_option f (suc n) s)
 
-abbrev pub after_page : {M : Type 0} → ℕ → Page M → ℕ
-after_page n (PageBy l o) = after_option (after_option n l) o
-
 abbrev pub each_page : {M N : Type 0} → (ℕ → M → N) → ℕ → Page M → Page N
-each_page f n (PageBy l o) = PageBy (each_option f n l) (each_option f (after_option n l) o)
-
--- how many places there are up to the end of each node, where there are n before it
-abbrev mutual
-  pub after_expression : {M : Type 0} → ℕ → Expression M → ℕ
-  after_expression n (Placeholder m) = suc n
-  after_expression n (SingleValue q) = after_query n q
-  after_expression n (Exists q) = after_query n q
-  after_expression n (Compared by a b) = after_expression (after_expression n a) b
-  after_expression n (Connected by a b) = after_expression (after_expression n a) b
-  after_expression n (Not a) = after_expression n a
-  after_expression n (NullTest b a) = after_expression n a
-  after_expression n (Count a) = after_expression n a
-  after_expression n (InList b a m ms) = after_marks (suc (after_expression n a)) ms
-  after_expression n (InQuery b a q) = after_query (after_expression n a) q
-  after_expression n _ = n
-
-  pub after_expressions : {M : Type 0} → ℕ → Expressions M → ℕ
-  after_expressions n (OnlyExpression a) = after_expression n a
-  after_expressions n (MoreExpression a more) = after_expressions (after_expression n a) more
-
-  pub after_items : {M : Type 0} → ℕ → Items M → ℕ
-  after_items n (OnlyItem a by) = after_expression n a
-  after_items n (MoreItem a by more) = after_items (after_expression n a) more
-
-  pub after_source : {M : Type 0} → ℕ → Source M → ℕ
-  after_source n (Table a ns o s) = after_sample n s
-  after_source n (Alias a ns b) = n
-  after_source n (Join k a b e) = after_expression (after_source (after_source n a) b) e
-
-  pub after_maybe : {M : Type 0} → ℕ → MaybeExpression M → ℕ
-  after_maybe n NoExpression = n
-  after_maybe n (SomeExpression e) = after_expression n e
-
-  pub after_maybe_expressions : {M : Type 0} → ℕ → MaybeExpressions M → ℕ
-  after_maybe_expressions n NoExpressions = n
-  after_maybe_expressions n (SomeExpressions es) = after_expressions n es
-
-  pub after_maybe_items : {M : Type 0} → ℕ → MaybeItems M → ℕ
-  after_maybe_items n NoItems = n
-  after_maybe_items n (SomeItems is) = after_items n is
-
-  pub after_maybe_source : {M : Type 0} → ℕ → MaybeSource M → ℕ
-  after_maybe_source n NoSource = n
-  after_maybe_source n (SomeSource s) = after_source n s
-
-  pub after_distinct : {M : Type 0} → ℕ → Distinctness M → ℕ
-  after_distinct n Every = n
-  after_distinct n Distinct = n
-  after_distinct n (DistinctOn es) = after_expressions n es
-
-  pub after_query : {M : Type 0} → ℕ → Query M → ℕ
-  after_query n (Select u es f w g h o p l) =
-      let selected = after_maybe_source (after_expressions (after_distinct n u) es) f in
-      after_page (after_maybe_items (after_maybe (after_maybe_expressions (after_maybe selected w) g) h) o) p
-  after_query n (Combined a by all b o p) = after_page (after_query (after_query n a) b) p
+each_page f n (PageBy l o) = PageBy (each_option f n l) (each_option f (after n (values_option l)) o)
+each_page f n (FetchBy o l) = FetchBy (each_option f n o) (f (after n (values_option o)) l)
 
 abbrev mutual
   pub each_expression : {M N : Type 0} → (ℕ → M → N) → ℕ → Expression M → Expression N
@@ -99,33 +36,33 @@ abbrev mutual
   each_expression f n (SingleValue q) = SingleValue (each_query f n q)
   each_expression f n (Exists q) = Exists (each_query f n q)
   each_expression f n (Compared by a b) =
-      Compared by (each_expression f n a) (each_expression f (after_expression n a) b)
+      Compared by (each_expression f n a) (each_expression f (after n (values_expression a)) b)
   each_expression f n (Connected by a b) =
-      Connected by (each_expression f n a) (each_expression f (after_expression n a) b)
+      Connected by (each_expression f n a) (each_expression f (after n (values_expression a)) b)
   each_expression f n (Not a) = Not (each_expression f n a)
   each_expression f n (NullTest b a) = NullTest b (each_expression f n a)
   each_expression f n CountAll = CountAll
   each_expression f n (Count a) = Count (each_expression f n a)
   each_expression f n (InList b a m ms) =
-      InList b (each_expression f n a) (f (after_expression n a) m) (each_marks f (suc (after_expression n a)) ms)
-  each_expression f n (InQuery b a q) = InQuery b (each_expression f n a) (each_query f (after_expression n a) q)
+      InList b (each_expression f n a) (f (after n (values_expression a)) m) (each_marks f (suc (after n (values_expression a))) ms)
+  each_expression f n (InQuery b a q) = InQuery b (each_expression f n a) (each_query f (after n (values_expression a)) q)
   each_expression f n (Constant b) = Constant b
 
   pub each_expressions : {M N : Type 0} → (ℕ → M → N) → ℕ → Expressions M → Expressions N
   each_expressions f n (OnlyExpression a) = OnlyExpression (each_expression f n a)
   each_expressions f n (MoreExpression a more) =
-      MoreExpression (each_expression f n a) (each_expressions f (after_expression n a) more)
+      MoreExpression (each_expression f n a) (each_expressions f (after n (values_expression a)) more)
 
   pub each_items : {M N : Type 0} → (ℕ → M → N) → ℕ → Items M → Items N
   each_items f n (OnlyItem a by) = OnlyItem (each_expression f n a) by
-  each_items f n (MoreItem a by more) = MoreItem (each_expression f n a) by (each_items f (after_expression n a) more)
+  each_items f n (MoreItem a by more) = MoreItem (each_expression f n a) by (each_items f (after n (values_expression a)) more)
 
   pub each_source : {M N : Type 0} → (ℕ → M → N) → ℕ → Source M → Source N
   each_source f n (Table a ns o s) = Table a ns o (each_sample f n s)
   each_source f n (Alias a ns b) = Alias a ns b
   each_source f n (Join k a b e) =
-      Join k (each_source f n a) (each_source f (after_source n a) b)
-      (each_expression f (after_source (after_source n a) b) e)
+      Join k (each_source f n a) (each_source f (after n (values_source a)) b)
+      (each_expression f (after (after n (values_source a)) (values_source b)) e)
 
   pub each_maybe : {M N : Type 0} → (ℕ → M → N) → ℕ → MaybeExpression M → MaybeExpression N
   each_maybe f n NoExpression = NoExpression
@@ -150,18 +87,18 @@ abbrev mutual
 
   pub each_query : {M N : Type 0} → (ℕ → M → N) → ℕ → Query M → Query N
   each_query f n (Select u es s w g h o p l) =
-      let n1 = after_distinct n u in
-      let n2 = after_expressions n1 es in
-      let n3 = after_maybe_source n2 s in
-      let n4 = after_maybe n3 w in
-      let n5 = after_maybe_expressions n4 g in
-      let n6 = after_maybe n5 h in
-      let n7 = after_maybe_items n6 o in
+      let n1 = after n (values_distinct u) in
+      let n2 = after n1 (values_expressions es) in
+      let n3 = after n2 (values_maybe_source s) in
+      let n4 = after n3 (values_maybe w) in
+      let n5 = after n4 (values_maybe_expressions g) in
+      let n6 = after n5 (values_maybe h) in
+      let n7 = after n6 (values_maybe_items o) in
       Select (each_distinct f n u) (each_expressions f n1 es) (each_maybe_source f n2 s) (each_maybe f n3 w)
       (each_maybe_expressions f n4 g) (each_maybe f n5 h) (each_maybe_items f n6 o) (each_page f n7 p) l
   each_query f n (Combined a by all b o p) =
-      Combined (each_query f n a) by all (each_query f (after_query n a) b) o
-      (each_page f (after_query (after_query n a) b) p)
+      Combined (each_query f n a) by all (each_query f (after n (values_query a)) b) o
+      (each_page f (after (after n (values_query a)) (values_query b)) p)
 
 -- ## Normal trees and filled trees
 
@@ -170,9 +107,10 @@ abbrev pub mark_of : Dialect → ℕ → Mark
 mark_of Pg n = Some (suc n)
 mark_of Mysql n = None
 mark_of Sqlite n = None
+mark_of Bracket n = Some (suc n)
 
--- The tree with a placeholder for each value, numbered from left to right on Pg. Of a statement's filled tree it is the
--- normal tree.
+-- The tree with a placeholder for each value, numbered from left to right on Pg and Bracket. Of a statement's filled tree
+-- it is the normal tree.
 abbrev pub numbered : {V : Type 0} → Dialect → Query V → Query Mark
 numbered d q = each_query (λ n v. mark_of d n) 0 q
 

@@ -1,8 +1,8 @@
 -- Which bytes tokens are spelled with.
 use Rattle.std.specs.Prelude.{ℕ, ◌+◌, ◌*◌, ◌-◌, List, [], ◌∷◌, ◌++◌, Bool, true, false, nat_eq, nat_lt, nat_le, ◌&&◌, ◌||◌, if◌then◌else◌, codes}
 use Rattle.sql_dialect.specs.declared.backend.Dialect.{Dialect}
-use Rattle.sql_dialect.specs.declared.backend.Dialect.TheVariants.{Pg, Mysql, Sqlite}
-use Rattle.sql_grammar.specs.Token.{Keyword, SELECT, DISTINCT, ON, FROM, WHERE, GROUP, BY, HAVING, ORDER, ASC, DESC, LIMIT, OFFSET, FOR, UPDATE, SHARE, NO, KEY, SKIP, LOCKED, NOWAIT, UNION, INTERSECT, EXCEPT, ALL, AS, ONLY, TABLESAMPLE, BERNOULLI, SYSTEM, REPEATABLE, INNER, LEFT, OUTER, JOIN, EXISTS, AND, OR, NOT, IS, NULL, COUNT, ANY, IN, Comparison, Equal, NotEqual, Less, LessOrEqual, Greater, GreaterOrEqual, Token, Word, Unknown}
+use Rattle.sql_dialect.specs.declared.backend.Dialect.TheVariants.{Pg, Mysql, Sqlite, Bracket}
+use Rattle.sql_grammar.specs.Token.{Keyword, SELECT, DISTINCT, ON, FROM, WHERE, GROUP, BY, HAVING, ORDER, ASC, DESC, LIMIT, OFFSET, FOR, UPDATE, SHARE, NO, KEY, SKIP, LOCKED, NOWAIT, UNION, INTERSECT, EXCEPT, ALL, AS, ONLY, TABLESAMPLE, BERNOULLI, SYSTEM, REPEATABLE, INNER, LEFT, OUTER, JOIN, EXISTS, AND, OR, NOT, IS, NULL, COUNT, ANY, IN, ROWS, FETCH, NEXT, Comparison, Equal, NotEqual, Less, LessOrEqual, Greater, GreaterOrEqual, Token, Word, Unknown}
 
 -- ## Words
 
@@ -59,13 +59,16 @@ spelling NULL = codes "NULL"
 spelling COUNT = codes "COUNT"
 spelling ANY = codes "ANY"
 spelling IN = codes "IN"
+spelling ROWS = codes "ROWS"
+spelling FETCH = codes "FETCH"
+spelling NEXT = codes "NEXT"
 
 abbrev pub keywords : List Keyword
 keywords =
     SELECT ∷ DISTINCT ∷ ON ∷ FROM ∷ WHERE ∷ GROUP ∷ BY ∷ HAVING ∷ ORDER ∷ ASC ∷ DESC ∷ LIMIT ∷ OFFSET ∷ FOR ∷ UPDATE
     ∷ SHARE ∷ NO ∷ KEY ∷ SKIP ∷ LOCKED ∷ NOWAIT ∷ UNION ∷ INTERSECT ∷ EXCEPT ∷ ALL ∷ AS ∷ ONLY ∷ TABLESAMPLE
     ∷ BERNOULLI ∷ SYSTEM ∷ REPEATABLE ∷ INNER ∷ LEFT ∷ OUTER ∷ JOIN ∷ EXISTS ∷ AND ∷ OR ∷ NOT ∷ IS ∷ NULL ∷ COUNT
-    ∷ ANY ∷ IN ∷ []
+    ∷ ANY ∷ IN ∷ ROWS ∷ FETCH ∷ NEXT ∷ []
 
 unfoldable pub same_bytes : List ℕ → List ℕ → Bool
 same_bytes [] [] = true
@@ -91,7 +94,7 @@ unfoldable pub all_digits : List ℕ → Bool
 all_digits [] = true
 all_digits (c ∷ cs) = is_digit c && all_digits cs
 
--- the number that digits write behind those of n
+-- the number that digits write after those of n
 unfoldable pub value_after : ℕ → List ℕ → ℕ
 value_after n [] = n
 value_after n (c ∷ cs) = value_after (10 * n + (c - 48)) cs
@@ -106,18 +109,30 @@ is_placeholder_number (c ∷ cs) = nat_lt 48 c && nat_lt (value_of (c ∷ cs)) 4
 
 -- ## Signs
 
--- The quote around names: `"` on Pg (PostgreSQL, 4.1.1 Identifiers and Key Words), a backtick on Mysql (MySQL, 9.2 Schema
--- Object Names) and Sqlite, which takes MySQL's form (SQLite Keywords).
+-- The quote that begins a name: `"` on Pg (PostgreSQL, 4.1.1 Identifiers and Key Words), a backtick on Mysql (MySQL, 9.2
+-- Schema Object Names) and Sqlite, which takes MySQL's form (SQLite Keywords), `[` on Bracket.
 unfoldable pub quote : Dialect → ℕ
 quote Pg = 34
 quote Mysql = 96
 quote Sqlite = 96
+quote Bracket = 91
+
+-- The quote that ends it: the same, and `]` on Bracket. It stands in a name doubled.
+unfoldable pub end_quote : Dialect → ℕ
+end_quote Pg = 34
+end_quote Mysql = 96
+end_quote Sqlite = 96
+end_quote Bracket = 93
 
 -- the byte is `=`
 abbrev pub is_equal : ℕ → Bool
 is_equal c = nat_eq c 61
 
--- a comparison, in front of more text
+-- the byte is `p`
+abbrev pub is_p : ℕ → Bool
+is_p c = nat_eq c 112
+
+-- a comparison, before more text
 unfoldable pub sign_text : Comparison → List ℕ → List ℕ
 sign_text Equal rest = codes "=" ++ rest
 sign_text NotEqual rest = codes "!=" ++ rest

@@ -1,11 +1,11 @@
--- How a tree is written, with its spaces, in front of more text.
+-- How a tree is written, with its spaces, before more text.
 use Rattle.std.specs.Prelude.{ℕ, List, [], ◌∷◌, ◌++◌, Option, Some, None, Bool, true, false, codes}
 use Rattle.std.specs.Fmt.{decimal}
 use Rattle.sql_dialect.specs.Written.{quoted}
 use Rattle.sql_dialect.specs.declared.backend.Dialect.{Dialect}
-use Rattle.sql_dialect.specs.declared.backend.Dialect.TheVariants.{Pg, Mysql, Sqlite}
+use Rattle.sql_dialect.specs.declared.backend.Dialect.TheVariants.{Pg, Mysql, Sqlite, Bracket}
 use Rattle.sql_grammar.specs.Spelling.{sign_text}
-use Rattle.sql_grammar.specs.MarkTree.{Mark, Name, Logic, And, Or, Direction, Plain, Ascending, Descending, JoinKind, Inner, LeftOuter, SampleMethod, Bernoulli, System, SetOperator, Union, Intersect, Except, LockMode, ForUpdate, ForNoKeyUpdate, ForShare, ForKeyShare, LockWait, Waits, SkipLocked, NoWait, Lock, Unlocked, Locks, Sample, Whole, Sampled, Page, PageBy, Places, OnlyPlace, MorePlace, MaybePlaces, NoPlaces, SomePlaces, Expression, Path, Placeholder, SingleValue, Exists, Compared, Connected, Not, NullTest, CountAll, Count, InList, InQuery, Constant, Expressions, OnlyExpression, MoreExpression, Items, OnlyItem, MoreItem, Source, Table, Alias, Join, MaybeExpression, NoExpression, SomeExpression, MaybeExpressions, NoExpressions, SomeExpressions, MaybeItems, NoItems, SomeItems, MaybeSource, NoSource, SomeSource, Distinctness, Every, Distinct, DistinctOn, Query, Select, Combined}
+use Rattle.sql_grammar.specs.MarkTree.{Mark, Name, Logic, And, Or, Direction, Plain, Ascending, Descending, JoinKind, Inner, LeftOuter, SampleMethod, Bernoulli, System, SetOperator, Union, Intersect, Except, LockMode, ForUpdate, ForNoKeyUpdate, ForShare, ForKeyShare, LockWait, Waits, SkipLocked, NoWait, Lock, Unlocked, Locks, Sample, Whole, Sampled, Page, PageBy, FetchBy, Places, OnlyPlace, MorePlace, MaybePlaces, NoPlaces, SomePlaces, Expression, Path, Placeholder, SingleValue, Exists, Compared, Connected, Not, NullTest, CountAll, Count, InList, InQuery, Constant, Expressions, OnlyExpression, MoreExpression, Items, OnlyItem, MoreItem, Source, Table, Alias, Join, MaybeExpression, NoExpression, SomeExpression, MaybeExpressions, NoExpressions, SomeExpressions, MaybeItems, NoItems, SomeItems, MaybeSource, NoSource, SomeSource, Distinctness, Every, Distinct, DistinctOn, Query, Select, Combined}
 
 abbrev pub Text : Type 0
 Text = List ℕ
@@ -17,14 +17,17 @@ unfoldable pub names : Dialect → Name → List Name → Text → Text
 names d a [] rest = quoted d a ++ rest
 names d a (b ∷ bs) rest = quoted d a ++ (codes "." ++ names d b bs rest)
 
--- `$7`, or `?` where the mark has no number
-unfoldable pub mark : Mark → Text → Text
-mark None rest = codes "?" ++ rest
-mark (Some n) rest = codes "$" ++ (decimal n ++ rest)
+-- `$7`, on Bracket `@p7`, or `?` where the mark has no number
+unfoldable pub mark : Dialect → Mark → Text → Text
+mark d None rest = codes "?" ++ rest
+mark Pg (Some n) rest = codes "$" ++ (decimal n ++ rest)
+mark Mysql (Some n) rest = codes "$" ++ (decimal n ++ rest)
+mark Sqlite (Some n) rest = codes "$" ++ (decimal n ++ rest)
+mark Bracket (Some n) rest = codes "@p" ++ (decimal n ++ rest)
 
-unfoldable pub marks : Mark → List Mark → Text → Text
-marks p [] rest = mark p rest
-marks p (n ∷ ns) rest = mark p (codes ", " ++ marks n ns rest)
+unfoldable pub marks : Dialect → Mark → List Mark → Text → Text
+marks d p [] rest = mark d p rest
+marks d p (n ∷ ns) rest = mark d p (codes ", " ++ marks d n ns rest)
 
 unfoldable pub logic : Logic → Text → Text
 logic And rest = codes " AND " ++ rest
@@ -48,6 +51,8 @@ among Mysql false rest = codes " IN (" ++ rest
 among Mysql true rest = codes " NOT IN (" ++ rest
 among Sqlite false rest = codes " IN (" ++ rest
 among Sqlite true rest = codes " NOT IN (" ++ rest
+among Bracket false rest = codes " IN (" ++ rest
+among Bracket true rest = codes " NOT IN (" ++ rest
 
 unfoldable pub constant : Bool → Text → Text
 constant false rest = codes "(1=0)" ++ rest
@@ -67,23 +72,29 @@ unfoldable pub only : Bool → Text → Text
 only false rest = rest
 only true rest = codes " ONLY " ++ rest
 
-unfoldable pub seed : Option Mark → Text → Text
-seed None rest = rest
-seed (Some p) rest = codes " REPEATABLE(" ++ mark p (codes ")" ++ rest)
+unfoldable pub seed : Dialect → Option Mark → Text → Text
+seed d None rest = rest
+seed d (Some p) rest = codes " REPEATABLE(" ++ mark d p (codes ")" ++ rest)
 
-unfoldable pub sample : Sample → Text → Text
-sample Whole rest = rest
-sample (Sampled by portion s) rest = method by (mark portion (codes ")" ++ seed s rest))
+unfoldable pub sample : Dialect → Sample → Text → Text
+sample d Whole rest = rest
+sample d (Sampled by portion s) rest = method by (mark d portion (codes ")" ++ seed d s rest))
 
 -- ## Pages and locks
 
+unfoldable pub fetch : Dialect → Mark → Text → Text
+fetch d l rest = codes " ROWS FETCH NEXT " ++ mark d l (codes " ROWS ONLY" ++ rest)
+
 unfoldable pub page : Dialect → Page → Text → Text
 page d (PageBy None None) rest = rest
-page Pg (PageBy None (Some o)) rest = codes " OFFSET " ++ mark o rest
-page Mysql (PageBy None (Some o)) rest = codes " LIMIT 18446744073709551615  OFFSET " ++ mark o rest
-page Sqlite (PageBy None (Some o)) rest = codes " LIMIT -1  OFFSET " ++ mark o rest
-page d (PageBy (Some l) None) rest = codes " LIMIT " ++ mark l rest
-page d (PageBy (Some l) (Some o)) rest = codes " LIMIT " ++ mark l (codes " OFFSET " ++ mark o rest)
+page Pg (PageBy None (Some o)) rest = codes " OFFSET " ++ mark Pg o rest
+page Mysql (PageBy None (Some o)) rest = codes " LIMIT 18446744073709551615  OFFSET " ++ mark Mysql o rest
+page Sqlite (PageBy None (Some o)) rest = codes " LIMIT -1  OFFSET " ++ mark Sqlite o rest
+page Bracket (PageBy None (Some o)) rest = codes " OFFSET " ++ mark Bracket o (codes " ROWS" ++ rest)
+page d (PageBy (Some l) None) rest = codes " LIMIT " ++ mark d l rest
+page d (PageBy (Some l) (Some o)) rest = codes " LIMIT " ++ mark d l (codes " OFFSET " ++ mark d o rest)
+page d (FetchBy None l) rest = codes " OFFSET 0" ++ fetch d l rest
+page d (FetchBy (Some o) l) rest = codes " OFFSET " ++ mark d o (fetch d l rest)
 
 unfoldable pub mode : LockMode → Text → Text
 mode ForUpdate rest = codes " FOR UPDATE" ++ rest
@@ -114,6 +125,7 @@ all_word true rest = codes "ALL " ++ rest
 unfoldable pub side_open : Dialect → Text → Text
 side_open Pg rest = codes "(" ++ rest
 side_open Mysql rest = codes "(" ++ rest
+side_open Bracket rest = codes "(" ++ rest
 side_open Sqlite rest = codes "SELECT * FROM (" ++ rest
 
 unfoldable pub places : Places → Text → Text
@@ -129,7 +141,7 @@ by_places (SomePlaces ps) rest = codes " ORDER BY " ++ places ps rest
 unfoldable mutual
   pub expression : Dialect → Expression → Text → Text
   expression d (Path a ns) rest = names d a ns rest
-  expression d (Placeholder p) rest = mark p rest
+  expression d (Placeholder p) rest = mark d p rest
   expression d (SingleValue q) rest = codes "(" ++ query d q (codes ")" ++ rest)
   expression d (Exists q) rest = codes "EXISTS (" ++ query d q (codes ")" ++ rest)
   expression d (Compared by a b) rest =
@@ -140,7 +152,7 @@ unfoldable mutual
   expression d CountAll rest = codes "COUNT(*)" ++ rest
   expression d (Count a) rest = codes "COUNT(" ++ expression d a (codes ")" ++ rest)
   expression d (InList negated a p ps) rest =
-      codes "(" ++ expression d a (among d negated (marks p ps (codes "))" ++ rest)))
+      codes "(" ++ expression d a (among d negated (marks d p ps (codes "))" ++ rest)))
   expression d (InQuery negated a q) rest =
       codes "(" ++ expression d a (among d negated (query d q (codes "))" ++ rest)))
   expression d (Constant b) rest = constant b rest
@@ -154,7 +166,7 @@ unfoldable mutual
   items d (MoreItem a by more) rest = expression d a (direction by (codes ", " ++ items d more rest))
 
   pub source : Dialect → Source → Text → Text
-  source d (Table a ns o s) rest = only o (names d a ns (sample s rest))
+  source d (Table a ns o s) rest = only o (names d a ns (sample d s rest))
   source d (Alias a ns b) rest = names d a ns (codes " AS " ++ (quoted d b ++ rest))
   source d (Join k a b e) rest =
       codes "(" ++ source d a (kind k (source d b (codes " ON " ++ expression d e (codes ")" ++ rest))))

@@ -47,6 +47,9 @@ pub data Keyword : Type 0 where
   COUNT : Keyword
   ANY : Keyword
   IN : Keyword
+  ROWS : Keyword
+  FETCH : Keyword
+  NEXT : Keyword
 
 -- `=`, `!=`, `<`, `<=`, `>` and `>=`
 pub data Comparison : Type 0 where

@@ -2,14 +2,14 @@
 -- the next quote that isn't doubled, and stands for the text between them with doubled quotes made single. A word is a
 -- longest run of ASCII letters, a number a longest run of digits, kept as its digits. The place of a value is `$` with its
 -- number on Pg (PostgreSQL, 4.2.2 Positional Parameters), `?` on Mysql (MySQL, 13.5.1 PREPARE Statement) and on Sqlite
--- (SQLite, SQL Language Expressions, Parameters). Of two signs that fit, the longer one is taken. A text with anything else
--- has no tokens: a tab, another dialect's placeholder, a quote that isn't closed, `$01`.
+-- (SQLite, SQL Language Expressions, Parameters), `@p` with its number on Bracket. Of two signs that fit, the longer one is
+-- taken. A text with anything else has no tokens: a tab, another dialect's placeholder, a quote that isn't closed, `$01`.
 use Rattle.std.specs.Prelude.{◌≡◌, ℕ, List, [], ◌∷◌, ◌++◌, Option, Some, None, Bool, false, nat_eq, if◌then◌else◌}
 use Rattle.std.specs.Option.{option_map}
 use Rattle.sql_dialect.specs.declared.backend.Dialect.{Dialect}
-use Rattle.sql_dialect.specs.declared.backend.Dialect.TheVariants.{Pg, Mysql, Sqlite}
+use Rattle.sql_dialect.specs.declared.backend.Dialect.TheVariants.{Pg, Mysql, Sqlite, Bracket}
 use Rattle.sql_grammar.specs.Token.{Comparison, Equal, NotEqual, Less, LessOrEqual, Greater, GreaterOrEqual, Token, Quoted, Number, Mark, Sign, Open, Close, Comma, Dot, Star, Minus}
-use Rattle.sql_grammar.specs.Spelling.{is_letter, is_digit, word_of, value_of, is_placeholder_number, is_equal, quote}
+use Rattle.sql_grammar.specs.Spelling.{is_letter, is_digit, word_of, value_of, is_placeholder_number, is_equal, is_p, quote, end_quote}
 
 -- What has been read of the token at hand.
 pub data State : Type 0 where
@@ -17,14 +17,16 @@ pub data State : Type 0 where
   Between : State
   -- the name so far
   InName : List ℕ → State
-  -- the same, behind a quote that ends the name or is the first of two
+  -- the same, after a quote that ends the name or is the first of two
   AfterQuote : List ℕ → State
   InWord : List ℕ → State
   InNumber : List ℕ → State
-  -- behind `$`, and the digits so far
+  -- after `@`
+  AfterAt : State
+  -- after `$` or `@p`, and the digits so far
   AfterDollar : State
   InPlaceholder : List ℕ → State
-  -- behind `!`, `<` and `>`
+  -- after `!`, `<` and `>`
   AfterBang : State
   AfterLess : State
   AfterGreater : State
@@ -34,10 +36,11 @@ pub data State : Type 0 where
 -- the state where the next byte belongs to the token at hand
 unfoldable pub extended : Dialect → State → ℕ → Option State
 extended d Between c = None
-extended d (InName n) c = if nat_eq c (quote d) then Some (AfterQuote n) else Some (InName (n ++ c ∷ []))
-extended d (AfterQuote n) c = if nat_eq c (quote d) then Some (InName (n ++ c ∷ [])) else None
+extended d (InName n) c = if nat_eq c (end_quote d) then Some (AfterQuote n) else Some (InName (n ++ c ∷ []))
+extended d (AfterQuote n) c = if nat_eq c (end_quote d) then Some (InName (n ++ c ∷ [])) else None
 extended d (InWord w) c = if is_letter c then Some (InWord (w ++ c ∷ [])) else None
 extended d (InNumber ds) c = if is_digit c then Some (InNumber (ds ++ c ∷ [])) else None
+extended d AfterAt c = if is_p c then Some AfterDollar else None
 extended d AfterDollar c = if is_digit c then Some (InPlaceholder (c ∷ [])) else None
 extended d (InPlaceholder ds) c = if is_digit c then Some (InPlaceholder (ds ++ c ∷ [])) else None
 extended d AfterBang c = if is_equal c then Some (Whole (Sign NotEqual)) else None
@@ -50,6 +53,7 @@ unfoldable pub begun_placeholder : Dialect → ℕ → Option State
 begun_placeholder Pg c = if nat_eq c 36 then Some AfterDollar else None
 begun_placeholder Mysql c = if nat_eq c 63 then Some (Whole (Mark None)) else None
 begun_placeholder Sqlite c = if nat_eq c 63 then Some (Whole (Mark None)) else None
+begun_placeholder Bracket c = if nat_eq c 64 then Some AfterAt else None
 
 unfoldable pub begun_name : Dialect → ℕ → Option State
 begun_name d c = if nat_eq c (quote d) then Some (InName []) else begun_placeholder d c
@@ -83,6 +87,7 @@ ending (InName n) = Broken
 ending (AfterQuote n) = Is (Quoted n)
 ending (InWord w) = Is (word_of w)
 ending (InNumber ds) = Is (Number ds)
+ending AfterAt = Broken
 ending AfterDollar = Broken
 ending (InPlaceholder ds) = if is_placeholder_number ds then Is (Mark (Some (value_of ds))) else Broken
 ending AfterBang = Broken
@@ -90,7 +95,7 @@ ending AfterLess = Is (Sign Less)
 ending AfterGreater = Is (Sign Greater)
 ending (Whole t) = Is t
 
--- a token in front of those behind it, where what stands behind it has tokens
+-- a token before those after it, where what stands after it has tokens
 abbrev pub in_front : Token → Option (List Token) → Option (List Token)
 in_front t ts = option_map (λ more. t ∷ more) ts
 
@@ -108,7 +113,7 @@ unfoldable pub from_extended : Option State → Ending → Option State → (Sta
 from_extended (Some s) e b go = go s
 from_extended None e b go = put e (from_begun b go)
 
--- The tokens of a text behind what has been read: a byte extends the token at hand, or ends it and begins the next.
+-- The tokens of a text after what has been read: a byte extends the token at hand, or ends it and begins the next.
 unfoldable pub tokens_from : Dialect → State → List ℕ → Option (List Token)
 tokens_from d s [] = put (ending s) (Some [])
 tokens_from d s (c ∷ cs) = from_extended (extended d s c) (ending s) (begun d c) (λ s'. tokens_from d s' cs)
@@ -123,9 +128,9 @@ abbrev pub NotAt : (ℕ → Bool) → List ℕ → Type 0
 NotAt is [] = Unit {0}
 NotAt is (c ∷ cs) = is c ≡ false
 
--- it doesn't begin with a quote of the dialect
+-- it doesn't begin with a quote that ends a name in the dialect
 abbrev pub NoQuoteAt : Dialect → List ℕ → Type 0
-NoQuoteAt d rest = NotAt (λ c. nat_eq c (quote d)) rest
+NoQuoteAt d rest = NotAt (λ c. nat_eq c (end_quote d)) rest
 
 -- no longer comparison stands there
 abbrev pub IsLongest : Comparison → List ℕ → Type 0
@@ -141,3 +146,4 @@ pub record Breaks (c : ℕ) : Type 0 where
   pub equal : is_equal c ≡ false
   pub double : nat_eq c 34 ≡ false
   pub back : nat_eq c 96 ≡ false
+  pub square : nat_eq c 93 ≡ false

@@ -62,6 +62,8 @@ pub data Sample (P : Type 0) : Type 0 where
 
 pub data Page (P : Type 0) : Type 0 where
   PageBy : (limit offset : Option P) → Page P
+  -- a page whose offset stands before its limit
+  FetchBy : (offset : Option P) (limit : P) → Page P
 
 -- columns of a combination's result by their place, each number as its digits
 pub data Places : Type 0 where

@@ -1,6 +1,6 @@
 -- What stands at the places of a tree, from left to right as they are written.
 use Rattle.std.specs.Prelude.{List, [], ◌∷◌, ◌++◌, Option, Some, None}
-use Rattle.sql_grammar.specs.Tree.{Sample, Whole, Sampled, Page, PageBy, Expression, Path, Placeholder, SingleValue, Exists, Compared, Connected, Not, NullTest, CountAll, Count, InList, InQuery, Constant, Expressions, OnlyExpression, MoreExpression, Items, OnlyItem, MoreItem, Source, Table, Alias, Join, MaybeExpression, NoExpression, SomeExpression, MaybeExpressions, NoExpressions, SomeExpressions, MaybeItems, NoItems, SomeItems, MaybeSource, NoSource, SomeSource, Distinctness, Every, Distinct, DistinctOn, Query, Select, Combined}
+use Rattle.sql_grammar.specs.Tree.{Sample, Whole, Sampled, Page, PageBy, FetchBy, Expression, Path, Placeholder, SingleValue, Exists, Compared, Connected, Not, NullTest, CountAll, Count, InList, InQuery, Constant, Expressions, OnlyExpression, MoreExpression, Items, OnlyItem, MoreItem, Source, Table, Alias, Join, MaybeExpression, NoExpression, SomeExpression, MaybeExpressions, NoExpressions, SomeExpressions, MaybeItems, NoItems, SomeItems, MaybeSource, NoSource, SomeSource, Distinctness, Every, Distinct, DistinctOn, Query, Select, Combined}
 
 abbrev pub values_marks : {M : Type 0} → List M → List M
 values_marks ms = ms
@@ -15,6 +15,7 @@ values_sample (Sampled by p s) = p ∷ values_option s
 
 abbrev pub values_page : {M : Type 0} → Page M → List M
 values_page (PageBy l o) = values_option l ++ values_option o
+values_page (FetchBy o l) = values_option o ++ (l ∷ [])
 
 abbrev mutual
   pub values_expression : {M : Type 0} → Expression M → List M

@@ -1,4 +1,4 @@
-//! The grammar of SELECT statements in the three dialects, and laws on it. `docs/GRAMMAR.md` has it in words.
+//! The grammar of SELECT statements in the four dialects, and laws on it. `docs/GRAMMAR.md` has it in words.
 //!
 //! The functions here do nothing when they run: each carries laws about the definitions in `specs/`.
 #![tactic(auto)]
@@ -7,23 +7,26 @@ ghost use Rattle.std.specs.Prelude.{◌≡◌, ◌+◌, ◌<◌, [], ◌∷◌, 
 ghost use Rattle.sql_dialect.specs.Quote.{doubled};
 ghost use Rattle.sql_dialect.specs.Written.{quoted, placeholder, numbers};
 ghost use Rattle.sql_dialect.specs.declared.backend.Dialect.{Dialect};
-ghost use Rattle.sql_dialect.specs.declared.backend.Dialect.TheVariants.{Pg, Mysql, Sqlite};
+ghost use Rattle.sql_dialect.specs.declared.backend.Dialect.TheVariants.{Pg, Mysql, Sqlite, Bracket};
 ghost use Rattle.sql_grammar.specs.Token.{Token, Keyword, SELECT, Comparison, Equal, LessOrEqual, Quoted, Word, Unknown, Number, Mark, Sign, Open, Close, Comma, Dot, Star, Minus};
-ghost use Rattle.sql_grammar.specs.Spelling.{is_letter, all_letters, word_of, spelling, is_digit, all_digits, value_of, is_placeholder_number, is_equal, quote, sign_text};
+ghost use Rattle.sql_grammar.specs.Spelling.{is_letter, all_letters, word_of, spelling, is_digit, all_digits, value_of, is_placeholder_number, is_equal, is_p, quote, end_quote, sign_text};
 ghost use Rattle.sql_grammar.specs.Tokens.{tokens, in_front, begun, NotAt, NoQuoteAt, IsLongest, Breaks};
 ghost use Rattle.sql_grammar.specs.Tree as tree;
 ghost use Rattle.sql_grammar.specs.Numbering.{mark_of, numbered, Fills};
 ghost use Rattle.sql_grammar.specs.Values.{values_query};
 ghost use Rattle.sql_grammar.specs.MarkTree.{Expression, Query, Source};
 ghost use Rattle.sql_grammar.specs.Grammar.{Reads, ReadsExpression, ReadsSource};
+ghost use Rattle.sql_grammar.specs.Kinds.{Kind, TreeOf, ReadsAs};
 ghost use Rattle.sql_grammar.specs.Fits.{FitsQuery};
 ghost use Rattle.sql_grammar.specs.Text.{text, mark};
 ghost use Rattle.sql_grammar.specs.Reading.{IsReading, OnlyReading};
-ghost use Rattle.sql_grammar.specs.Examples.{pg_text, pg_query, mysql_text, mysql_query, sqlite_text, sqlite_query};
+ghost use Rattle.sql_grammar.specs.Examples.{pg_text, pg_query, mysql_text, mysql_query, sqlite_text, sqlite_query, bracket_text, bracket_query};
 
-/// Nothing has two readings in a dialect: no list of tokens as a query, as an expression or as a source, and no text. Whoever
-/// takes a text apart by the grammar finds the one tree that there is.
+/// Nothing has two readings in a dialect: no list of tokens as a tree of any kind, and no text. Whoever takes a text apart by
+/// the grammar finds the one tree that there is, and in each part of it the one tree of that part.
 pub fn one_reading()
+    ensures trees { (d : Dialect) (k : Kind) (ts : List Token) (a b : TreeOf k) →
+        ReadsAs d k ts a → ReadsAs d k ts b → a ≡ b }
     ensures queries { (d : Dialect) (ts : List Token) (a b : Query) →
         Reads d ts a → Reads d ts b → a ≡ b }
     ensures expressions { (d : Dialect) (ts : List Token) (a b : Expression) →
@@ -41,7 +44,7 @@ pub fn quoted_name()
         tokens d (quoted d name ++ rest) ≡ in_front (Quoted name) (tokens d rest) }
 {}
 
-/// The rule of tokens, kind by kind: what a text has in front of the tokens of its rest.
+/// The rule of tokens, kind by kind: what a text has before the tokens of its rest.
 pub fn token_rules()
     // Spaces separate, and are no token.
     ensures space { (d : Dialect) (rest : List ℕ) → tokens d (codes " " ++ rest) ≡ tokens d rest }
@@ -68,6 +71,17 @@ pub fn token_rules()
         IsFalse (is_placeholder_number digits) →
         tokens Pg (codes "$" ++ (digits ++ rest)) ≡ None }
 
+    // On Bracket the same holds after `@p`.
+    ensures at_numbered { (digits rest : List ℕ) →
+        0 < length digits → IsTrue (all_digits digits) → NotAt is_digit rest →
+        IsTrue (is_placeholder_number digits) →
+        tokens Bracket (codes "@p" ++ (digits ++ rest))
+        ≡ in_front (Mark (Some (value_of digits))) (tokens Bracket rest) }
+    ensures at_misnumbered { (digits rest : List ℕ) →
+        0 < length digits → IsTrue (all_digits digits) → NotAt is_digit rest →
+        IsFalse (is_placeholder_number digits) →
+        tokens Bracket (codes "@p" ++ (digits ++ rest)) ≡ None }
+
     // Where placeholders have no number they are `?`.
     ensures unnumbered { (d : Dialect) (rest : List ℕ) → IsFalse (numbers d) →
         tokens d (codes "?" ++ rest) ≡ in_front (Mark None) (tokens d rest) }
@@ -90,14 +104,17 @@ pub fn token_rules()
     ensures minus { (d : Dialect) (rest : List ℕ) →
         tokens d (codes "-" ++ rest) ≡ in_front Minus (tokens d rest) }
 
-    // At its end a text has no more tokens. All else has none: a quote that isn't closed, `!` without `=`, `$` without a
-    // number, and a byte that begins no token.
+    // At its end a text has no more tokens. All else has none: a quote that isn't closed, `!` without `=`, `$` or `@p` without
+    // a number, and a byte that begins no token.
     ensures end { (d : Dialect) → tokens d [] ≡ Some [] }
     ensures unclosed { (d : Dialect) (name : List ℕ) →
-        tokens d (quote d ∷ doubled (quote d) name) ≡ None }
+        tokens d (quote d ∷ doubled (end_quote d) name) ≡ None }
     ensures exclamation { (d : Dialect) (rest : List ℕ) → NotAt is_equal rest →
         tokens d (codes "!" ++ rest) ≡ None }
     ensures dollar { (rest : List ℕ) → NotAt is_digit rest → tokens Pg (codes "$" ++ rest) ≡ None }
+    ensures at_p { (rest : List ℕ) → NotAt is_digit rest →
+        tokens Bracket (codes "@p" ++ rest) ≡ None }
+    ensures at { (rest : List ℕ) → NotAt is_p rest → tokens Bracket (codes "@" ++ rest) ≡ None }
     ensures other { (d : Dialect) (byte : ℕ) (rest : List ℕ) → begun d byte ≡ None →
         tokens d (byte ∷ rest) ≡ None }
 {}
@@ -115,7 +132,7 @@ pub fn joined_texts()
 pub fn written()
     ensures tree { (d : Dialect) (q : Query) → FitsQuery d q → OnlyReading d (text d q) q }
     ensures place { (d : Dialect) (before : ℕ) (rest : List ℕ) →
-        mark (mark_of d before) rest ≡ placeholder d (before + 1) ++ rest }
+        mark d (mark_of d before) rest ≡ placeholder d (before + 1) ++ rest }
 {}
 
 /// A tree of values, of any type: with a numbered placeholder for each value it has as many placeholders as there were
@@ -140,6 +157,10 @@ pub fn worked_tokens()
     ensures lone_quote { tokens Pg (codes "\"") ≡ None }
     ensures lone_backtick { tokens Mysql (codes "SELECT `a``") ≡ None }
 
+    ensures square { tokens Bracket (codes "[a]]b[].[c]") ≡
+        Some (Quoted (codes "a]b[") ∷ Dot ∷ Quoted (codes "c") ∷ []) }
+    ensures lone_square { tokens Bracket (codes "[a]]") ≡ None }
+
     // Words are spelled in capital letters, digits are kept, and of two signs the longer one is taken.
     ensures lower { tokens Pg (codes "select") ≡ Some (Unknown (codes "select") ∷ []) }
     ensures digits { tokens Mysql (codes "x007<=1") ≡
@@ -147,11 +168,16 @@ pub fn worked_tokens()
         (Unknown (codes "x") ∷ Number (codes "007") ∷ Sign LessOrEqual ∷ Number (codes "1")
         ∷ []) }
 
-    // Placeholders have a number from 1 to 4294967295 on Pg, and none elsewhere.
+    // Placeholders have a number from 1 to 4294967295 on Pg and Bracket, and none elsewhere.
     ensures last { tokens Pg (codes "$4294967295") ≡ Some (Mark (Some 4294967295) ∷ []) }
     ensures past { tokens Pg (codes "$4294967296") ≡ None }
     ensures zero { tokens Pg (codes "$0") ≡ None }
     ensures leading_zero { tokens Pg (codes "SELECT $01") ≡ None }
+    ensures last_on_bracket { tokens Bracket (codes "@p4294967295") ≡
+        Some (Mark (Some 4294967295) ∷ []) }
+    ensures past_on_bracket { tokens Bracket (codes "@p4294967296") ≡ None }
+    ensures leading_zero_on_bracket { tokens Bracket (codes "SELECT @p01") ≡ None }
+    ensures spaced_number { tokens Bracket (codes "@p 1") ≡ None }
     ensures question { tokens Sqlite (codes "(?)") ≡ Some (Open ∷ Mark None ∷ Close ∷ []) }
     ensures question_on_pg { tokens Pg (codes "?") ≡ None }
     ensures number_on_mysql { tokens Mysql (codes "$1") ≡ None }
@@ -163,18 +189,20 @@ pub fn worked_tokens()
     ensures tab_in_name { tokens Pg (codes "\"\t\"") ≡ Some (Quoted (codes "\t") ∷ []) }
 {}
 
-/// Three whole statements, one in each dialect, with their only readings.
+/// Four whole statements, one in each dialect, with their only readings.
 pub fn worked_readings()
     ensures pg { OnlyReading Pg pg_text pg_query }
     ensures mysql { OnlyReading Mysql mysql_text mysql_query }
     ensures sqlite { OnlyReading Sqlite sqlite_text sqlite_query }
+    ensures bracket { OnlyReading Bracket bracket_text bracket_query }
 {}
 
 /// Texts that have no reading: a form that the dialect lacks, a condition without its brackets, a value in the text.
 pub fn no_reading()
     ensures lock_on_sqlite { (q : Query) → IsReading Sqlite (codes "SELECT ? FOR UPDATE") q → ⊥ }
-    ensures intersect_on_mysql { (q : Query) →
-        IsReading Mysql (codes "(SELECT ?) INTERSECT (SELECT ?)") q → ⊥ }
+    ensures intersect_all_on_bracket { (q : Query) →
+        IsReading Bracket (codes "(SELECT @p1) INTERSECT ALL (SELECT @p2)") q → ⊥ }
+    ensures limit_on_bracket { (q : Query) → IsReading Bracket (codes "SELECT @p1 LIMIT @p2") q → ⊥ }
     ensures bare_condition { (q : Query) → IsReading Pg (codes "SELECT $1 WHERE $2=$3") q → ⊥ }
     ensures number_as_value { (q : Query) → IsReading Pg (codes "SELECT 1") q → ⊥ }
     ensures text_as_value { (q : Query) → IsReading Pg (codes "SELECT 'a'") q → ⊥ }

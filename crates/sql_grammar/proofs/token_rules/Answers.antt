@@ -9,6 +9,8 @@ returns c = record {
   number = rule.number-rule;
   numbered = rule.dollar-rule;
   misnumbered = rule.no_number-rule;
+  at_numbered = rule.at-rule;
+  at_misnumbered = rule.no_at_number-rule;
   unnumbered = rule.question-rule;
   comparison = rule.comparison-rule;
   opening_bracket = rule.open-rule;
@@ -21,5 +23,7 @@ returns c = record {
   unclosed = rule.unclosed-rule;
   exclamation = rule.bang-rule;
   dollar = rule.lone_dollar-rule;
+  at_p = rule.lone_at_p-rule;
+  at = rule.lone_at-rule;
   other = rule.other-rule;
 }
