@@ -3,7 +3,7 @@ use Rattle.std.proofs.Common.{◌≡◌, ℕ, ◌+◌, ◌<◌, eqb, true, false
 use Rattle.std.specs.Cmp.{first_so, second_so}
 use Rattle.std.proofs.lemmas.Bool.{eqb-true}
 use Rattle.sql_dialect.specs.declared.backend.Dialect.{Dialect}
-use Rattle.sql_dialect.specs.declared.backend.Dialect.TheVariants.{Pg, Mysql, Sqlite}
+use Rattle.sql_dialect.specs.declared.backend.Dialect.TheVariants.{Pg, Mysql, Sqlite, Bracket}
 use Rattle.sql_dialect.specs.Written.{numbers, MAX_BINDS}
 use Rattle.sql_pass.specs.Held.{Held, text_so_far, shown, after, refuses, is_full, is_bind}
 use Rattle.sql_pass.specs.Pieces.{Piece, Text, Ident, Bind, ValueOnly, Unsafe, count_at, values_of, text_of}
@@ -31,36 +31,41 @@ later Pg n (ValueOnly b) ps h = (h.0, let m : MAX_BINDS < n + 1 + length (values
 later Pg n Unsafe ps h = h
 later Mysql n p ps h = let f : false ≡ true = h.0 in cc
 later Sqlite n p ps h = let f : false ≡ true = h.0 in cc
+later Bracket n (Text t) ps h = h
+later Bracket n (Ident t) ps h = h
+later Bracket n (Bind b) ps h = (h.0, let m : MAX_BINDS < n + 1 + length (values_of ps) = h.1 in omega arith)
+later Bracket n (ValueOnly b) ps h = (h.0, let m : MAX_BINDS < n + 1 + length (values_of ps) = h.1 in omega arith)
+later Bracket n Unsafe ps h = h
 
-pub stops-too_many : (d : Dialect) (t : List ℕ) (n : ℕ) (ps : List Piece) (g : Held)
-    → Stops d (text_so_far t n) ps TooManyBinds g → TooMany d n ps
+pub stops-too_many : {D : Type 0} (d : Dialect) (x : D) (t : List ℕ) (n : ℕ) (ps : List Piece) (g : Held D)
+    → Stops d (text_so_far x t n) ps TooManyBinds g → TooMany d n ps
 unfolding Stops after refuses
-stops-too_many d t n [] g s = absurd s
-stops-too_many d t n (p ∷ ps) g s =
+stops-too_many d x t n [] g s = absurd s
+stops-too_many d x t n (p ∷ ps) g s =
     ⊎_elim
     (λ r.
-    let both = first_so (is_full d (text_so_far t n)) (is_bind p) r.0 in
+    let both = first_so (is_full d (text_so_far x t n)) (is_bind p) r.0 in
     here d n p ps (first_so (numbers d) (eqb n MAX_BINDS) both)
     (eqb-true n MAX_BINDS (second_so (numbers d) (eqb n MAX_BINDS) both))
-    (second_so (is_full d (text_so_far t n)) (is_bind p) r.0))
-    (λ r. later d n p ps (stops-too_many d (t ++ text_of d n (p ∷ [])) (count_at d n p) ps g r))
+    (second_so (is_full d (text_so_far x t n)) (is_bind p) r.0))
+    (λ r. later d n p ps (stops-too_many d x (t ++ text_of d n (p ∷ [])) (count_at d n p) ps g r))
     s
 
-pub walks-too_many : {d : Dialect} {t : List ℕ} {n : ℕ} {ps : List Piece} {g : Held}
-    → Walks d (text_so_far t n) ps (Err TooManyBinds) g → TooMany d n ps
+pub walks-too_many : {D : Type 0} {d : Dialect} {x : D} {t : List ℕ} {n : ℕ} {ps : List Piece} {g : Held D}
+    → Walks d (text_so_far x t n) ps (Err TooManyBinds) g → TooMany d n ps
 unfolding Walked
-walks-too_many {d} {t} {n} {ps} {g} w = stops-too_many d t n ps g (walked w)
+walks-too_many {D} {d} {x} {t} {n} {ps} {g} w = stops-too_many d x t n ps g (walked w)
 
 -- a walk that gathers values numbers nothing
-pub stops-shown : (d : Dialect) (vs : List Bound) (ps : List Piece) (g : Held) → Stops d (shown vs) ps TooManyBinds g
+pub stops-shown : {D : Type 0} (d : Dialect) (x : D) (vs : List Bound) (ps : List Piece) (g : Held D) → Stops d (shown x vs) ps TooManyBinds g
     → ⊥
 unfolding Stops after refuses
-stops-shown d vs [] g s = s
-stops-shown d vs (p ∷ ps) g s = ⊎_elim (λ r. cc r.0) (λ r. stops-shown d (vs ++ values_of (p ∷ [])) ps g r) s
+stops-shown d x vs [] g s = s
+stops-shown d x vs (p ∷ ps) g s = ⊎_elim (λ r. cc r.0) (λ r. stops-shown d x (vs ++ values_of (p ∷ [])) ps g r) s
 
-pub walks-shown : {d : Dialect} {vs : List Bound} {ps : List Piece} {g : Held}
-    → Walks d (shown vs) ps (Err TooManyBinds) g → ⊥
+pub walks-shown : {D : Type 0} {d : Dialect} {x : D} {vs : List Bound} {ps : List Piece} {g : Held D}
+    → Walks d (shown x vs) ps (Err TooManyBinds) g → ⊥
 unfolding Walked
-walks-shown {d} {vs} {ps} {g} w = stops-shown d vs ps g (walked w)
+walks-shown {D} {d} {x} {vs} {ps} {g} w = stops-shown d x vs ps g (walked w)
 
 pub ruleset shows = (walks-shown, stops-shown)

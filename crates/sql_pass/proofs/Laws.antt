@@ -37,13 +37,13 @@ is_noop-append [] qs = refl
 is_noop-append (p ∷ ps) qs =
     ap (λ t. noop_at p && t) (is_noop-append ps qs) ∙ sym (and_assoc (noop_at p) (is_noop ps) (is_noop qs))
 
-pub after-append : (d : Dialect) (h : Held) (ps qs : List Piece) → after d (after d h ps) qs ≡ after d h (ps ++ qs)
+pub after-append : {D : Type 0} (d : Dialect) (h : Held D) (ps qs : List Piece) → after d (after d h ps) qs ≡ after d h (ps ++ qs)
 unfolding after
-after-append d (text_so_far t n) ps qs =
+after-append d (text_so_far x t n) ps qs =
     grind (arith, common_steps, text_of-append d n ps qs, count_of-append d n ps qs)
-after-append d (collected c) ps qs = grind (arith, common_steps, values_of-append ps qs)
-after-append d (safe b) ps qs =
-    ap safe (and_assoc b (is_safe ps) (is_safe qs) ∙ ap (λ t. b && t) (sym (is_safe-append ps qs)))
-after-append d (shown vs) ps qs = grind (arith, common_steps, values_of-append ps qs)
-after-append d (noop b) ps qs =
-    ap noop (and_assoc b (is_noop ps) (is_noop qs) ∙ ap (λ t. b && t) (sym (is_noop-append ps qs)))
+after-append d (collected x c) ps qs = grind (arith, common_steps, values_of-append ps qs)
+after-append d (safe x b) ps qs =
+    ap (safe x) (and_assoc b (is_safe ps) (is_safe qs) ∙ ap (λ t. b && t) (sym (is_safe-append ps qs)))
+after-append d (shown x vs) ps qs = grind (arith, common_steps, values_of-append ps qs)
+after-append d (noop x b) ps qs =
+    ap (noop x) (and_assoc b (is_noop ps) (is_noop qs) ∙ ap (λ t. b && t) (sym (is_noop-append ps qs)))

@@ -9,7 +9,7 @@ use Rattle.sql_pass.specs.Walks.{Walks}
 use Rattle.sql_pass.specs.declared.pass.PassError.{PassError}
 use Rattle.sql_pass.proofs.Walking.{walks-none, walks-then, walks-fail}
 
--- the elements from i on are the one there, and those behind it
+-- the elements from i on are the one there, and those after it
 commas-drop : {X : Type 0} (f : X → List Piece) (first : Bool) (xs : List X) (i : ℕ) (x : X) → i < length xs
     → x ≡ get_or xs i x
     → commas first (map f (drop i xs)) ≡ next_of first (f x) ++ commas false (map f (drop (i + 1) xs))
@@ -22,14 +22,14 @@ commas-end : {X : Type 0} (f : X → List Piece) (first : Bool) (xs : List X) (i
 commas-end f first xs i h = ap (λ l. commas first (map f l)) (drop_all i xs h)
 
 -- a loop over a list, at its element x at i
-module _ {X : Type 0} (f : X → List Piece) {d : Dialect} {h : Held} (first : Bool) (xs : List X) (i : ℕ) where
-  pub list-next : (x : X) → i < length xs → x ≡ get_or xs i x → {k g : Held} {r : Result (Unit {0}) PassError}
+module _ {X : Type 0} (f : X → List Piece) {D : Type 0} {d : Dialect} {h : Held D} (first : Bool) (xs : List X) (i : ℕ) where
+  pub list-next : (x : X) → i < length xs → x ≡ get_or xs i x → {k g : Held D} {r : Result (Unit {0}) PassError}
       → Walks d h (next_of first (f x)) (Ok tt) k → Walks d k (commas false (map f (drop (i + 1) xs))) r g
       → Walks d h (commas first (map f (drop i xs))) r g
   list-next x b e {k} {g} {r} v w = subst (λ p. Walks d h p r g) (sym (commas-drop f first xs i x b e)) (walks-then v w)
 
   pub list-fail : (x : X) → i < length xs → x ≡ get_or xs i x
-      → {g : Held} {r : Result (Unit {0}) PassError} {e : PassError} → Walks d h (next_of first (f x)) (Err e) g
+      → {g : Held D} {r : Result (Unit {0}) PassError} {e : PassError} → Walks d h (next_of first (f x)) (Err e) g
       → r ≡ Err e → Walks d h (commas first (map f (drop i xs))) r g
   list-fail x b e {g} {r} v a = subst (λ p. Walks d h p r g) (sym (commas-drop f first xs i x b e)) (walks-fail _ v a)
 

@@ -1,4 +1,4 @@
--- A lent value as the value that it lends, the type of a bind, and Rust's values as bound values.
+-- The value that a borrowed one stands for, the type of a bind, and Rust's values as bound values.
 use Rattle.std.specs.Prelude.{ℕ, ℤ, Bool, false, List}
 use Rattle.sql_schema.specs.declared.types.Base.{Base}
 use Rattle.sql_schema.specs.declared.types.Base.TheVariants as T

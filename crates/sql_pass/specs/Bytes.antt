@@ -1,11 +1,11 @@
 -- The bytes of a bound value. PostgreSQL's binary forms have the most significant byte first (Formats and Format Codes);
--- MySQL's binary protocol has the least significant one first (Binary Protocol Value), and SQLite, which has no form of
--- its own, takes MySQL's here.
-use Rattle.std.specs.Prelude.{ℕ, ℤ, pos, negsuc, Bool, true, false, ◌||◌, List, [], ◌∷◌, ◌++◌, length, Option, Some, None, nat_lt}
+-- MySQL's binary protocol has the least significant one first (Binary Protocol Value). SQLite and Bracket have no form of
+-- their own and take MySQL's.
+use Rattle.std.specs.Prelude.{ℕ, ℤ, pos, negsuc, Bool, true, false, ◌||◌, List, [], ◌∷◌, ◌++◌, length, Option, Some, None, nat_lt, if◌then◌else◌}
 use Rattle.std.specs.Int.{w16, w32, w64, to_be_bytes, to_le_bytes, cast_unsigned}
 use Rattle.std.specs.List.{flat_map, list_any}
 use Rattle.sql_dialect.specs.declared.backend.Dialect.{Dialect}
-use Rattle.sql_dialect.specs.declared.backend.Dialect.TheVariants.{Pg, Mysql, Sqlite}
+use Rattle.sql_dialect.specs.declared.backend.Dialect.TheVariants.{Pg, Mysql, Sqlite, Bracket}
 use Rattle.sql_schema.specs.declared.types.Base.{Base}
 use Rattle.sql_schema.specs.declared.types.Base.TheVariants as T
 use Rattle.sql_schema.specs.declared.types.SqlType.{SqlType}
@@ -14,21 +14,22 @@ use Rattle.sql_pass.specs.declared.value.Bound.TheVariants as B
 use Rattle.sql_pass.specs.declared.value.Value.{Value}
 use Rattle.sql_pass.specs.declared.value.Value.TheVariants as V
 
+-- whether the most significant byte stands first
+abbrev pub big_end : Dialect → Bool
+big_end Pg = true
+big_end Mysql = false
+big_end Sqlite = false
+big_end Bracket = false
+
 -- whole numbers, in two's complement
 abbrev pub two_bytes : Dialect → ℤ → List ℕ
-two_bytes Pg n = to_be_bytes w16 (cast_unsigned w16 n)
-two_bytes Mysql n = to_le_bytes w16 (cast_unsigned w16 n)
-two_bytes Sqlite n = to_le_bytes w16 (cast_unsigned w16 n)
+two_bytes d n = if big_end d then to_be_bytes w16 (cast_unsigned w16 n) else to_le_bytes w16 (cast_unsigned w16 n)
 
 abbrev pub four_bytes : Dialect → ℤ → List ℕ
-four_bytes Pg n = to_be_bytes w32 (cast_unsigned w32 n)
-four_bytes Mysql n = to_le_bytes w32 (cast_unsigned w32 n)
-four_bytes Sqlite n = to_le_bytes w32 (cast_unsigned w32 n)
+four_bytes d n = if big_end d then to_be_bytes w32 (cast_unsigned w32 n) else to_le_bytes w32 (cast_unsigned w32 n)
 
 abbrev pub eight_bytes : Dialect → ℤ → List ℕ
-eight_bytes Pg n = to_be_bytes w64 (cast_unsigned w64 n)
-eight_bytes Mysql n = to_le_bytes w64 (cast_unsigned w64 n)
-eight_bytes Sqlite n = to_le_bytes w64 (cast_unsigned w64 n)
+eight_bytes d n = if big_end d then to_be_bytes w64 (cast_unsigned w64 n) else to_le_bytes w64 (cast_unsigned w64 n)
 
 abbrev pub bool_byte : Bool → ℕ
 bool_byte true = 1
@@ -46,7 +47,7 @@ value_bytes d V.Null = None
 
 -- A list has PostgreSQL's binary form of arrays (array_recv, array_send): the number of dimensions, whether a NULL stands
 -- in it, the number of the elements' type, then the length and the first index of the one dimension, and each element
--- behind its length, a NULL as the length -1 alone. Each of these numbers has four bytes.
+-- after its length, a NULL as the length -1 alone. Each of these numbers has four bytes.
 unfoldable pub int4 : ℤ → List ℕ
 int4 n = to_be_bytes w32 (cast_unsigned w32 n)
 
@@ -72,7 +73,7 @@ is_null V.Null = true
 abbrev pub null_flag : List Value → ℤ
 null_flag vs = pos (bool_byte (list_any is_null vs))
 
--- bytes behind their length
+-- bytes after their length
 abbrev pub sized : Option (List ℕ) → List ℕ
 sized None = int4 (negsuc 0)
 sized (Some b) = int4 (pos (length b)) ++ b

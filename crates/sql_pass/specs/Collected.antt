@@ -15,7 +15,7 @@ pub record Collected : Type 0 where
 abbrev pub with_bind : Collected → BindType → Option (List ℕ) → Collected
 with_bind c t b = record { types = c.types ++ t ∷ []; bytes = c.bytes ++ b ∷ [] }
 
--- the same with the values behind it
+-- the same with more values at its end
 abbrev pub with_values : Dialect → Collected → List Bound → Collected
 with_values d c vs = record { types = c.types ++ map type_of vs; bytes = c.bytes ++ map (bytes_of d) vs }
 

@@ -1,8 +1,8 @@
--- Parts one behind the other, with `, ` between them.
+-- Parts one after the other, with `, ` between them.
 use Rattle.std.specs.Prelude.{Bool, true, false, List, [], ◌∷◌, ◌++◌, codes}
 use Rattle.sql_pass.specs.Pieces.{Piece, one, Text}
 
--- a part, behind a comma unless it is the first
+-- a part, after a comma unless it is the first
 abbrev pub next_of : Bool → List Piece → List Piece
 next_of true x = x
 next_of false x = one (Text (codes ", ")) ++ x

@@ -1,7 +1,7 @@
 -- The pieces of what may be absent, and of a side.
 use Rattle.std.specs.Prelude.{ℕ, List, [], ◌++◌, Option, Some, None, codes}
 use Rattle.sql_dialect.specs.declared.backend.Dialect.{Dialect}
-use Rattle.sql_dialect.specs.declared.backend.Dialect.TheVariants.{Pg, Mysql, Sqlite}
+use Rattle.sql_dialect.specs.declared.backend.Dialect.TheVariants.{Pg, Mysql, Sqlite, Bracket}
 use Rattle.sql_pass.specs.Pieces.{Piece, one, Text}
 
 abbrev pub pieces_of_option : {T : Type 0} → (T → List Piece) → Option T → List Piece
@@ -17,6 +17,7 @@ unfoldable pub side_open : Dialect → List ℕ
 side_open Pg = codes "("
 side_open Mysql = codes "("
 side_open Sqlite = from_open
+side_open Bracket = codes "("
 
 -- a query as a side of a combination
 abbrev pub side : Dialect → List Piece → List Piece

@@ -41,21 +41,21 @@ pub fn value_bytes(
         Value::SmallInt(n) => {
             let two = match dialect {
                 Dialect::Pg => n.to_be_bytes(),
-                Dialect::Mysql | Dialect::Sqlite => n.to_le_bytes(),
+                Dialect::Mysql | Dialect::Sqlite | Dialect::Bracket => n.to_le_bytes(),
             };
             Ok(Some(Vec::from_slice(alloc, &two)?))
         }
         Value::Integer(n) => {
             let four = match dialect {
                 Dialect::Pg => n.to_be_bytes(),
-                Dialect::Mysql | Dialect::Sqlite => n.to_le_bytes(),
+                Dialect::Mysql | Dialect::Sqlite | Dialect::Bracket => n.to_le_bytes(),
             };
             Ok(Some(Vec::from_slice(alloc, &four)?))
         }
         Value::BigInt(n) => {
             let eight = match dialect {
                 Dialect::Pg => n.to_be_bytes(),
-                Dialect::Mysql | Dialect::Sqlite => n.to_le_bytes(),
+                Dialect::Mysql | Dialect::Sqlite | Dialect::Bracket => n.to_le_bytes(),
             };
             Ok(Some(Vec::from_slice(alloc, &eight)?))
         }
@@ -96,7 +96,7 @@ fn push_elements(alloc: Global, out: &mut Vec<u8>, values: &[Value]) -> Result<(
     Ok(())
 }
 
-/// Appends a value behind its length; a NULL is the length -1 alone.
+/// Appends a value after its length; a NULL is the length -1 alone.
 fn push_element(alloc: Global, out: &mut Vec<u8>, value: &Value) -> Result<(), CollectError>
     ensures bytes { OnOk result (out.new.items ≡ out.old.items ++ element value.now) }
     ensures long { IsErrOf result CollectError.TooLong → IsTrue (is_long_element value.now) }

@@ -26,7 +26,7 @@ pub trait QueryFragment<DB: Backend> {
         ensures { Walks DB.speaks (held DB.QueryBuilder.text DB.QueryBuilder.count pass.old)
             (pieces self.now) result (held DB.QueryBuilder.text DB.QueryBuilder.count pass.new) };
 
-    /// Writes the text behind what `out` holds, and gives the builder back. An error drops it.
+    /// Writes the text after what `out` holds, and gives the builder back. An error drops it.
     #[tactic(auto, using(crate::proofs::Walking::firm), unfolding(crate::specs::Walks::Walked, crate::specs::Held::after))]
     final fn to_sql(
         &self,
@@ -57,7 +57,7 @@ pub trait QueryFragment<DB: Backend> {
         }
     }
 
-    /// Gathers the values behind those that `out` holds, and gives the collector back. An error drops it.
+    /// Gathers the values after those that `out` holds, and gives the collector back. An error drops it.
     #[tactic(auto, using(crate::proofs::Walking::firm), unfolding(crate::specs::Walks::Walked, crate::specs::Held::after))]
     final fn collect_binds(
         &self,
@@ -69,7 +69,7 @@ pub trait QueryFragment<DB: Backend> {
         ensures many { ¬ IsErrOf result PassError.TooManyBinds }
         ensures long { IsErrOf result PassError.TooLong
             → IsTrue (list_any is_too_long (values_of (pieces self.now))) }
-        // Where memory is wanting that may be the answer in its place.
+        // `NoMemory` may be the answer in its place.
         ensures refused { IsTrue (list_any is_too_long (values_of (pieces self.now)))
             → IsErr result }
     {

@@ -109,7 +109,7 @@ pub fn push_side_open<DB: Backend>(pass: &mut AstPass<DB>) -> Result<(), PassErr
         (held DB.QueryBuilder.text DB.QueryBuilder.count pass.new) }
 {
     match pass.backend().dialect() {
-        Dialect::Pg | Dialect::Mysql => pass.push_sql("("),
+        Dialect::Pg | Dialect::Mysql | Dialect::Bracket => pass.push_sql("("),
         Dialect::Sqlite => push_from_open(pass),
     }
 }

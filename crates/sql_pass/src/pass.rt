@@ -32,38 +32,44 @@ pub enum AstPass<DB: Backend> {
 }
 
 impl<DB: Backend> AstPass<DB> {
-    /// Writes the text, behind what the builder holds.
+    /// Writes the text, after what the builder holds.
     pub fn to_sql(builder: DB::QueryBuilder, backend: DB) -> AstPass<DB>
-        ensures { held DB.QueryBuilder.text DB.QueryBuilder.count result
-            ≡ text_so_far (DB.QueryBuilder.text builder) (DB.QueryBuilder.count builder) }
+        ensures holds { held DB.QueryBuilder.text DB.QueryBuilder.count result ≡ text_so_far backend
+            (DB.QueryBuilder.text builder) (DB.QueryBuilder.count builder) }
+        ensures backend { backend_of result ≡ backend }
     {
         AstPass::ToSql(builder, backend)
     }
 
-    /// Gathers the bytes of the values and their types, behind those that the collector holds.
+    /// Gathers the bytes of the values and their types, after those that the collector holds.
     pub fn collect_binds(collector: RawBytesBindCollector<DB>, backend: DB) -> AstPass<DB>
-        ensures { held DB.QueryBuilder.text DB.QueryBuilder.count result ≡ collected collector }
+        ensures holds { held DB.QueryBuilder.text DB.QueryBuilder.count result
+            ≡ collected backend collector }
+        ensures backend { backend_of result ≡ backend }
     {
         AstPass::CollectBinds(collector, backend)
     }
 
     /// Finds whether a statement prepared once serves for other values. True at first.
     pub fn is_safe_to_cache_prepared(backend: DB) -> AstPass<DB>
-        ensures { held DB.QueryBuilder.text DB.QueryBuilder.count result ≡ safe true }
+        ensures holds { held DB.QueryBuilder.text DB.QueryBuilder.count result ≡ safe backend true }
+        ensures backend { backend_of result ≡ backend }
     {
         AstPass::IsSafe(true, backend)
     }
 
     /// Gathers the values, in the order of their placeholders.
     pub fn debug_binds(alloc: Global, backend: DB) -> AstPass<DB>
-        ensures { held DB.QueryBuilder.text DB.QueryBuilder.count result ≡ shown [] }
+        ensures holds { held DB.QueryBuilder.text DB.QueryBuilder.count result ≡ shown backend [] }
+        ensures backend { backend_of result ≡ backend }
     {
         AstPass::DebugBinds(Vec::new(alloc), backend)
     }
 
     /// Finds whether anything is written. True at first.
     pub fn is_noop(backend: DB) -> AstPass<DB>
-        ensures { held DB.QueryBuilder.text DB.QueryBuilder.count result ≡ noop true }
+        ensures holds { held DB.QueryBuilder.text DB.QueryBuilder.count result ≡ noop backend true }
+        ensures backend { backend_of result ≡ backend }
     {
         AstPass::IsNoop(true, backend)
     }
@@ -84,8 +90,9 @@ impl<DB: Backend> AstPass<DB> {
     /// Pushes SQL as it is. The text `""` too makes a walk no no-op.
     #[tactic(auto, unfolding(crate::specs::Walks::Walked, crate::specs::Walks::Stops, crate::specs::Walks::Passes, crate::specs::Held::after, crate::specs::Held::refuses, crate::specs::Held::is_refused, crate::specs::Pieces::one))]
     pub fn push_sql(&mut self, sql: &str) -> Result<(), PassError>
-        ensures { Walks DB.speaks (held DB.QueryBuilder.text DB.QueryBuilder.count self.old)
+        ensures walks { Walks DB.speaks (held DB.QueryBuilder.text DB.QueryBuilder.count self.old)
             (one (Text sql.now)) result (held DB.QueryBuilder.text DB.QueryBuilder.count self.new) }
+        ensures backend { backend_of self.new ≡ backend_of self.old }
     {
         match self {
             AstPass::ToSql(builder, _) => match builder.push_sql(sql) {
@@ -103,9 +110,10 @@ impl<DB: Backend> AstPass<DB> {
     /// Pushes a name, which the dialect quotes.
     #[tactic(auto, unfolding(crate::specs::Walks::Walked, crate::specs::Walks::Stops, crate::specs::Walks::Passes, crate::specs::Held::after, crate::specs::Held::refuses, crate::specs::Held::is_refused, crate::specs::Pieces::one))]
     pub fn push_identifier(&mut self, name: &str) -> Result<(), PassError>
-        ensures { Walks DB.speaks (held DB.QueryBuilder.text DB.QueryBuilder.count self.old)
+        ensures walks { Walks DB.speaks (held DB.QueryBuilder.text DB.QueryBuilder.count self.old)
             (one (Ident name.now)) result
             (held DB.QueryBuilder.text DB.QueryBuilder.count self.new) }
+        ensures backend { backend_of self.new ≡ backend_of self.old }
     {
         match self {
             AstPass::ToSql(builder, _) => match builder.push_identifier(name) {
@@ -123,9 +131,10 @@ impl<DB: Backend> AstPass<DB> {
     /// Pushes a value, whose placeholder is written.
     #[tactic(auto, unfolding(crate::specs::Walks::Walked, crate::specs::Walks::Stops, crate::specs::Walks::Passes, crate::specs::Held::after, crate::specs::Held::refuses, crate::specs::Held::is_refused, crate::specs::Pieces::one))]
     pub fn push_bind_param(&mut self, value: BoundRef<'_>) -> Result<(), PassError>
-        ensures { Walks DB.speaks (held DB.QueryBuilder.text DB.QueryBuilder.count self.old)
+        ensures walks { Walks DB.speaks (held DB.QueryBuilder.text DB.QueryBuilder.count self.old)
             (one (Bind (bound_of value.entry))) result
             (held DB.QueryBuilder.text DB.QueryBuilder.count self.new) }
+        ensures backend { backend_of self.new ≡ backend_of self.old }
     {
         match self {
             AstPass::ToSql(builder, _) => match builder.push_bind_param() {
@@ -149,9 +158,10 @@ impl<DB: Backend> AstPass<DB> {
     /// Pushes a value whose placeholder stands in the text already.
     #[tactic(auto, unfolding(crate::specs::Walks::Walked, crate::specs::Walks::Stops, crate::specs::Walks::Passes, crate::specs::Held::after, crate::specs::Held::refuses, crate::specs::Held::is_refused, crate::specs::Pieces::one))]
     pub fn push_bind_param_value_only(&mut self, value: BoundRef<'_>) -> Result<(), PassError>
-        ensures { Walks DB.speaks (held DB.QueryBuilder.text DB.QueryBuilder.count self.old)
+        ensures walks { Walks DB.speaks (held DB.QueryBuilder.text DB.QueryBuilder.count self.old)
             (one (ValueOnly (bound_of value.entry))) result
             (held DB.QueryBuilder.text DB.QueryBuilder.count self.new) }
+        ensures backend { backend_of self.new ≡ backend_of self.old }
     {
         match self {
             AstPass::ToSql(builder, _) => match builder.push_bind_param_value_only() {
@@ -171,8 +181,9 @@ impl<DB: Backend> AstPass<DB> {
     /// Says that the text depends on a value, as on the length of a list.
     #[tactic(auto, unfolding(crate::specs::Walks::Walked, crate::specs::Walks::Stops, crate::specs::Walks::Passes, crate::specs::Held::after, crate::specs::Held::refuses, crate::specs::Held::is_refused, crate::specs::Pieces::one))]
     pub fn unsafe_to_cache_prepared(&mut self)
-        ensures { Walks DB.speaks (held DB.QueryBuilder.text DB.QueryBuilder.count self.old)
+        ensures walks { Walks DB.speaks (held DB.QueryBuilder.text DB.QueryBuilder.count self.old)
             (one Unsafe) (Ok tt) (held DB.QueryBuilder.text DB.QueryBuilder.count self.new) }
+        ensures backend { backend_of self.new ≡ backend_of self.old }
     {
         if let AstPass::IsSafe(safe, _) = self {
             *safe = false;

@@ -10,7 +10,7 @@ use crate::pass::{AstPass, PassError};
 use sql_dialect::Backend;
 use sql_schema::{Column, Table};
 
-/// Pushes the name quoted behind a dot: `."id"`.
+/// Pushes a dot and the quoted name: `."id"`.
 pub fn push_dotted<DB: Backend>(name: &str, pass: &mut AstPass<DB>) -> Result<(), PassError>
     ensures { Walks DB.speaks (held DB.QueryBuilder.text DB.QueryBuilder.count pass.old)
         (dotted name.now) result (held DB.QueryBuilder.text DB.QueryBuilder.count pass.new) }

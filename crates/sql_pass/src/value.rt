@@ -23,7 +23,7 @@ pub enum Bound {
     List(SqlType, SqlList<Value>),
 }
 
-/// A `Bound` that is lent, so that a walk copies no value.
+/// A borrowed `Bound`, so that a walk copies no value.
 #[derive(Debug, Clone, Copy)]
 pub enum BoundRef<'a> {
     Value(SqlType, &'a Value),
@@ -58,7 +58,7 @@ fn clone_values(alloc: Global, values: &[Value]) -> Result<Vec<Value>, AllocErro
 }
 
 impl Bound {
-    /// The same value, lent.
+    /// The same value, borrowed.
     pub fn view(&self) -> BoundRef<'_>
         ensures { bound_of result ≡ self.now }
     {

@@ -13,20 +13,20 @@ use Rattle.sql_raw.specs.Boxed.{values_only}
 
 -- ---- pushed
 
--- the values from i on are the one there, and those behind it
+-- the values from i on are the one there, and those after it
 values-drop : (vs : List Bound) (i : ℕ) (v : Bound) → i < length vs → v ≡ get_or vs i v
     → values_only (drop i vs) ≡ one (ValueOnly v) ++ values_only (drop (i + 1) vs)
 values-drop vs i v h e =
     ap values_only (drop_more vs i v h) ∙ ap (λ y. one (ValueOnly y) ++ values_only (drop (i + 1) vs)) (sym e)
 
-module _ {d : Dialect} {h : Held} (vs : List Bound) (i : ℕ) where
-  pub values-next : (v : Bound) → i < length vs → v ≡ get_or vs i v → {k g : Held} {r : Result (Unit {0}) PassError}
+module _ {D : Type 0} {d : Dialect} {h : Held D} (vs : List Bound) (i : ℕ) where
+  pub values-next : (v : Bound) → i < length vs → v ≡ get_or vs i v → {k g : Held D} {r : Result (Unit {0}) PassError}
       → Walks d h (one (ValueOnly v)) (Ok tt) k → Walks d k (values_only (drop (i + 1) vs)) r g
       → Walks d h (values_only (drop i vs)) r g
   values-next v b e {k} {g} {r} w x = subst (λ p. Walks d h p r g) (sym (values-drop vs i v b e)) (walks-then w x)
 
   pub values-fail : (v : Bound) → i < length vs → v ≡ get_or vs i v
-      → {g : Held} {r : Result (Unit {0}) PassError} {e : PassError} → Walks d h (one (ValueOnly v)) (Err e) g
+      → {g : Held D} {r : Result (Unit {0}) PassError} {e : PassError} → Walks d h (one (ValueOnly v)) (Err e) g
       → r ≡ Err e → Walks d h (values_only (drop i vs)) r g
   values-fail v b e {g} {r} w a = subst (λ p. Walks d h p r g) (sym (values-drop vs i v b e)) (walks-fail _ w a)
 

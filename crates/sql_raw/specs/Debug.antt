@@ -6,7 +6,7 @@ use Rattle.sql_pass.specs.declared.value.Value.TheVariants as V
 use Rattle.sql_pass.specs.declared.value.Bound.{Bound}
 use Rattle.sql_pass.specs.declared.value.Bound.TheVariants as B
 
--- None where it is a text past ASCII, whose escapes are not told
+-- None where it is a text past ASCII, of whose escapes nothing is said
 abbrev pub value_debug : Value → Option (List ℕ)
 value_debug (V.SmallInt z) = Some (signed_decimal z)
 value_debug (V.Integer z) = Some (signed_decimal z)

@@ -5,7 +5,7 @@ use Rattle.sql_pass.specs.declared.value.Bound.{Bound}
 use Rattle.sql_raw.specs.declared.raw.SqlQuery.{SqlQuery}
 use Rattle.sql_raw.specs.declared.raw.UncheckedBind.{UncheckedBind}
 
--- what a text stands behind
+-- what comes before the text
 abbrev pub inner_part : {I : Type 0} → SqlQuery I → I
 inner_part q = q.inner
 

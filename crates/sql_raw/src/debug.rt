@@ -38,10 +38,10 @@ impl fmt::Debug for DebugQuery {
     }
 }
 
-/// The query as the backend writes it, with its values behind: of a text `x` on PostgreSQL, `.. = $1) -- binds: ["x"]`.
+/// The query as the backend writes it, with its values after it: of a text `x` on PostgreSQL, `.. = $1) -- binds: ["x"]`.
 ///
 /// A whole number, a truth value and a text stand as Rust shows them, NULL as `None`, bytes and a list that is bound as one as
-/// lists: `[7, true, "x", None, [1, 255], [1, 2]]`. The line is the one that the clause tells where each text among the values
+/// lists: `[7, true, "x", None, [1, 255], [1, 2]]`. The line is the one of the clause where each text among the values
 /// is ASCII; how other texts are escaped is left to Rust's form of them.
 pub fn debug_query<DB: Backend, T: QueryFragment<DB>>(
     alloc: Global,

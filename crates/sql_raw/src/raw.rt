@@ -9,7 +9,7 @@ use sql_dialect::{Backend, NoMemory};
 use sql_pass::{AstPass, Bound, PassError, QueryFragment};
 use std::alloc::Global;
 
-/// Nothing: what a raw query stands behind where it begins.
+/// Nothing: the inner part of a raw query that has none.
 #[derive(Debug, Clone, Copy, PartialEq, Eq)]
 pub struct Empty;
 
@@ -22,7 +22,7 @@ impl<DB: Backend> QueryFragment<DB> for Empty {
     }
 }
 
-/// SQL that is written by hand, behind an inner part: `SELECT 1`.
+/// SQL that is written by hand, after an inner part: `SELECT 1`.
 #[derive(Debug, Drop)]
 pub struct SqlQuery<Inner = Empty> {
     inner: Inner,
@@ -38,8 +38,8 @@ pub struct UncheckedBind<Q> {
 
 /// A raw query: `sql_query("SELECT name FROM users WHERE id = $1")`.
 ///
-/// The text is written as it is, so it holds its placeholders as the dialect has them, `$1` on PostgreSQL and `?` on MySQL and
-/// SQLite. Their values follow by `bind`, in order. It is never safe to cache.
+/// The text is written as it is, so it holds its placeholders as the dialect has them: `$1` on PostgreSQL, `?` on MySQL and
+/// SQLite, `@p1` on Bracket. Their values follow by `bind`, in order. It is never safe to cache.
 pub fn sql_query(query: String) -> SqlQuery
     ensures { query_text result ≡ string_bytes query }
 {
@@ -107,7 +107,7 @@ impl<Q: Drop> UncheckedBind<Q> {
         BoxedSqlQuery::new(alloc, self)
     }
 
-    /// More text behind the query, as it is: of `SELECT $1` with a value and ` + $2`, `SELECT $1 + $2`.
+    /// More text after the query, as it is: of `SELECT $1` with a value and ` + $2`, `SELECT $1 + $2`.
     pub fn sql(self, sql: String) -> SqlQuery<UncheckedBind<Q>>
         ensures text { query_text result ≡ string_bytes sql }
         ensures inner { inner_part result ≡ self }
@@ -119,7 +119,7 @@ impl<Q: Drop> UncheckedBind<Q> {
     }
 }
 
-/// The inner part, and the text behind it.
+/// The inner part, and the text after it.
 impl<DB: Backend, Inner: QueryFragment<DB>> QueryFragment<DB> for SqlQuery<Inner> {
     ghost pieces = { sql_pieces Inner.pieces };
 
@@ -130,7 +130,7 @@ impl<DB: Backend, Inner: QueryFragment<DB>> QueryFragment<DB> for SqlQuery<Inner
     }
 }
 
-/// The query, and a value whose placeholder stands in its text: PostgreSQL's counter rises.
+/// The query, and a value whose placeholder stands in its text: the counters of PostgreSQL and Bracket rise.
 impl<DB: Backend, Q: QueryFragment<DB>> QueryFragment<DB> for UncheckedBind<Q> {
     ghost pieces = { bind_pieces Q.pieces };
 

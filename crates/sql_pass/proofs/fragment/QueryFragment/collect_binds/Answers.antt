@@ -8,7 +8,7 @@ pub returns-in_err-walk_ast-clause-many : goal.returns-in_err-walk_ast-clause-ma
 returns-in_err-walk_ast-clause-many g c = λ is.
     let (e, made, same) = err_from_is_err_and c.from_residual.result c.from_residual.ensures.1 in
     let known : c.in_err-walk_ast.field-0.0 ≡ TooManyBinds = cc in
-    let start = rw c.collect_binds-pass.ensures at c.in_err-walk_ast.ensures in
+    let start = rw c.collect_binds-pass.ensures.holds at c.in_err-walk_ast.ensures in
     let none = walks-many (rw known at start) in
     cc
 
@@ -16,11 +16,11 @@ pub returns-in_err-walk_ast-clause-long : goal.returns-in_err-walk_ast-clause-lo
 returns-in_err-walk_ast-clause-long g c = λ is.
     let (e, made, same) = err_from_is_err_and c.from_residual.result c.from_residual.ensures.1 in
     let known : c.in_err-walk_ast.field-0.0 ≡ TooLong = cc in
-    let start = rw c.collect_binds-pass.ensures at c.in_err-walk_ast.ensures in
+    let start = rw c.collect_binds-pass.ensures.holds at c.in_err-walk_ast.ensures in
     walks-long (rw known at start)
 
 pub returns-clause-refused : goal.returns-clause-refused
 returns-clause-refused g c = λ long.
-    let start = rw c.collect_binds-pass.ensures at (c.in_ok-walk_ast.ensures {u = tt}) in
+    let start = rw c.collect_binds-pass.ensures.holds at (c.in_ok-walk_ast.ensures {u = tt}) in
     let short = walks-short start in
     cc
