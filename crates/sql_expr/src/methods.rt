@@ -71,12 +71,12 @@ pub trait ExpressionMethods: Sized {
     fn nullable(self, alloc: Global) -> Result<Expr, NoMemory>
         ensures { IfOk result (λ e. expr_tree e ≡ tree.nullable (expression self)) };
 
-    /// `(a = ANY(..))`, in MySQL and SQLite `(a IN (..))`: whether it is one of them.
+    /// `(a = ANY(..))` in PostgreSQL, elsewhere `(a IN (..))`: whether it is one of them.
     fn eq_any(self, alloc: Global, among: InValues) -> Result<Expr, NoMemory>
         ensures { IfOk result (λ e. expr_tree e
             ≡ among_of false (expression self) (in_values_tree among)) };
 
-    /// `(a != ALL(..))`, in MySQL and SQLite `(a NOT IN (..))`: whether it is none of them.
+    /// `(a != ALL(..))` in PostgreSQL, elsewhere `(a NOT IN (..))`: whether it is none of them.
     fn ne_all(self, alloc: Global, among: InValues) -> Result<Expr, NoMemory>
         ensures { IfOk result (λ e. expr_tree e
             ≡ among_of true (expression self) (in_values_tree among)) };

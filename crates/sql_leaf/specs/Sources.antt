@@ -6,6 +6,8 @@ use Rattle.sql_pass.specs.Parts.{pieces_of_option}
 use Rattle.sql_pass.specs.Paths.{dotted, table_pieces}
 use Rattle.sql_pass.specs.Pieces.{Piece, one, Text, Ident, Bind}
 use Rattle.sql_pass.specs.Bounds.{of_i16, of_i32}
+use Rattle.sql_leaf.specs.declared.table_source.JoinKind.{JoinKind}
+use Rattle.sql_leaf.specs.declared.table_source.JoinKind.TheVariants.{Inner, LeftOuter}
 use Rattle.sql_leaf.specs.declared.table_source.Tablesample.{Tablesample}
 use Rattle.sql_leaf.specs.declared.table_source.TablesampleMethod.{TablesampleMethod}
 use Rattle.sql_leaf.specs.declared.table_source.TablesampleMethod.TheVariants.{BernoulliMethod, SystemMethod}
@@ -21,6 +23,11 @@ field_pieces alias c = one (Ident alias) ++ dotted c.sql_name
 abbrev pub only_pieces : Bool → List Piece
 only_pieces false = []
 only_pieces true = one (Text (codes " ONLY "))
+
+-- a join without its word JOIN
+abbrev pub join_kind_sql : JoinKind → List ℕ
+join_kind_sql Inner = codes " INNER"
+join_kind_sql LeftOuter = codes " LEFT OUTER"
 
 abbrev pub method_sql : TablesampleMethod → List ℕ
 method_sql BernoulliMethod = codes "BERNOULLI"

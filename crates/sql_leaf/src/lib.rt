@@ -1,7 +1,7 @@
 //! The parts of a statement that hold no expression: tables as they are read from, aliases, aliased fields, samples, limits,
 //! locks, positions in an order, and the marks that calls leave.
 //!
-//! Each is written as a fragment. What holds a text is copied by `try_clone`; all else is `Copy`.
+//! Each is written as a fragment and copied by `try_clone`. What holds no text is `Copy` too.
 #![tactic(auto)]
 
 mod alias;

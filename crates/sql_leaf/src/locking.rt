@@ -1,6 +1,6 @@
 #![tactic(auto, using(sql_pass::proofs::Walking::walking))]
 
-ghost use Rattle.std.specs.Prelude.{◌≡◌, ◌++◌};
+ghost use Rattle.std.specs.Prelude.{◌≡◌, ◌++◌, Ok};
 ghost use Rattle.sql_pass.specs.Held.{held};
 ghost use Rattle.sql_pass.specs.Pieces.{one, Text};
 ghost use Rattle.sql_pass.specs.Walks.{Walks};
@@ -8,6 +8,8 @@ ghost use Rattle.sql_leaf.specs.Locks.{lock_sql, skip_locked, modifier_pieces, l
 
 use sql_dialect::Backend;
 use sql_pass::{AstPass, PassError, QueryFragment};
+use sql_schema::NoMemory;
+use std::alloc::Global;
 
 /// How strongly the rows are locked.
 #[derive(Debug, Clone, Copy, PartialEq, Eq)]
@@ -33,6 +35,33 @@ pub enum LockingClause {
     LockingClause(LockMode, Modifier),
 }
 
+impl LockMode {
+    /// An equal mode. It takes no memory.
+    pub fn try_clone(&self, _alloc: Global) -> Result<LockMode, NoMemory>
+        ensures { result ≡ Ok self.now }
+    {
+        Ok(*self)
+    }
+}
+
+impl Modifier {
+    /// An equal modifier. It takes no memory.
+    pub fn try_clone(&self, _alloc: Global) -> Result<Modifier, NoMemory>
+        ensures { result ≡ Ok self.now }
+    {
+        Ok(*self)
+    }
+}
+
+impl LockingClause {
+    /// An equal clause. It takes no memory.
+    pub fn try_clone(&self, _alloc: Global) -> Result<LockingClause, NoMemory>
+        ensures { result ≡ Ok self.now }
+    {
+        Ok(*self)
+    }
+}
+
 fn mode_word(mode: LockMode) -> &'static str
     ensures { result.now ≡ lock_sql mode }
 {
@@ -52,6 +81,15 @@ fn push_skip_locked<DB: Backend>(pass: &mut AstPass<DB>) -> Result<(), PassError
     pass.push_sql(" SKIP LOCKED")
 }
 
+/// ` FOR UPDATE`, ` FOR NO KEY UPDATE`, ` FOR SHARE` or ` FOR KEY SHARE`.
+impl<DB: Backend> QueryFragment<DB> for LockMode {
+    ghost pieces = { λ m. one (Text (lock_sql m)) };
+
+    fn walk_ast(&self, pass: &mut AstPass<DB>) -> Result<(), PassError> {
+        pass.push_sql(mode_word(*self))
+    }
+}
+
 /// Nothing, ` SKIP LOCKED` or ` NOWAIT`.
 impl<DB: Backend> QueryFragment<DB> for Modifier {
     ghost pieces = { modifier_pieces };
@@ -65,7 +103,7 @@ impl<DB: Backend> QueryFragment<DB> for Modifier {
     }
 }
 
-/// ` FOR UPDATE`, ` FOR NO KEY UPDATE`, ` FOR SHARE` or ` FOR KEY SHARE`, with its modifier.
+/// Nothing, or the mode and its modifier.
 impl<DB: Backend> QueryFragment<DB> for LockingClause {
     ghost pieces = { locking_pieces };
 
@@ -73,7 +111,7 @@ impl<DB: Backend> QueryFragment<DB> for LockingClause {
         match self {
             LockingClause::NoLockingClause => Ok(()),
             LockingClause::LockingClause(mode, modifier) => {
-                pass.push_sql(mode_word(*mode))?;
+                mode.walk_ast(pass)?;
                 modifier.walk_ast(pass)
             }
         }

@@ -1,9 +1,11 @@
 #![tactic(auto, using(sql_pass::proofs::Walking::walking))]
 
-ghost use Rattle.std.specs.Prelude.{◌≡◌, []};
+ghost use Rattle.std.specs.Prelude.{◌≡◌, [], Ok};
 
 use sql_dialect::Backend;
 use sql_pass::{AstPass, PassError, QueryFragment};
+use sql_schema::NoMemory;
+use std::alloc::Global;
 
 /// What calls leave on a statement that they can't act on. A statement with a mark is refused once it is checked, and a mark
 /// stays for good. A mark is not written.
@@ -38,6 +40,13 @@ impl Marks {
             no_lock: false,
             boxed_lock: false,
         }
+    }
+
+    /// Equal marks. It takes no memory.
+    pub fn try_clone(&self, _alloc: Global) -> Result<Marks, NoMemory>
+        ensures { result ≡ Ok self.now }
+    {
+        Ok(*self)
     }
 }
 

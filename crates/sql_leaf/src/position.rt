@@ -1,12 +1,14 @@
 #![tactic(auto, using(sql_pass::proofs::Walking::walking))]
 
-ghost use Rattle.std.specs.Prelude.{◌≡◌, ◌++◌, decimal};
+ghost use Rattle.std.specs.Prelude.{◌≡◌, ◌++◌, decimal, Ok};
 ghost use Rattle.sql_pass.specs.Pieces.{one, Text};
 ghost use Rattle.sql_leaf.specs.Positions.{direction_pieces, position_pieces};
 
 use itoa::Buffer;
 use sql_dialect::Backend;
 use sql_pass::{AstPass, PassError, QueryFragment};
+use sql_schema::NoMemory;
+use std::alloc::Global;
 
 /// Whether an order rises or falls. Without one it rises.
 #[derive(Debug, Clone, Copy, PartialEq, Eq)]
@@ -33,6 +35,33 @@ impl From<u32> for OrderColumn {
 pub struct PositionalItem {
     pub column: OrderColumn,
     pub direction: Direction,
+}
+
+impl Direction {
+    /// An equal direction. It takes no memory.
+    pub fn try_clone(&self, _alloc: Global) -> Result<Direction, NoMemory>
+        ensures { result ≡ Ok self.now }
+    {
+        Ok(*self)
+    }
+}
+
+impl OrderColumn {
+    /// An equal column. It takes no memory.
+    pub fn try_clone(&self, _alloc: Global) -> Result<OrderColumn, NoMemory>
+        ensures { result ≡ Ok self.now }
+    {
+        Ok(*self)
+    }
+}
+
+impl PositionalItem {
+    /// An equal item. It takes no memory.
+    pub fn try_clone(&self, _alloc: Global) -> Result<PositionalItem, NoMemory>
+        ensures { result ≡ Ok self.now }
+    {
+        Ok(*self)
+    }
 }
 
 /// Nothing, ` ASC` or ` DESC`.

@@ -1,10 +1,10 @@
 #![tactic(auto, using(sql_pass::proofs::Walking::walking))]
 
-ghost use Rattle.std.specs.Prelude.{◌≡◌, ◌++◌, IfOk};
+ghost use Rattle.std.specs.Prelude.{◌≡◌, ◌++◌, IfOk, Ok};
 ghost use Rattle.sql_pass.specs.Held.{held};
 ghost use Rattle.sql_pass.specs.Pieces.{one, Text};
 ghost use Rattle.sql_pass.specs.Walks.{Walks};
-ghost use Rattle.sql_leaf.specs.Sources.{only_pieces, method_sql, method_open, repeatable, seed_pieces, sample_pieces, table_source_pieces};
+ghost use Rattle.sql_leaf.specs.Sources.{join_kind_sql, only_pieces, method_sql, method_open, repeatable, seed_pieces, sample_pieces, table_source_pieces};
 
 use crate::bound::{push_integer, push_small};
 use sql_dialect::Backend;
@@ -56,6 +56,31 @@ impl TablesampleMethod {
             TablesampleMethod::BernoulliMethod => "BERNOULLI",
             TablesampleMethod::SystemMethod => "SYSTEM",
         }
+    }
+
+    /// An equal method. It takes no memory.
+    pub fn try_clone(&self, _alloc: Global) -> Result<TablesampleMethod, NoMemory>
+        ensures { result ≡ Ok self.now }
+    {
+        Ok(*self)
+    }
+}
+
+impl JoinKind {
+    /// An equal kind. It takes no memory.
+    pub fn try_clone(&self, _alloc: Global) -> Result<JoinKind, NoMemory>
+        ensures { result ≡ Ok self.now }
+    {
+        Ok(*self)
+    }
+}
+
+impl Tablesample {
+    /// An equal sample. It takes no memory.
+    pub fn try_clone(&self, _alloc: Global) -> Result<Tablesample, NoMemory>
+        ensures { result ≡ Ok self.now }
+    {
+        Ok(*self)
     }
 }
 
@@ -112,6 +137,24 @@ fn walk_seed<DB: Backend>(seed: Option<i32>, pass: &mut AstPass<DB>) -> Result<(
             push_integer(seed, pass)?;
             pass.push_sql(")")
         }
+    }
+}
+
+fn join_kind_word(kind: JoinKind) -> &'static str
+    ensures { result.now ≡ join_kind_sql kind }
+{
+    match kind {
+        JoinKind::Inner => " INNER",
+        JoinKind::LeftOuter => " LEFT OUTER",
+    }
+}
+
+/// ` INNER` or ` LEFT OUTER`: a join without its word `JOIN`.
+impl<DB: Backend> QueryFragment<DB> for JoinKind {
+    ghost pieces = { λ k. one (Text (join_kind_sql k)) };
+
+    fn walk_ast(&self, pass: &mut AstPass<DB>) -> Result<(), PassError> {
+        pass.push_sql(join_kind_word(*self))
     }
 }
 

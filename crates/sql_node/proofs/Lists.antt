@@ -59,9 +59,9 @@ all-drop f xs i x h e =
     ap (λ l. all_of f l) (drop_more xs i x h) ∙ ap (λ y. each (f y) ++ all_of f (drop (i + 1) xs)) (sym e)
 
 -- A loop over a list, at its element x at i, which may be a list itself, of none or of many.
-module _ {X : Type 0} (f : X → Written) {d : Dialect} {h : Held} (first : Bool) (xs : List X) (i : ℕ) where
+module _ {X : Type 0} (f : X → Written) {D : Type 0} {d : Dialect} {h : Held D} (first : Bool) (xs : List X) (i : ℕ) where
   pub all-next : (x : X) → i < length xs → x ≡ get_or xs i x → {later : Bool} → later ≡ still first (f x)
-      → {k g : Held} {r : Result (Unit {0}) PassError} → Walks d h (spread first (f x)) (Ok tt) k
+      → {k g : Held D} {r : Result (Unit {0}) PassError} → Walks d h (spread first (f x)) (Ok tt) k
       → Walks d k (commas later (all_of f (drop (i + 1) xs))) r g → Walks d h (commas first (all_of f (drop i xs))) r g
   all-next x b e {later} s {k} {g} {r} v w =
       subst (λ p. Walks d h p r g)
@@ -70,7 +70,7 @@ module _ {X : Type 0} (f : X → Written) {d : Dialect} {h : Held} (first : Bool
       (walks-then v (subst (λ z. Walks d k (commas z (all_of f (drop (i + 1) xs))) r g) s w))
 
   pub all-fail : (x : X) → i < length xs → x ≡ get_or xs i x
-      → {g : Held} {r : Result (Unit {0}) PassError} {e : PassError} → Walks d h (spread first (f x)) (Err e) g
+      → {g : Held D} {r : Result (Unit {0}) PassError} {e : PassError} → Walks d h (spread first (f x)) (Err e) g
       → r ≡ Err e → Walks d h (commas first (all_of f (drop i xs))) r g
   all-fail x b e {g} {r} v a =
       subst (λ p. Walks d h p r g)

@@ -4,11 +4,13 @@ use Rattle.sql_schema.specs.declared.declaration.ColumnDecl.{ColumnDecl}
 use Rattle.sql_schema.specs.declared.declaration.TableDecl.{TableDecl}
 use Rattle.sql_schema.specs.declared.types.SqlType.{SqlType}
 use Rattle.sql_dialect.specs.declared.backend.Dialect.{Dialect}
-use Rattle.sql_dialect.specs.declared.backend.Dialect.TheVariants.{Pg, Mysql, Sqlite}
 use Rattle.sql_dialect.specs.declared.combination.Combinator.{Combinator}
 use Rattle.sql_dialect.specs.declared.combination.Combinator.TheVariants.{Union, Intersect, Except}
 use Rattle.sql_dialect.specs.declared.combination.DuplicateRule.{DuplicateRule}
 use Rattle.sql_dialect.specs.declared.combination.DuplicateRule.TheVariants.{Distinct as DistinctRows, All}
+use Rattle.sql_dialect.specs.Syntax.{array}
+use Rattle.sql_dialect.specs.declared.syntax.ArrayComparison.{ArrayComparison}
+use Rattle.sql_dialect.specs.declared.syntax.ArrayComparison.TheVariants.{AnsiSqlArrayComparison, PgStyleArrayComparison}
 use Rattle.sql_pass.specs.Commas.{next_of, commas}
 use Rattle.sql_pass.specs.Parts.{side}
 use Rattle.sql_pass.specs.Paths.{dotted, table_pieces}
@@ -59,13 +61,14 @@ null_test_sql true = is_not_null
 
 -- Whether something is among values, or negated: PostgreSQL compares with an array (Row and Array Comparisons), the
 -- others look in a list.
+abbrev pub among_word : ArrayComparison → Bool → List ℕ
+among_word PgStyleArrayComparison false = codes " = ANY("
+among_word PgStyleArrayComparison true = codes " != ALL("
+among_word AnsiSqlArrayComparison false = codes " IN ("
+among_word AnsiSqlArrayComparison true = codes " NOT IN ("
+
 abbrev pub among_sql : Dialect → Bool → List ℕ
-among_sql Pg false = codes " = ANY("
-among_sql Pg true = codes " != ALL("
-among_sql Mysql false = codes " IN ("
-among_sql Mysql true = codes " NOT IN ("
-among_sql Sqlite false = codes " IN ("
-among_sql Sqlite true = codes " NOT IN ("
+among_sql d n = among_word (array d) n
 
 -- nothing is among no values
 abbrev pub constant_sql : Bool → List ℕ
@@ -93,13 +96,13 @@ abbrev pub leaf_pieces : Origin → ColumnDecl → List Piece
 leaf_pieces o c = origin_pieces o.alias o.table ++ dotted c.sql_name
 
 abbrev pub around : List ℕ → List Piece → List ℕ → List Piece
-around before x behind = one (Text before) ++ (x ++ one (Text behind))
+around before x after = one (Text before) ++ (x ++ one (Text after))
 
 -- `(a = b)`
 abbrev pub infix_of : List Piece → List ℕ → List Piece → List Piece
 infix_of x middle y = around (codes "(") x middle ++ (y ++ one (Text (codes ")")))
 
--- whether the first of a list is still to come behind those
+-- whether the first of a list is still to come after those
 abbrev pub stays : Bool → List (List Piece) → Bool
 stays first [] = first
 stays first (x ∷ xs) = false
@@ -130,24 +133,28 @@ abbrev pub positions_pieces : Option (List PositionalItem) → List Piece
 positions_pieces None = []
 positions_pieces (Some ps) = one (Text order_by_sql) ++ commas true (map (λ p. position_pieces p.column p.direction) ps)
 
--- `(x IN (?, ?))`, and what stands for it where there is no value
+-- `(x IN (?, ?))`, and what is written in its place where there is no value
 abbrev pub one_by_one : Dialect → Bool → List Piece → SqlType → List Value → List Piece
 one_by_one d n x t vs =
     if nat_eq (length vs) 0 then (one Unsafe ++ one (Text (constant_sql n)))
     else (one Unsafe ++ (around (codes "(") x (among_sql d n) ++ (values_pieces t vs ++ one (Text (codes "))")))))
 
 -- `(x = ANY($1))` over one list, or one by one
+abbrev pub among_as : ArrayComparison → Dialect → Bool → List Piece → SqlType → List Value → List Piece
+among_as PgStyleArrayComparison d n x t vs =
+    around (codes "(") x (among_sql d n) ++ (one (Bind (ManyValues t vs)) ++ one (Text (codes "))")))
+among_as AnsiSqlArrayComparison d n x t vs = one_by_one d n x t vs
+
 abbrev pub among_pieces : Dialect → Bool → List Piece → SqlType → List Value → List Piece
-among_pieces Pg n x t vs =
-    around (codes "(") x (among_sql Pg n) ++ (one (Bind (ManyValues t vs)) ++ one (Text (codes "))")))
-among_pieces Mysql n x t vs = one_by_one Mysql n x t vs
-among_pieces Sqlite n x t vs = one_by_one Sqlite n x t vs
+among_pieces d n x t vs = among_as (array d) d n x t vs
 
 -- what a membership looks in, alone
+abbrev pub sought_as : ArrayComparison → SqlType → List Value → List Piece
+sought_as PgStyleArrayComparison t vs = one (Bind (ManyValues t vs))
+sought_as AnsiSqlArrayComparison t vs = one Unsafe ++ values_pieces t vs
+
 abbrev pub sought_values : Dialect → SqlType → List Value → List Piece
-sought_values Pg t vs = one (Bind (ManyValues t vs))
-sought_values Mysql t vs = one Unsafe ++ values_pieces t vs
-sought_values Sqlite t vs = one Unsafe ++ values_pieces t vs
+sought_values d t vs = sought_as (array d) t vs
 
 abbrev pub joined_by : List Piece → JoinKind → List Piece → List Piece
 joined_by l k r = l ++ (one (Text (join_sql k)) ++ r)
@@ -156,7 +163,7 @@ abbrev pub all_pieces : DuplicateRule → List Piece
 all_pieces DistinctRows = []
 all_pieces All = one (Text (codes "ALL "))
 
--- what stands behind the order of a select statement
+-- what comes after the order of a select statement
 abbrev pub end_pieces : Dialect → LimitOffsetClause → Form → List Piece
 end_pieces d r (unboxed l) = limit_offset_pieces d false r.limit_clause r.offset_clause ++ locking_pieces l
 end_pieces d r (boxed e n) = limit_offset_pieces d true r.limit_clause r.offset_clause
@@ -193,7 +200,7 @@ abbrev mutual
   items_pieces d no_items = []
   items_pieces d (more_items e by is) = (spread true (expr_parts d e) ++ direction_pieces by) ∷ items_pieces d is
 
-  -- a text in front of an expression, where there is one
+  -- a text before an expression, where there is one
   pub maybe_pieces : Dialect → List ℕ → MaybeExpr → List Piece
   maybe_pieces d before no_expr = []
   maybe_pieces d before (an_expr e) = one (Text before) ++ spread true (expr_parts d e)

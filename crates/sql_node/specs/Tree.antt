@@ -21,7 +21,7 @@ pub record Origin : Type 0 where
   pub alias : Option (List ℕ)
   pub table : TableDecl
 
--- how a select statement stands: with its lock, or boxed for a dialect, all its columns nullable or not
+-- the form of a select statement: with its lock, or boxed for a dialect, all its columns nullable or not
 pub data Form : Type 0 where
   unboxed : LockingClause → Form
   boxed : Dialect → Bool → Form

@@ -1,4 +1,4 @@
--- The plain tree of each node: one level at a time, where what stands below is a tree already.
+-- The plain tree of each node, one level at a time, where the parts are trees already.
 use Rattle.std.specs.Prelude.{Bool, true, false, Option, None, Some, List, [], ◌∷◌}
 use Rattle.sql_schema.specs.Columns.{DeclaredColumn}
 use Rattle.sql_schema.specs.declared.types.SqlType.{SqlType}

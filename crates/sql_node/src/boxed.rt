@@ -82,7 +82,7 @@ impl BoxedSelectStatement {
     }
 }
 
-/// Pushes the order of a boxed statement and what stands behind it.
+/// Pushes the order of a boxed statement and what follows it.
 #[cycle(walk)]
 fn walk_boxed_end<DB: Backend>(
     order: &OrderClause,

@@ -10,9 +10,10 @@ ghost use Rattle.sql_node.specs.View.{expr_tree, in_values_tree, statement_tree}
 use crate::Statement;
 use crate::list::walk_list;
 use crate::membership::{
-    mark_varying_length, walk_among_values, walk_bound_list, walk_sought, walk_value, walk_values,
+    comparison_of, mark_varying_length, walk_among_values, walk_bound_list, walk_sought,
+    walk_value, walk_values,
 };
-use sql_dialect::{Backend, Dialect};
+use sql_dialect::{ArrayComparison, Backend};
 use sql_leaf::AliasedField;
 use sql_pass::{AstPass, PassError, QueryFragment, Value};
 use sql_schema::{Column, NoMemory, SqlList, SqlType};
@@ -287,16 +288,16 @@ impl<DB: Backend> QueryFragment<DB> for Expr {
 pub(crate) fn walk_around<DB: Backend>(
     before: &str,
     a: &Expr,
-    behind: &str,
+    after: &str,
     pass: &mut AstPass<DB>,
 ) -> Result<(), PassError>
     ensures { Walks DB.speaks (held DB.QueryBuilder.text DB.QueryBuilder.count pass.old)
-        (around before.now (expr_pieces DB.speaks (expr_tree a.now)) behind.now) result
+        (around before.now (expr_pieces DB.speaks (expr_tree a.now)) after.now) result
         (held DB.QueryBuilder.text DB.QueryBuilder.count pass.new) }
 {
     pass.push_sql(before)?;
     a.walk_ast(pass)?;
-    pass.push_sql(behind)?;
+    pass.push_sql(after)?;
     Ok(())
 }
 
@@ -341,32 +342,32 @@ fn walk_not_null<DB: Backend>(a: &Expr, pass: &mut AstPass<DB>) -> Result<(), Pa
 fn walk_query<DB: Backend>(
     before: &str,
     query: &Statement,
-    behind: &str,
+    after: &str,
     pass: &mut AstPass<DB>,
 ) -> Result<(), PassError>
     ensures { Walks DB.speaks (held DB.QueryBuilder.text DB.QueryBuilder.count pass.old)
-        (around before.now (pieces DB.speaks (statement_tree query.now)) behind.now) result
+        (around before.now (pieces DB.speaks (statement_tree query.now)) after.now) result
         (held DB.QueryBuilder.text DB.QueryBuilder.count pass.new) }
 {
     pass.push_sql(before)?;
     query.walk_ast(pass)?;
-    pass.push_sql(behind)?;
+    pass.push_sql(after)?;
     Ok(())
 }
 
-/// Pushes the statement in front of a text.
+/// Pushes the statement, and a text after it.
 #[cycle(walk)]
 fn walk_query_before<DB: Backend>(
     query: &Statement,
-    behind: &str,
+    after: &str,
     pass: &mut AstPass<DB>,
 ) -> Result<(), PassError>
     ensures { Walks DB.speaks (held DB.QueryBuilder.text DB.QueryBuilder.count pass.old)
-        (pieces DB.speaks (statement_tree query.now) ++ one (Text behind.now)) result
+        (pieces DB.speaks (statement_tree query.now) ++ one (Text after.now)) result
         (held DB.QueryBuilder.text DB.QueryBuilder.count pass.new) }
 {
     query.walk_ast(pass)?;
-    pass.push_sql(behind)?;
+    pass.push_sql(after)?;
     Ok(())
 }
 
@@ -379,9 +380,9 @@ fn walk_list_alone<DB: Backend>(
         (sought_values DB.speaks ty values.now) result
         (held DB.QueryBuilder.text DB.QueryBuilder.count pass.new) }
 {
-    match pass.backend().dialect() {
-        Dialect::Pg => walk_bound_list(ty, values, pass),
-        Dialect::Mysql | Dialect::Sqlite => {
+    match comparison_of(pass) {
+        ArrayComparison::PgStyleArrayComparison => walk_bound_list(ty, values, pass),
+        ArrayComparison::AnsiSqlArrayComparison => {
             mark_varying_length(pass);
             walk_values(ty, values, pass)
         }

@@ -52,7 +52,7 @@ fn walk_listed<DB: Backend>(
     }
 }
 
-/// Pushes the elements, each behind a comma but the first of all.
+/// Pushes the elements, each after a comma but the first of all.
 #[cycle(walk)]
 pub(crate) fn walk_list<DB: Backend>(
     first: &mut bool,

@@ -2,6 +2,7 @@
 #![tactic(auto, using(sql_pass::proofs::Walking::walking))]
 
 ghost use Rattle.std.specs.Prelude.{◌≡◌, ◌++◌, Ok, map, true, false, codes};
+ghost use Rattle.sql_dialect.specs.Syntax.{array};
 ghost use Rattle.sql_pass.specs.Commas.{next_of};
 ghost use Rattle.sql_pass.specs.Held.{held};
 ghost use Rattle.sql_pass.specs.Pieces.{one, Text, Bind, Unsafe};
@@ -12,7 +13,7 @@ ghost use Rattle.sql_node.specs.View.{expr_tree};
 
 use crate::Expr;
 use crate::expr::walk_around;
-use sql_dialect::{Backend, Dialect};
+use sql_dialect::{ArrayComparison, Backend, Dialect};
 use sql_pass::{AstPass, BoundRef, PassError, QueryFragment, Value};
 use sql_schema::{SqlList, SqlType};
 
@@ -91,7 +92,19 @@ pub(crate) fn walk_bound_list<DB: Backend>(
     pass.push_bind_param(BoundRef::List(ty, values))
 }
 
-/// Pushes what is sought, as far as the bracket that opens in front of what it is looked for in.
+/// How the dialect compares with the values of a list.
+pub(crate) fn comparison_of<DB: Backend>(pass: &AstPass<DB>) -> ArrayComparison
+    ensures { result ≡ array DB.speaks }
+{
+    match pass.backend().dialect() {
+        Dialect::Pg => ArrayComparison::PgStyleArrayComparison,
+        Dialect::Mysql | Dialect::Sqlite | Dialect::Bracket => {
+            ArrayComparison::AnsiSqlArrayComparison
+        }
+    }
+}
+
+/// Pushes what is sought, up to the bracket that opens before what it is looked for in.
 #[cycle(walk)]
 pub(crate) fn walk_sought<DB: Backend>(
     negated: bool,
@@ -102,23 +115,19 @@ pub(crate) fn walk_sought<DB: Backend>(
         (around (codes "(") (expr_pieces DB.speaks (expr_tree a.now)) (among_sql DB.speaks negated))
         result (held DB.QueryBuilder.text DB.QueryBuilder.count pass.new) }
 {
-    match pass.backend().dialect() {
-        Dialect::Pg => match negated {
+    match comparison_of(pass) {
+        ArrayComparison::PgStyleArrayComparison => match negated {
             false => walk_around("(", a, " = ANY(", pass),
             true => walk_around("(", a, " != ALL(", pass),
         },
-        Dialect::Mysql => match negated {
-            false => walk_around("(", a, " IN (", pass),
-            true => walk_around("(", a, " NOT IN (", pass),
-        },
-        Dialect::Sqlite => match negated {
+        ArrayComparison::AnsiSqlArrayComparison => match negated {
             false => walk_around("(", a, " IN (", pass),
             true => walk_around("(", a, " NOT IN (", pass),
         },
     }
 }
 
-/// Pushes `(x = ANY($1))`, or each value for itself.
+/// Pushes `(x = ANY($1))`, or `(x IN (?, ?))` with each value by itself.
 #[cycle(walk)]
 pub(crate) fn walk_among_values<DB: Backend>(
     negated: bool,
@@ -131,14 +140,15 @@ pub(crate) fn walk_among_values<DB: Backend>(
         (among_pieces DB.speaks negated (expr_pieces DB.speaks (expr_tree a.now)) ty values.now)
         result (held DB.QueryBuilder.text DB.QueryBuilder.count pass.new) }
 {
-    match pass.backend().dialect() {
-        Dialect::Pg => {
+    match comparison_of(pass) {
+        ArrayComparison::PgStyleArrayComparison => {
             walk_sought(negated, a, pass)?;
             walk_bound_list(ty, values.as_slice(), pass)?;
             pass.push_sql("))")
         }
-        Dialect::Mysql => walk_one_by_one(negated, a, ty, values.as_slice(), pass),
-        Dialect::Sqlite => walk_one_by_one(negated, a, ty, values.as_slice(), pass),
+        ArrayComparison::AnsiSqlArrayComparison => {
+            walk_one_by_one(negated, a, ty, values.as_slice(), pass)
+        }
     }
 }
 

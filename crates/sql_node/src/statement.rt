@@ -84,7 +84,7 @@ impl Statement {
 }
 
 impl SelectStatement {
-    /// Its clauses as those of a boxed statement for a dialect, with these marks. The lock is let go.
+    /// Its clauses as those of a boxed statement for a dialect, with these marks. The lock is dropped.
     pub fn boxed_as(self, dialect: Dialect, marks: Marks) -> BoxedSelectStatement
         ensures select { result.select ≡ self.select }
         ensures from { result.from ≡ self.from }
@@ -174,7 +174,7 @@ fn walk_page<DB: Backend>(
     Ok(())
 }
 
-/// Pushes the order and what stands behind it.
+/// Pushes the order and what follows it.
 #[cycle(walk)]
 fn walk_end<DB: Backend>(
     order: &OrderClause,

@@ -21,7 +21,7 @@ item_written d i = item_pieces d (order_item_tree i)
 abbrev pub invariant-list::walk_list-loop-expr : goal.invariant-list::walk_list-loop-expr
 invariant-list::walk_list-loop-expr g l =
     let at = held g.DB.QueryBuilder.QueryBuilder.text g.DB.QueryBuilder.QueryBuilder.count in
-    ((r : Result (Unit {0}) PassError) (k : Held)
+    ((r : Result (Unit {0}) PassError) (k : Held g.row.DB.Denot)
     → Walks g.DB.Backend.speaks (at l.pass)
     (commas l.first (all_of (parts g.DB.Backend.speaks) (drop l.expr-index l.items))) r k
     → Walks g.DB.Backend.speaks (at l.initial.pass)
@@ -32,7 +32,7 @@ invariant-list::walk_list-loop-expr g l =
 abbrev pub invariant-order::walk_items-loop-item : goal.invariant-order::walk_items-loop-item
 invariant-order::walk_items-loop-item g l =
     let at = held g.DB.QueryBuilder.QueryBuilder.text g.DB.QueryBuilder.QueryBuilder.count in
-    (r : Result (Unit {0}) PassError) (k : Held)
+    (r : Result (Unit {0}) PassError) (k : Held g.row.DB.Denot)
     → Walks g.DB.Backend.speaks (at l.pass)
     (commas l.first (map (item_written g.DB.Backend.speaks) (drop l.item-index l.items))) r k
     → Walks g.DB.Backend.speaks (at l.initial.pass)

@@ -14,6 +14,6 @@ written p = position_pieces p.column p.direction
 abbrev pub invariant-loop-item : goal.invariant-loop-item
 invariant-loop-item g l =
     let at = held g.DB.QueryBuilder.QueryBuilder.text g.DB.QueryBuilder.QueryBuilder.count in
-    (r : Result (Unit {0}) PassError) (k : Held)
+    (r : Result (Unit {0}) PassError) (k : Held g.row.DB.Denot)
     → Walks g.DB.Backend.speaks (at l.pass) (commas l.first (map written (drop l.item-index l.items))) r k
     → Walks g.DB.Backend.speaks (at l.initial.pass) (commas l.initial.first (map written l.items)) r k

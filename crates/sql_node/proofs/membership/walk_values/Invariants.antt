@@ -15,6 +15,6 @@ written t v = one (Bind (OneValue t v))
 abbrev pub invariant-loop-value : goal.invariant-loop-value
 invariant-loop-value g l =
     let at = held g.DB.QueryBuilder.QueryBuilder.text g.DB.QueryBuilder.QueryBuilder.count in
-    (r : Result (Unit {0}) PassError) (k : Held)
+    (r : Result (Unit {0}) PassError) (k : Held g.row.DB.Denot)
     → Walks g.DB.Backend.speaks (at l.pass) (commas l.first (map (written l.ty) (drop l.value-index l.values))) r k
     → Walks g.DB.Backend.speaks (at l.initial.pass) (commas l.initial.first (map (written l.ty) l.values)) r k
