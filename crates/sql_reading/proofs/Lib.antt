@@ -1,7 +1,6 @@
 pub mod Lists
 pub mod PartTexts
 pub mod TextLaws
-pub mod ValueLaws
 pub mod FitsLaws
 pub mod ReadingLaws
 pub mod Parts

@@ -3,7 +3,7 @@ use Rattle.std.proofs.Common.{List, [], ◌∷◌, ◌++◌, inl, inr}
 use Rattle.sql_dialect.specs.declared.backend.Dialect.{Dialect}
 use Rattle.sql_node.specs.Pieces.{Written, alone, many, each, expr_parts, exprs_parts}
 use Rattle.sql_node.specs.Tree.{Expr, list, nullable, Exprs, no_exprs, more_exprs}
-use Rattle.sql_reading.specs.HasText.{IsSingle, HasElement, SomeElement}
+use Rattle.sql_reading.specs.inside.HasText.{IsSingle, HasElement, SomeElement}
 
 abbrev pub NotEmpty : {X : Type 0} → List X → Type 0
 NotEmpty [] = ⊥

@@ -1,9 +1,8 @@
 -- Parts that have a text whatever stands in them: what a select statement of a table's columns and of conditions on them asks.
-use Rattle.std.proofs.Common.{◌≡◌, ◌≤◌, ◌<◌, ℕ, true, refl, ⊎_elim, List, [], ◌∷◌, map, Bool, false, None, inl}
+use Rattle.std.proofs.Common.{◌≡◌, ◌≤◌, ◌<◌, ℕ, true, ⊎_elim, List, [], ◌∷◌, map, Bool, false, None, inl}
 use Rattle.std.proofs.lemmas.Bool.{cases_lt}
 use Rattle.sql_dialect.specs.Written.{numbers, MAX_BINDS}
 use Rattle.sql_dialect.specs.declared.backend.Dialect.{Dialect}
-use Rattle.sql_dialect.specs.declared.backend.Dialect.TheVariants.{Pg, Mysql, Sqlite}
 use Rattle.sql_schema.specs.Columns.{DeclaredColumn}
 use Rattle.sql_schema.specs.declared.declaration.TableDecl.{TableDecl}
 use Rattle.sql_leaf.specs.declared.limit_offset.LimitOffsetClause.{LimitOffsetClause}
@@ -12,7 +11,7 @@ use Rattle.sql_leaf.specs.declared.marks.Marks.{Marks}
 use Rattle.sql_node.specs.Tree.{Expr, list, nullable, compared, joined, MaybeExpr, no_expr, of_table, from, every, no_order, unboxed, select}
 use Rattle.sql_node.specs.View.{column_of, exprs_of}
 use Rattle.sql_node.specs.Words.{Comparison, Logic}
-use Rattle.sql_reading.specs.HasText.{IsSingle, HasElement, ExprHasText, ExprsHaveText, MaybeHasText, PageHasText, HasText, HasNumbers}
+use Rattle.sql_reading.specs.inside.HasText.{IsSingle, HasElement, ExprHasText, ExprsHaveText, MaybeHasText, PageHasText, HasText, HasNumbers}
 
 -- an operand
 abbrev pub Operand : Dialect → Expr → Type 0
@@ -51,12 +50,8 @@ single-has-element _ h = tt
 -- ## Numbers for placeholders
 
 pub few-have-numbers : (d : Dialect) (n : ℕ) → n ≤ MAX_BINDS → HasNumbers d n
-few-have-numbers Pg n h = h
-few-have-numbers Mysql n h = tt
-few-have-numbers Sqlite n h = tt
+few-have-numbers d n h t = h
 
 -- as where a walk runs out of placeholders
 pub not-too-many : (d : Dialect) (n : ℕ) → ((numbers d ≡ true) × (MAX_BINDS < n) → ⊥) → HasNumbers d n
-not-too-many Pg n h = ⊎_elim (λ l. absurd (h (refl, l))) (λ l. l) (cases_lt MAX_BINDS n)
-not-too-many Mysql n h = tt
-not-too-many Sqlite n h = tt
+not-too-many d n h t = ⊎_elim (λ l. absurd (h (t, l))) (λ l. l) (cases_lt MAX_BINDS n)

@@ -11,10 +11,9 @@ use Rattle.sql_pass.specs.Pieces.{text_of, values_of}
 use Rattle.sql_node.specs.Pieces.{pieces}
 use Rattle.sql_node.specs.Tree.{Statement}
 use Rattle.sql_reading.specs.Filled.{filled, normal}
-use Rattle.sql_reading.specs.HasText.{HasText, HasNumbers}
+use Rattle.sql_reading.specs.inside.HasText.{HasText, HasNumbers}
 use Rattle.sql_reading.proofs.FitsLaws.{normal-fits}
-use Rattle.sql_reading.proofs.TextLaws.{text-law}
-use Rattle.sql_reading.proofs.ValueLaws.{value-law}
+use Rattle.sql_reading.proofs.TextLaws.{text-law, value-law}
 
 pub only_reading : (d : Dialect) (s : Statement) → HasText d s → HasNumbers d (length (values_of (pieces d s)))
     → OnlyReading d (text_of d 0 (pieces d s)) (normal d s)

@@ -3,19 +3,19 @@ use Rattle.std.proofs.Common.{◌≡◌, length, refl, rules, arith, subst, List
 use Rattle.std.specs.Prelude.{ℕ, decimal, codes}
 use Rattle.std.proofs.lemmas.Fmt.{decimal_digit}
 use Rattle.sql_dialect.specs.declared.backend.Dialect.{Dialect}
-use Rattle.sql_dialect.specs.declared.backend.Dialect.TheVariants.{Pg, Mysql, Sqlite}
-use Rattle.sql_grammar.specs.Examples.{pg_query, mysql_query, sqlite_query}
+use Rattle.sql_dialect.specs.declared.backend.Dialect.TheVariants.{Pg, Mysql, Sqlite, Bracket}
+use Rattle.sql_grammar.specs.Examples.{pg_query, mysql_query, sqlite_query, bracket_query}
 use Rattle.sql_grammar.specs.MarkTree.{Query}
 use Rattle.sql_grammar.specs.Reading.{OnlyReading}
 use Rattle.sql_pass.specs.Pieces.{one, text_of, values_of}
 use Rattle.sql_pass.specs.Parts.{side_open, from_open}
-use Rattle.sql_leaf.specs.Limits.{least_limit, largest_limit}
+use Rattle.sql_leaf.specs.Limits.{least_limit, largest_limit, fetch_next, rows_only}
 use Rattle.sql_leaf.specs.Locks.{skip_locked}
 use Rattle.sql_node.specs.Pieces.{pieces, distinct_on_open, group_by, order_by_sql}
 use Rattle.sql_node.specs.Tree.{Statement}
-use Rattle.sql_reading.specs.Examples.{pg_statement, mysql_statement, sqlite_statement, pg_text, mysql_text, sqlite_text}
+use Rattle.sql_reading.specs.Examples.{pg_statement, mysql_statement, sqlite_statement, bracket_statement, pg_text, mysql_text, sqlite_text, bracket_text}
 use Rattle.sql_reading.specs.Filled.{normal}
-use Rattle.sql_reading.specs.HasText.{HasText, HasNumbers}
+use Rattle.sql_reading.specs.inside.HasText.{HasText, HasNumbers}
 use Rattle.sql_reading.proofs.ReadingLaws.{only_reading}
 
 read-as : (d : Dialect) (s : Statement) (text : List ℕ) (q : Query) → HasText d s
@@ -33,12 +33,15 @@ digit-2 = decimal_digit 2 (omega arith)
 digit-3 : decimal 3 ≡ codes "3"
 digit-3 = decimal_digit 3 (omega arith)
 
+digit-4 : decimal 4 ≡ codes "4"
+digit-4 = decimal_digit 4 (omega arith)
+
 pg-has-text : HasText Pg pg_statement
 pg-has-text = search (rules, arith)
 
 pg-has-numbers : HasNumbers Pg (length (values_of (pieces Pg pg_statement)))
 unfolding one
-pg-has-numbers = omega arith
+pg-has-numbers t = omega arith
 
 pub pg-text : text_of Pg 0 (pieces Pg pg_statement) ≡ pg_text
 unfolding one distinct_on_open order_by_sql skip_locked
@@ -58,7 +61,7 @@ unfolding one side_open order_by_sql largest_limit
 mysql-text = rw digit-1 refl
 
 pub mysql : OnlyReading Mysql mysql_text mysql_query
-mysql = read-as Mysql mysql_statement mysql_text mysql_query mysql-has-text tt mysql-text mysql-normal
+mysql = read-as Mysql mysql_statement mysql_text mysql_query mysql-has-text (λ t. cc) mysql-text mysql-normal
 
 sqlite-has-text : HasText Sqlite sqlite_statement
 sqlite-has-text = search (rules, arith)
@@ -68,4 +71,19 @@ unfolding one side_open from_open group_by least_limit
 sqlite-text = refl
 
 pub sqlite : OnlyReading Sqlite sqlite_text sqlite_query
-sqlite = read-as Sqlite sqlite_statement sqlite_text sqlite_query sqlite-has-text tt sqlite-text refl
+sqlite = read-as Sqlite sqlite_statement sqlite_text sqlite_query sqlite-has-text (λ t. cc) sqlite-text refl
+
+bracket-has-text : HasText Bracket bracket_statement
+bracket-has-text = search (rules, arith)
+
+bracket-has-numbers : HasNumbers Bracket (length (values_of (pieces Bracket bracket_statement)))
+unfolding one
+bracket-has-numbers t = omega arith
+
+pub bracket-text : text_of Bracket 0 (pieces Bracket bracket_statement) ≡ bracket_text
+unfolding one fetch_next rows_only
+bracket-text = rw (digit-1, digit-2, digit-3, digit-4) refl
+
+pub bracket : OnlyReading Bracket bracket_text bracket_query
+bracket =
+    read-as Bracket bracket_statement bracket_text bracket_query bracket-has-text bracket-has-numbers bracket-text refl

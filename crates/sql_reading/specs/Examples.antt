@@ -1,5 +1,5 @@
--- Three whole statements, whose normal trees the grammar has as examples.
-use Rattle.std.specs.Prelude.{ℕ, ℤ, pos, List, [], ◌∷◌, ◌++◌, Option, Some, None, true, false, codes}
+-- Four whole statements, whose normal trees the grammar has as examples.
+use Rattle.std.specs.Prelude.{ℕ, ℤ, pos, List, [], ◌∷◌, ◌++◌, map, Option, Some, None, true, false, codes}
 use Rattle.sql_schema.specs.declared.declaration.ColumnDecl.{ColumnDecl}
 use Rattle.sql_schema.specs.declared.declaration.TableDecl.{TableDecl}
 use Rattle.sql_schema.specs.declared.types.Base.TheVariants as base
@@ -22,9 +22,16 @@ use Rattle.sql_node.specs.Words.{Eq, Gt}
 abbrev pub whole_number : SqlType
 whole_number = record { base = base.Integer; nullable = false }
 
+-- a table whose key is all its columns
 abbrev pub table : Option (List ℕ) → List ℕ → List ColumnDecl → TableDecl
 table schema name columns =
-    record { name = name; sql_name = name; schema = schema; columns = columns; primary_key = [] }
+    record {
+      name = name;
+      sql_name = name;
+      schema = schema;
+      columns = columns;
+      primary_key = map (λ c. c.name) columns;
+    }
 
 abbrev pub decl : List ℕ → ColumnDecl
 decl name = record { name = name; sql_name = name; ty = whole_number; max_length = None }
@@ -88,6 +95,13 @@ sqlite_statement =
     (an_expr (among_values false column_x whole_number [])) no_order (rows None None) no_expr no_expr
     (unboxed NoLockingClause) unmarked) None (rows None (Some (pos 2)))
 
+-- On Bracket: the rows to skip stand before those to take.
+abbrev pub bracket_statement : Statement
+bracket_statement =
+    select false column_x (from (of_table letters false None)) every
+    (an_expr (among_values false column_x whole_number (v.Integer (pos 1) ∷ v.Integer (pos 2) ∷ []))) no_order
+    (rows (Some (pos 5)) (Some (pos 7))) no_expr no_expr (unboxed NoLockingClause) unmarked
+
 -- ---- their texts
 
 abbrev pub pg_text : List ℕ
@@ -106,3 +120,7 @@ abbrev pub sqlite_text : List ℕ
 sqlite_text =
     codes "SELECT * FROM (SELECT `a`.`x` FROM `a` GROUP BY `a`.`x` HAVING (COUNT(*) > ?))"
     ++ codes " EXCEPT SELECT * FROM (SELECT ? WHERE (1=0)) LIMIT -1  OFFSET ?"
+
+abbrev pub bracket_text : List ℕ
+bracket_text =
+    codes "SELECT [a].[x] FROM [a] WHERE ([a].[x] IN (@p1, @p2)) OFFSET @p3 ROWS FETCH NEXT @p4 ROWS ONLY"

@@ -1,17 +1,19 @@
 -- The filled tree of a statement: the tree of its nodes, with its values at their places. Each clause has its production
 -- (PostgreSQL, SELECT and 4.2 Value Expressions; MySQL, SELECT Statement; SQLite, SELECT). Where a list stands as an operand,
 -- a list is empty or a join has no condition there is no production, and COUNT(*) stands for what is missing.
-use Rattle.std.specs.Prelude.{ℕ, List, [], ◌∷◌, ◌++◌, map, Option, Some, None, option_map, decimal, Bool}
+use Rattle.std.specs.Prelude.{ℕ, ℤ, List, [], ◌∷◌, ◌++◌, map, Option, Some, None, option_map, decimal, Bool}
 use Rattle.sql_dialect.specs.Supports.{is_all}
 use Rattle.sql_dialect.specs.declared.backend.Dialect.{Dialect}
-use Rattle.sql_dialect.specs.declared.backend.Dialect.TheVariants.{Pg, Mysql, Sqlite}
+use Rattle.sql_dialect.specs.declared.backend.Dialect.TheVariants.{Pg, Mysql, Sqlite, Bracket}
+use Rattle.sql_dialect.specs.Syntax.{array}
+use Rattle.sql_dialect.specs.declared.syntax.ArrayComparison.{ArrayComparison}
+use Rattle.sql_dialect.specs.declared.syntax.ArrayComparison.TheVariants.{AnsiSqlArrayComparison, PgStyleArrayComparison}
 use Rattle.sql_schema.specs.declared.declaration.TableDecl.{TableDecl}
 use Rattle.sql_grammar.specs.Numbering.{numbered}
 use Rattle.sql_grammar.specs.Tree as g
 use Rattle.sql_pass.specs.declared.value.Bound.{Bound}
 use Rattle.sql_pass.specs.declared.value.Bound.TheVariants.{Value as OneValue, List as ManyValues}
 use Rattle.sql_pass.specs.Bounds.{of_i16, of_i32, of_i64}
-use Rattle.sql_leaf.specs.declared.limit_offset.LimitOffsetClause.{LimitOffsetClause}
 use Rattle.sql_leaf.specs.declared.position.PositionalItem.{PositionalItem}
 use Rattle.sql_leaf.specs.declared.table_source.Tablesample.{Tablesample}
 use Rattle.sql_node.specs.Tree.{Form, unboxed, boxed, Expr, column, value, list, count_star, nullable, not_of, null_test, count, compared, joined, exists, single, among_values, among_rows, Exprs, no_exprs, more_exprs, Items, no_items, more_items, MaybeExpr, no_expr, an_expr, Source, of_table, of_alias, join, From, no_source, from, Distinct, every, distinct, distinct_on, Order, no_order, order_by, Statement, select, combination}
@@ -19,7 +21,7 @@ use Rattle.sql_reading.specs.Words.{comparison_of, logic_of, direction_of, kind_
 
 -- ---- names
 
--- the first name of a path, and those behind it
+-- the first name of a path, and those after it
 abbrev pub first_name : Option (List ℕ) → List ℕ → List ℕ
 first_name None name = name
 first_name (Some schema) name = schema
@@ -28,7 +30,7 @@ abbrev pub more_names : Option (List ℕ) → List ℕ → List (List ℕ) → L
 more_names None name more = more
 more_names (Some schema) name more = name ∷ more
 
--- a column behind its alias, or behind its table with its schema
+-- a column after its alias, or after its table with its schema
 abbrev pub column_path : Option (List ℕ) → TableDecl → List ℕ → g.Expression Bound
 column_path None t c = g.Path (first_name t.schema t.sql_name) (more_names t.schema t.sql_name (c ∷ []))
 column_path (Some alias) t c = g.Path alias (c ∷ [])
@@ -77,10 +79,12 @@ one_by_one negated x [] = g.Constant negated
 one_by_one negated x (b ∷ bs) = g.InList negated x b bs
 
 -- in one array of all the values, or in a list of each of them
+abbrev pub among_as : ArrayComparison → Bool → g.Expression Bound → Bound → List Bound → g.Expression Bound
+among_as PgStyleArrayComparison negated x all each = g.InList negated x all []
+among_as AnsiSqlArrayComparison negated x all each = one_by_one negated x each
+
 abbrev pub among : Dialect → Bool → g.Expression Bound → Bound → List Bound → g.Expression Bound
-among Pg negated x all each = g.InList negated x all []
-among Mysql negated x all each = one_by_one negated x each
-among Sqlite negated x all each = one_by_one negated x each
+among d negated x all each = among_as (array d) negated x all each
 
 -- ---- samples, pages and locks
 
@@ -88,8 +92,16 @@ abbrev pub sample_of : Option Tablesample → g.Sample Bound
 sample_of None = g.Whole
 sample_of (Some s) = g.Sampled (method_of s.method) (of_i16 s.portion) (option_map of_i32 s.seed)
 
-abbrev pub page_of : LimitOffsetClause → g.Page Bound
-page_of rows = g.PageBy (option_map of_i64 rows.limit_clause) (option_map of_i64 rows.offset_clause)
+-- a page with a limit; on Bracket the offset stands before it
+abbrev pub limited : Dialect → Bound → Option Bound → g.Page Bound
+limited Pg limit offset = g.PageBy (Some limit) offset
+limited Mysql limit offset = g.PageBy (Some limit) offset
+limited Sqlite limit offset = g.PageBy (Some limit) offset
+limited Bracket limit offset = g.FetchBy offset limit
+
+abbrev pub page_of : Dialect → (limit offset : Option ℤ) → g.Page Bound
+page_of d None offset = g.PageBy None (option_map of_i64 offset)
+page_of d (Some limit) offset = limited d (of_i64 limit) (option_map of_i64 offset)
 
 abbrev pub lock_in : Form → g.Lock
 lock_in (unboxed lock) = lock_of lock
@@ -160,9 +172,11 @@ abbrev mutual
   pub filled : Dialect → Statement → g.Query Bound
   filled d (select default e f u w o rows by h form marks) =
       g.Select (distinct_tree d u) (expressions_of (trees d e)) (from_tree d f) (maybe_tree d w) (group_tree d by)
-      (maybe_tree d h) (order_tree d o) (page_of rows) (lock_in form)
+      (maybe_tree d h) (order_tree d o) (page_of d rows.limit_clause rows.offset_clause)
+      (lock_in form)
   filled d (combination by all a b o rows) =
-      g.Combined (filled d a) (operator_of by) (is_all all) (filled d b) (places_of o) (page_of rows)
+      g.Combined (filled d a) (operator_of by) (is_all all) (filled d b) (places_of o)
+      (page_of d rows.limit_clause rows.offset_clause)
 
 -- The normal tree: with a placeholder for each value, numbered from left to right where the dialect numbers them.
 abbrev pub normal : Dialect → Statement → g.Query g.Mark

@@ -1,4 +1,4 @@
 pub mod Words
 pub mod Filled
-pub mod HasText
+pub mod inside
 pub mod Examples

@@ -5,8 +5,8 @@
 
 ghost use Rattle.std.specs.Prelude.{◌≡◌, Bool, ◌++◌, length};
 ghost use Rattle.sql_dialect.specs.declared.backend.Dialect.{Dialect};
-ghost use Rattle.sql_dialect.specs.declared.backend.Dialect.TheVariants.{Pg, Mysql, Sqlite};
-ghost use Rattle.sql_grammar.specs.Examples.{pg_query, mysql_query, sqlite_query};
+ghost use Rattle.sql_dialect.specs.declared.backend.Dialect.TheVariants.{Pg, Mysql, Sqlite, Bracket};
+ghost use Rattle.sql_grammar.specs.Examples.{pg_query, mysql_query, sqlite_query, bracket_query};
 ghost use Rattle.sql_grammar.specs.Numbering.{Fills};
 ghost use Rattle.sql_grammar.specs.Reading.{OnlyReading};
 ghost use Rattle.sql_grammar.specs.Values.{values_query};
@@ -16,9 +16,9 @@ ghost use Rattle.sql_leaf.specs.declared.locking.LockingClause.TheVariants.{NoLo
 ghost use Rattle.sql_leaf.specs.declared.marks.Marks.{Marks};
 ghost use Rattle.sql_node.specs.Pieces.{pieces};
 ghost use Rattle.sql_node.specs.Tree.{boxed, unboxed, Expr, list, nullable, Exprs, more_exprs, MaybeExpr, From, Distinct, Order, Statement, select};
-ghost use Rattle.sql_reading.specs.Examples.{pg_statement, mysql_statement, sqlite_statement, pg_text, mysql_text, sqlite_text};
+ghost use Rattle.sql_reading.specs.Examples.{pg_statement, mysql_statement, sqlite_statement, bracket_statement, pg_text, mysql_text, sqlite_text, bracket_text};
 ghost use Rattle.sql_reading.specs.Filled.{trees, filled, normal};
-ghost use Rattle.sql_reading.specs.HasText.{HasText, HasNumbers};
+ghost use Rattle.sql_reading.specs.inside.HasText.{HasText, HasNumbers};
 
 /// The text of a statement that has one is read as the statement's normal tree, and as no other tree: whoever takes it apart
 /// by the grammar of its dialect finds each name, operand and clause where the statement has it.
@@ -52,7 +52,7 @@ pub fn leaves_no_trace()
         trees d (list (more_exprs (list es) more)) ≡ trees d (list es) ++ trees d (list more) }
 {}
 
-/// Three whole statements, one in each dialect, with their texts. Their only readings are the grammar's examples.
+/// Four whole statements, one in each dialect, with their texts. Their only readings are the grammar's examples.
 pub fn worked_statements()
     ensures pg_written { text_of Pg 0 (pieces Pg pg_statement) ≡ pg_text }
     ensures pg_read { OnlyReading Pg pg_text pg_query }
@@ -60,4 +60,6 @@ pub fn worked_statements()
     ensures mysql_read { OnlyReading Mysql mysql_text mysql_query }
     ensures sqlite_written { text_of Sqlite 0 (pieces Sqlite sqlite_statement) ≡ sqlite_text }
     ensures sqlite_read { OnlyReading Sqlite sqlite_text sqlite_query }
+    ensures bracket_written { text_of Bracket 0 (pieces Bracket bracket_statement) ≡ bracket_text }
+    ensures bracket_read { OnlyReading Bracket bracket_text bracket_query }
 {}

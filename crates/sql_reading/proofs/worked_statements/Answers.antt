@@ -9,4 +9,6 @@ returns c = record {
   mysql_read = worked.mysql;
   sqlite_written = worked.sqlite-text;
   sqlite_read = worked.sqlite;
+  bracket_written = worked.bracket-text;
+  bracket_read = worked.bracket;
 }

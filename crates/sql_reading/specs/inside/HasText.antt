@@ -1,10 +1,11 @@
--- Which statements a text of the grammar says. A list stands in list positions alone, and none is empty; each join has its
--- condition; and each form is one that the dialect has.
+-- Which statements a text of the grammar says: a device between the rules that a statement keeps and the reading of its
+-- text. A list stands in list positions alone, and none is empty; each join has its condition; and each form is one that
+-- the dialect has.
 use Rattle.std.specs.Prelude.{ℕ, ℤ, ◌≤◌, List, [], ◌∷◌, Option, Some, None, Bool, true, false, IsTrue, ◌⊎◌}
 use Rattle.sql_dialect.specs.Supports.{combines}
-use Rattle.sql_dialect.specs.Written.{MAX_BINDS}
+use Rattle.sql_dialect.specs.Written.{numbers, MAX_BINDS}
 use Rattle.sql_dialect.specs.declared.backend.Dialect.{Dialect}
-use Rattle.sql_dialect.specs.declared.backend.Dialect.TheVariants.{Pg, Mysql, Sqlite}
+use Rattle.sql_dialect.specs.declared.backend.Dialect.TheVariants.{Mysql}
 use Rattle.sql_grammar.specs.Fits.{OnPg, FitsOnly, FitsLock}
 use Rattle.sql_leaf.specs.declared.position.PositionalItem.{PositionalItem}
 use Rattle.sql_leaf.specs.declared.table_source.Tablesample.{Tablesample}
@@ -124,6 +125,4 @@ abbrev mutual
 
 -- Where placeholders have numbers, there is one for each of so many values.
 abbrev pub HasNumbers : Dialect → ℕ → Type 0
-HasNumbers Pg n = n ≤ MAX_BINDS
-HasNumbers Mysql n = Unit {0}
-HasNumbers Sqlite n = Unit {0}
+HasNumbers d n = IsTrue (numbers d) → n ≤ MAX_BINDS
