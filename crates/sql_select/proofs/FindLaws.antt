@@ -23,7 +23,7 @@ pub all-last : (es : List Expr) (e : Expr) (w : MaybeExpr)
 all-last [] e w = refl
 all-last (b ∷ es) e w = ap (λ x. an_expr (and_then b x)) (all-last es e w)
 
--- the last column and value go into what is behind
+-- the last column and value go into what follows
 pub one-less : (cs vs : List Expr) (c v : Expr) (w : MaybeExpr) → length cs ≡ length vs
     → all_before (equal_each (cs ++ c ∷ []) (vs ++ v ∷ [])) w
     ≡ all_before (equal_each cs vs) (an_expr (and_then (compared Eq c v) w))

@@ -1,4 +1,4 @@
--- Items behind items.
+-- Items after items.
 use Rattle.std.proofs.Common.{◌≡◌, List, [], ◌∷◌, ◌++◌, map, refl, ap}
 use Rattle.sql_node.specs.Tree.{more_items}
 use Rattle.sql_node.specs.View.{items_of, order_item_tree}

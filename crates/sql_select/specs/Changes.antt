@@ -30,7 +30,7 @@ abbrev pub nulled_in : Form → Clauses → Clauses
 nulled_in (unboxed l) c = record c { selection = (false, nullable c.selection.1) }
 nulled_in (boxed d n) c = record c { form = boxed d true }
 
--- All columns nullable: the selection goes under nullable, and is the default no longer. A boxed statement tells it beside.
+-- All columns nullable: the selection goes under nullable, and is the default no longer. A boxed statement has a flag for it.
 abbrev pub nulled : Statement → Statement
 nulled = changed (λ c. nulled_in c.form c)
 
@@ -62,7 +62,7 @@ items_in (order_by is) = is
 abbrev pub ordered : Items → Statement → Statement
 ordered is = changed (λ c. record c { order = order_by is })
 
--- more items behind those that the order has
+-- more items after those that the order has
 abbrev pub ordered_then : Items → Statement → Statement
 ordered_then is = changed (λ c. record c { order = order_by (items_then (items_in c.order) is) })
 

@@ -39,7 +39,7 @@ abbrev pub and_then : Expr → MaybeExpr → Expr
 and_then e no_expr = e
 and_then e (an_expr f) = joined And e f
 
--- `(a AND (b AND c))`, where c is behind the list
+-- `(a AND (b AND c))`, where c follows the list
 abbrev pub all_before : List Expr → MaybeExpr → MaybeExpr
 all_before [] behind = behind
 all_before (e ∷ es) behind = an_expr (and_then e (all_before es behind))

@@ -4,7 +4,7 @@ ghost use Rattle.std.specs.Prelude.{◌≡◌, IfOk, IsOk, Ok};
 
 use sql_schema::NoMemory;
 
-/// A statement and what was made for it; where memory was wanting, the statement is let go.
+/// A statement and what was made for it; an error drops the statement.
 ///
 /// A `?` over a statement lets each of its clauses go where it stands, and what can be in each is then proved with what can be in
 /// all others: minutes for each `?`. Here one call lets it go.

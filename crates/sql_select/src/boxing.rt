@@ -1,7 +1,6 @@
 #![tactic(auto, using(sql_pass::proofs::Walking::walking, sql_node::proofs::Trees::opens_select_statement, sql_node::proofs::Trees::opens_boxed_select_statement))]
 
 ghost use Rattle.std.specs.Prelude.{◌≡◌};
-ghost use Rattle.sql_leaf.specs.declared.limit_offset.LimitOffsetClause.{LimitOffsetClause};
 ghost use Rattle.sql_node.specs.Pieces.{pieces};
 ghost use Rattle.sql_node.specs.View.{boxed_select_statement_tree};
 ghost use Rattle.sql_pass.specs.Held.{held};
@@ -10,25 +9,20 @@ ghost use Rattle.sql_select.specs.Changes.{boxed_for, dropped_lock};
 
 use crate::query::Query;
 use sql_dialect::Backend;
-use sql_expr::{
-    BoxedLimitOffset, BoxedSelectStatement, LimitOffsetClause, LockingClause, Marks,
-    SelectStatement,
-};
+use sql_expr::{BoxedSelectStatement, LockingClause, Marks, SelectStatement};
 use sql_pass::{AstPass, PassError, QueryFragment};
 
-/// A clause as it stands in a boxed statement.
-pub trait IntoBoxedClause {
-    ghost rows: { Self → LimitOffsetClause };
-
-    /// In MySQL an offset alone is then written behind the greatest limit: ` LIMIT 18446744073709551615 OFFSET ?`.
-    fn into_boxed(self) -> BoxedLimitOffset
-        ensures { result.0 ≡ rows self };
+/// All clauses of a statement as those of a statement for one dialect.
+pub trait IntoBoxedClause: Query {
+    /// The same statement for the backend's dialect. A lock is dropped and leaves a mark, for which `compile` refuses the
+    /// statement. On MySQL an offset alone then follows the greatest limit: ` LIMIT 18446744073709551615  OFFSET ?`.
+    fn into_boxed<DB: Backend>(self, backend: &DB) -> BoxedSelectStatement
+        ensures { boxed_select_statement_tree result ≡ boxed_for DB.speaks (Self.statement self) };
 }
 
 /// A statement for one dialect.
 pub trait BoxedDsl: Query {
-    /// The same statement for the backend's dialect. A lock is dropped and leaves a mark, and the statement is refused once it
-    /// is checked.
+    /// As `IntoBoxedClause::into_boxed`.
     fn internal_into_boxed<DB: Backend>(self, backend: &DB) -> BoxedSelectStatement
         ensures { boxed_select_statement_tree result ≡ boxed_for DB.speaks (Self.statement self) };
 }
@@ -40,14 +34,6 @@ pub trait BoxedQueryHelper: Query {
         ensures { Walks DB.speaks (held DB.QueryBuilder.text DB.QueryBuilder.count pass.old)
             (pieces DB.speaks (Self.statement self.now)) result
             (held DB.QueryBuilder.text DB.QueryBuilder.count pass.new) };
-}
-
-impl IntoBoxedClause for LimitOffsetClause {
-    ghost rows = { λ r. r };
-
-    fn into_boxed(self) -> BoxedLimitOffset {
-        BoxedLimitOffset(self)
-    }
 }
 
 fn without_lock(marks: Marks, lock: LockingClause) -> Marks
@@ -62,10 +48,16 @@ fn without_lock(marks: Marks, lock: LockingClause) -> Marks
     }
 }
 
-impl BoxedDsl for SelectStatement {
-    fn internal_into_boxed<DB: Backend>(self, backend: &DB) -> BoxedSelectStatement {
+impl IntoBoxedClause for SelectStatement {
+    fn into_boxed<DB: Backend>(self, backend: &DB) -> BoxedSelectStatement {
         let marks = without_lock(self.marks, self.locking);
         self.boxed_as(backend.dialect(), marks)
+    }
+}
+
+impl BoxedDsl for SelectStatement {
+    fn internal_into_boxed<DB: Backend>(self, backend: &DB) -> BoxedSelectStatement {
+        self.into_boxed(backend)
     }
 }
 

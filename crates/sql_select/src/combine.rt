@@ -86,7 +86,7 @@ pub trait CombineDsl: Query {
         all(alloc, Combinator::Union, self.into_statement(), rhs)
     }
 
-    /// The rows of both, equal ones once. MySQL lacks it.
+    /// The rows of both, equal ones once.
     final fn intersect(self, alloc: Global, rhs: Statement) -> Result<CombinationClause, NoMemory>
         ensures { IfOk result (λ c. combination_clause_tree c
             ≡ combined by.Intersect rule.Distinct (Self.statement self) (statement_tree rhs)) }
@@ -94,7 +94,7 @@ pub trait CombineDsl: Query {
         distinct(alloc, Combinator::Intersect, self.into_statement(), rhs)
     }
 
-    /// The rows of both, each as often as the one that has it less often. MySQL and SQLite lack it.
+    /// The rows of both, each as often as the one that has it less often. SQLite and Bracket lack it.
     final fn intersect_all(
         self,
         alloc: Global,
@@ -106,7 +106,7 @@ pub trait CombineDsl: Query {
         all(alloc, Combinator::Intersect, self.into_statement(), rhs)
     }
 
-    /// The rows of this statement that the other lacks, equal ones once. MySQL lacks it.
+    /// The rows of this statement that the other lacks, equal ones once.
     final fn except(self, alloc: Global, rhs: Statement) -> Result<CombinationClause, NoMemory>
         ensures { IfOk result (λ c. combination_clause_tree c
             ≡ combined by.Except rule.Distinct (Self.statement self) (statement_tree rhs)) }
@@ -114,8 +114,8 @@ pub trait CombineDsl: Query {
         distinct(alloc, Combinator::Except, self.into_statement(), rhs)
     }
 
-    /// The rows of this statement, each as often as it has it more often than the other. MySQL and SQLite
-    /// lack it.
+    /// The rows of this statement, each as often as it has it more often than the other. SQLite and
+    /// Bracket lack it.
     final fn except_all(self, alloc: Global, rhs: Statement) -> Result<CombinationClause, NoMemory>
         ensures { IfOk result (λ c. combination_clause_tree c
             ≡ combined by.Except rule.All (Self.statement self) (statement_tree rhs)) }

@@ -54,7 +54,7 @@ fn key_columns(alloc: Global, leaf: Origin<'_>) -> Result<Vec<Expr>, NoMemory>
     Ok(all)
 }
 
-/// `(a = b)` before the conditions behind it.
+/// `(a = b)` before the conditions that follow it.
 fn equal_then(
     alloc: Global,
     column: Expr,

@@ -23,7 +23,7 @@ mod selection;
 
 pub use accessor::SelectStatementAccessor;
 pub use as_query::{AsQuery, SimpleSelect, select};
-pub use boxing::{BoxedQueryHelper, IntoBoxedClause};
+pub use boxing::BoxedQueryHelper;
 pub use combine::{CombineDsl, IntoPositionalOrderExpr, OrderColumnMethods, PositionalOrderDsl};
 pub use has_query::HasQuery;
 pub use laws::{
@@ -34,7 +34,7 @@ pub use query_dsl::QueryDsl;
 
 /// A trait for each call on a statement.
 pub mod methods {
-    pub use crate::boxing::BoxedDsl;
+    pub use crate::boxing::{BoxedDsl, IntoBoxedClause};
     pub use crate::condition::{FilterDsl, GroupByDsl, HavingDsl, OrFilterDsl};
     pub use crate::distinct::{DistinctDsl, DistinctOnDsl};
     pub use crate::find::FindDsl;

@@ -16,7 +16,7 @@ pub trait LockingDsl: Query {
 
 /// What is done where a row is locked already.
 pub trait ModifyLockDsl: Query {
-    /// ` SKIP LOCKED` or ` NOWAIT` behind the lock, in place of an earlier one. Without a lock it leaves a mark, and the
+    /// ` SKIP LOCKED` or ` NOWAIT` after the lock, in place of an earlier one. Without a lock it leaves a mark, and the
     /// statement is refused once it is checked.
     fn modify_lock(self, modifier: Modifier) -> Self
         ensures { Self.statement result ≡ modified modifier (Self.statement self) };

@@ -22,7 +22,7 @@ pub trait OrderDsl: Query {
 
 /// The order of rows that are alike so far.
 pub trait ThenOrderDsl: Query {
-    /// ` ORDER BY old, a, b DESC`: more items behind those that the order has, where it has any.
+    /// ` ORDER BY old, a, b DESC`: more items after those that the order has, where it has any.
     fn then_order_by(self, alloc: Global, items: Vec<OrderItem>) -> Result<Self, NoMemory>
         ensures { IfOk result (λ s. Self.statement s
             ≡ ordered_then (items_of (map order_item_tree items.items)) (Self.statement self)) };

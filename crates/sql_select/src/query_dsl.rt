@@ -25,7 +25,7 @@ use sql_expr::{
 use sql_schema::{NoMemory, Schema};
 use std::alloc::Global;
 
-/// All calls on statements. Each is the call of its trait in `methods`, where its SQL is told.
+/// All calls on statements. Each is the call of its trait in `methods`, whose documentation shows its SQL.
 pub trait QueryDsl: Query {
     /// As `DistinctDsl::distinct`.
     final fn distinct(self) -> Self
@@ -301,7 +301,7 @@ pub trait QueryDsl: Query {
         ModifyLockDsl::modify_lock(self, modifier)
     }
 
-    /// ` SKIP LOCKED` behind the lock. As `ModifyLockDsl`.
+    /// ` SKIP LOCKED` after the lock. As `ModifyLockDsl`.
     final fn skip_locked(self) -> Self
     where
         Self: ModifyLockDsl,
@@ -310,7 +310,7 @@ pub trait QueryDsl: Query {
         ModifyLockDsl::modify_lock(self, Modifier::SkipLocked)
     }
 
-    /// ` NOWAIT` behind the lock. As `ModifyLockDsl`.
+    /// ` NOWAIT` after the lock. As `ModifyLockDsl`.
     final fn no_wait(self) -> Self
     where
         Self: ModifyLockDsl,

@@ -1,5 +1,6 @@
--- The tests by which tables and origins are compared are equality.
+-- The tests by which tables, columns and origins are compared are equality.
 use Rattle.std.proofs.Common.{◌≡◌, ◌↔◌, ℕ, Bool, true, false, ◌&&◌, subst, List, Option, Some, None, nat_eq, refl}
+use Rattle.std.specs.Bool.{Decides}
 use Rattle.std.specs.Option.{option_eq}
 use Rattle.std.specs.Cmp.Lexicographic.{pointwise}
 use Rattle.std.specs.Cmp.{first_so, second_so}
@@ -7,7 +8,7 @@ use Rattle.std.specs.Str.{bytes_eq}
 use Rattle.std.proofs.lemmas.Bool.{and_from, false_from_ne_true}
 use Rattle.std.proofs.lemmas.Cmp.{nat_list_eq_equiv}
 use Rattle.sql_schema.specs.contracts.declaration.TableDeclEq.TheImpl.Laws.{laws-law}
-use Rattle.sql_schema.specs.contracts.declaration.ColumnDeclPartialEq.TheImpl as column_eq
+use Rattle.sql_schema.specs.contracts.declaration.ColumnDeclEq.TheImpl.Laws as column
 use Rattle.sql_schema.specs.contracts.types.SqlTypePartialEq.TheImpl as type_eq
 use Rattle.sql_schema.specs.declared.declaration.ColumnDecl.{ColumnDecl}
 use Rattle.sql_schema.specs.declared.declaration.TableDecl.{TableDecl}
@@ -15,17 +16,14 @@ use Rattle.sql_schema.proofs.Exact.{IsExact, exact-list, exact-option}
 use Rattle.sql_schema.proofs.ExactTypes.{exact-text, exact-type, exact-unsigned}
 use Rattle.sql_schema.specs.declared.types.SqlType.{SqlType}
 use Rattle.sql_node.specs.Tree.{Origin}
-use Rattle.sql_source.specs.Origins.{same_table, same_origin}
-
-abbrev same_column : ColumnDecl → ColumnDecl → Bool
-same_column = (column_eq.ghosts).eq
+use Rattle.sql_source.specs.Origins.{same_table, same_column, same_origin}
 
 abbrev same_type : SqlType → SqlType → Bool
 same_type = (type_eq.ghosts).eq
 
 -- ---- the same is equal
 
-exact-column : IsExact same_column
+pub exact-column : IsExact same_column
 exact-column a b h =
     let sized = λ (c d : ColumnDecl). option_eq nat_eq c.max_length d.max_length in
     let typed = λ (c d : ColumnDecl). same_type c.ty d.ty && sized c d in
@@ -86,3 +84,17 @@ other-origin a b n = false_from_ne_true (same_origin a b) (λ e. n (exact-origin
 
 pub same-equal : (a b : Origin) → (same_origin a b ≡ true) ↔ (a ≡ b)
 same-equal a b = (exact-origin a b, λ e. subst (λ o. same_origin a o ≡ true) e (same-origin_itself a))
+
+pub same-column_itself : (c : ColumnDecl) → same_column c c ≡ true
+same-column_itself c = (column.laws-law).refl c
+
+-- ---- so each decides it
+
+pub table-decides : (a b : TableDecl) → Decides (same_table a b) (a ≡ b)
+table-decides a b = (exact-table a b, λ e. subst (λ t. same_table a t ≡ true) e (same-table_itself a))
+
+pub column-decides : (c d : ColumnDecl) → Decides (same_column c d) (c ≡ d)
+column-decides c d = (exact-column c d, λ e. subst (λ x. same_column c x ≡ true) e (same-column_itself c))
+
+pub origin-decides : (a b : Origin) → Decides (same_origin a b) (a ≡ b)
+origin-decides a b = same-equal a b

@@ -1,4 +1,4 @@
--- A lent origin as the origin itself.
+-- A borrowed origin as the origin itself.
 use Rattle.std.specs.Prelude.{option_map}
 use Rattle.sql_node.specs.Tree as t
 use Rattle.sql_source.specs.declared.origin.Origin.{Origin}

@@ -6,7 +6,7 @@ use Rattle.sql_select.specs.Finding.{all_before, equal_each}
 use Rattle.sql_select.proofs.FindLaws.{one-less-seen}
 use Rattle.sql_select.proofs.find.equal_to.Goals as goal
 
--- the last column and the last value become the condition's front
+-- the last column and the last value become the condition's first part
 pub loop-column-preserved : goal.loop-column-preserved
 loop-column-preserved c =
     let l = c.loop-column in

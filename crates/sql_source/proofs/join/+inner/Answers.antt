@@ -1,4 +1,4 @@
--- What is written behind a `&mut` to a join's box stands in the source again.
+-- What is written through a `&mut` to a join's box is in the source again.
 use Rattle.std.proofs.Common.{rules}
 use Rattle.sql_node.proofs.Trees.{opens_source}
 use Rattle.sql_node.specs.declared.expr.Expr.{the_lemmas}
