@@ -10,7 +10,7 @@ use Rattle.sql_schema.proofs.Exact.{IsExact, exact-list}
 use Rattle.sql_schema.proofs.ExactTypes.{exact-text, exact-type, exact-unsigned}
 use Rattle.sql_schema.specs.contracts.types.SqlTypeOrd.TheImpl as type_ord
 use Rattle.sql_schema.specs.contracts.types.SqlTypeOrd.TheImpl.Laws.{matches_eq-law}
-use Rattle.sql_key.specs.Tables.{text_cmp, column_cmp, table_cmp}
+use Rattle.sql_key.specs.inside.Tables.{text_cmp, column_cmp, table_cmp}
 
 -- an order that ties equal values alone
 abbrev IsStrict : {A : Type 0} → (A → A → Ordering) → Type 0

@@ -2,6 +2,9 @@ pub mod Among
 pub mod ExactNodes
 pub mod ExactTables
 pub mod Expressions
+pub mod IdLaws
 pub mod Lists
 pub mod Positions
+pub mod ShapeLaws
 pub mod Shapes
+pub mod Unshape

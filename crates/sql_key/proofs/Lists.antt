@@ -6,7 +6,7 @@ use Rattle.sql_node.specs.declared.expr.Expr.{Expr}
 use Rattle.sql_node.specs.declared.order.OrderItem.{OrderItem}
 use Rattle.sql_rose.specs.Rose.{Rose, more, roses_of}
 use Rattle.sql_key.specs.declared.kind.KeyKind.{KeyKind}
-use Rattle.sql_key.specs.Shape.{all_blanked, blanked, expr_rose, exprs_roses, item_rose, items_roses, position_rose}
+use Rattle.sql_key.specs.inside.Roses.{all_blanked, blanked, expr_rose, exprs_roses, item_rose, items_roses, position_rose}
 
 abbrev pub of_expr : Expr → Rose KeyKind
 of_expr e = blanked (expr_rose (expr_tree e))

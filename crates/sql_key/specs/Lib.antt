@@ -1,4 +1,6 @@
+-- The shape of a statement, whether it has an id, and its key.
+pub mod Shape
+pub mod Ids
 pub mod Expressions
 pub mod Keys
-pub mod Shape
-pub mod Tables
+pub mod inside

@@ -1,4 +1,4 @@
-//! A list of nodes that grows: a node is opened, its children come behind it, and it is closed.
+//! A list of nodes that grows: a node is opened, its children follow, and it is closed.
 
 ghost use Rattle.std.specs.Prelude.{IfOk, OnOk};
 ghost use Rattle.sql_rose.specs.Building.{Adds, Closes, Opens};
@@ -8,7 +8,7 @@ ghost use Rattle.sql_key.specs.Keys.{key_node};
 use crate::{KeyKind, KeyNode};
 use sql_schema::NoMemory;
 
-/// Puts a node behind the others and gives its place. Its end isn't known yet.
+/// Appends a node and returns its index. Its end isn't known yet.
 pub(crate) fn open(nodes: &mut Vec<KeyNode>, kind: KeyKind) -> Result<usize, NoMemory>
     ensures { IfOk result (λ at. Opens key_node nodes.old.items kind none at nodes.new.items) }
 {
@@ -17,7 +17,7 @@ pub(crate) fn open(nodes: &mut Vec<KeyNode>, kind: KeyKind) -> Result<usize, NoM
     Ok(at)
 }
 
-/// Ends the node at that place behind the last one.
+/// Ends the node at that index after the last one.
 pub(crate) fn close(nodes: &mut Vec<KeyNode>, at: usize)
     ensures { Closes key_node nodes.old.items at nodes.new.items }
 {
@@ -27,7 +27,7 @@ pub(crate) fn close(nodes: &mut Vec<KeyNode>, at: usize)
     }
 }
 
-/// Puts a node without children behind the others.
+/// Appends a node without children.
 #[tactic(auto, using(sql_rose::proofs::Adding::adding))]
 pub(crate) fn push_leaf(nodes: &mut Vec<KeyNode>, kind: KeyKind) -> Result<(), NoMemory>
     ensures { OnOk result (Adds key_node nodes.old.items (one (leaf kind)) nodes.new.items) }

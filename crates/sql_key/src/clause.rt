@@ -6,7 +6,7 @@ ghost use Rattle.sql_node.specs.View.{distinct_clause_tree, from_clause_tree, gr
 ghost use Rattle.sql_rose.specs.Building.{Adds};
 ghost use Rattle.sql_rose.specs.Rose.{one};
 ghost use Rattle.sql_key.specs.Keys.{key_node};
-ghost use Rattle.sql_key.specs.Shape.{all_blanked, blanked, distinct_rose, expr_rose, from_rose, item_rose, items_roses, maybe_rose, order_rose};
+ghost use Rattle.sql_key.specs.inside.Roses.{all_blanked, blanked, distinct_rose, expr_rose, from_rose, item_rose, items_roses, maybe_rose, order_rose};
 
 use crate::building::{close, open, push_leaf};
 use crate::expr::{push_expr, push_over};

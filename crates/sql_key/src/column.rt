@@ -1,5 +1,5 @@
 ghost use Rattle.std.specs.Prelude.{◌≡◌, IfOk};
-ghost use Rattle.sql_key.specs.Shape.{key_column};
+ghost use Rattle.sql_key.specs.inside.Roses.{key_column};
 
 use sql_schema::{Column, NoMemory, SizeRestrictedColumn, SqlText, SqlType};
 use std::alloc::Global;

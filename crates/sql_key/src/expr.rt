@@ -6,7 +6,7 @@ ghost use Rattle.sql_rose.specs.Building.{Adds, Finishes, Opens};
 ghost use Rattle.sql_rose.specs.Rose.{node, one};
 ghost use Rattle.sql_key.specs.Keys.{key_node};
 ghost use Rattle.sql_key.specs.declared.kind.KeyKind.TheVariants as K;
-ghost use Rattle.sql_key.specs.Shape.{all_blanked, among_rose, blanked, expr_rose, exprs_roses, shape};
+ghost use Rattle.sql_key.specs.inside.Roses.{all_blanked, among_rose, blanked, expr_rose, exprs_roses, key_rose};
 
 use crate::building::{close, open, push_leaf};
 use crate::part::push_column;
@@ -34,7 +34,7 @@ pub(crate) fn push_over(
     Ok(())
 }
 
-/// Pushes a node over the expression and another part, which is to come; gives the node's place.
+/// Pushes a node over the expression and a second part, which the caller pushes next; returns the node's index.
 #[cycle(walk)]
 fn push_first(
     alloc: Global,
@@ -50,7 +50,7 @@ fn push_first(
     Ok(at)
 }
 
-/// Pushes the last expression under the node at that place.
+/// Pushes the last expression under the node at that index.
 #[cycle(walk)]
 fn push_last(alloc: Global, at: usize, b: &Expr, nodes: &mut Vec<KeyNode>) -> Result<(), NoMemory>
     ensures { OnOk result
@@ -71,7 +71,7 @@ fn push_over_query(
     nodes: &mut Vec<KeyNode>,
 ) -> Result<(), NoMemory>
     ensures { OnOk result
-        (Adds key_node nodes.old.items (one (node kind (one (shape (statement_tree query.now)))))
+        (Adds key_node nodes.old.items (one (node kind (one (key_rose (statement_tree query.now)))))
         nodes.new.items) }
 {
     let at = open(nodes, kind)?;
@@ -96,7 +96,7 @@ fn push_sought(alloc: Global, among: &InValues, nodes: &mut Vec<KeyNode>) -> Res
     }
 }
 
-/// Pushes what a membership looks in as the last part under the node at that place.
+/// Pushes what a membership looks in as the last part under the node at that index.
 #[cycle(walk)]
 fn push_among(
     alloc: Global,

@@ -6,9 +6,9 @@ ghost use Rattle.sql_node.specs.Tree.{under};
 ghost use Rattle.sql_node.specs.View.{expr_tree};
 ghost use Rattle.sql_rose.specs.Building.{Adds};
 ghost use Rattle.sql_rose.specs.Rose.{one};
-ghost use Rattle.sql_key.specs.Expressions.{expr_key, without_length};
+ghost use Rattle.sql_key.specs.Expressions.{expr_key};
 ghost use Rattle.sql_key.specs.Keys.{key_node};
-ghost use Rattle.sql_key.specs.Shape.{blanked, expr_rose};
+ghost use Rattle.sql_key.specs.inside.Roses.{blanked, expr_rose, without_length};
 
 use crate::building::{close, open};
 use crate::expr::push_expr;

@@ -2,7 +2,7 @@ ghost use Rattle.std.specs.Prelude.{◌≡◌, IfOk};
 ghost use Rattle.sql_node.specs.Tree as t;
 ghost use Rattle.sql_node.specs.View.{statement_tree};
 ghost use Rattle.sql_key.specs.Keys.{id_of, key};
-ghost use Rattle.sql_key.specs.Shape.{has_id};
+ghost use Rattle.sql_key.specs.Ids.{has_id};
 
 use crate::QueryKey;
 use crate::plain::statement_leaves_id;
@@ -11,7 +11,7 @@ use sql_node::Statement;
 use sql_schema::NoMemory;
 use std::alloc::Global;
 
-/// What a cache knows a query by.
+/// How a cache identifies a query.
 pub trait QueryId {
     /// The plain tree of the query.
     ghost tree: { Self → t.Statement };

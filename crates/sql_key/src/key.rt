@@ -4,7 +4,7 @@ use crate::KeyNode;
 use sql_schema::SqlList;
 use std::marker::Model;
 
-/// The key of a statement: its nodes without their values, each before its children and with the place after its last
+/// The key of a statement: its nodes without their values, each before its children and with the index after its last
 /// descendant. Two keys are equal exactly where the statements have one shape.
 #[derive(Debug, Drop, PartialEq, Eq, PartialOrd, Ord, Hash)]
 pub struct QueryKey {
@@ -33,7 +33,7 @@ impl From<Vec<KeyNode>> for QueryKey {
 }
 
 impl QueryKey {
-    /// The nodes, lent.
+    /// The nodes, borrowed.
     pub fn nodes(&self) -> &[KeyNode]
         ensures { result.now ≡ self.now }
     {

@@ -5,7 +5,7 @@ use sql_schema::{SqlText, SqlType};
 /// A node of a statement without its children, and without its value where it has one.
 #[derive(Debug, Drop, PartialEq, Eq, PartialOrd, Ord, Hash)]
 pub enum KeyKind {
-    /// What a statement may have and this one lacks.
+    /// An optional part that the statement lacks.
     Absent,
     /// A column of the table, or of that alias of it.
     Column(Option<SqlText>, KeyTable, KeyColumn),
@@ -42,7 +42,7 @@ pub enum KeyKind {
     Distinct,
     DistinctOn,
     OrderBy,
-    /// An item of an order that says no direction.
+    /// An item of an order without a direction.
     Item,
     Ascending,
     Descending,
@@ -63,7 +63,7 @@ pub enum KeyKind {
     Except(bool),
 }
 
-/// A node in a flat list, with the place after its last descendant.
+/// A node in a flat list, with the index after its last descendant.
 #[derive(Debug, Drop, PartialEq, Eq, PartialOrd, Ord, Hash)]
 pub struct KeyNode {
     pub kind: KeyKind,

@@ -1,41 +1,42 @@
 ghost use Rattle.std.specs.Prelude.{◌≡◌, ◌↔◌, List, true};
 ghost use Rattle.sql_node.specs.Tree.{Expr, Statement};
 ghost use Rattle.sql_key.specs.Expressions.{expr_key, expr_shape};
+ghost use Rattle.sql_key.specs.Ids.{has_id};
 ghost use Rattle.sql_key.specs.Keys.{key};
-ghost use Rattle.sql_key.specs.Shape.{has_id, shape};
+ghost use Rattle.sql_key.specs.Shape.{shape};
 ghost use Rattle.sql_key.specs.declared.kind.KeyNode.{KeyNode};
 
 use crate::QueryKey;
 use std::cmp::Ordering;
 use std::hash::Hash;
 
-/// Two statements have one key exactly where they have one shape.
+/// Two statements have equal keys exactly where they have equal shapes: where they are one statement but for their values.
 #[tactic(auto, using(crate::proofs::Shapes::shapes))]
 pub fn equal_keys_are_equal_shapes()
     ensures { (a b : Statement) → (key a ≡ key b) ↔ (shape a ≡ shape b) }
 {}
 
-/// `==` holds of two keys, and `cmp` answers Equal, exactly where they are one.
+/// `==` holds of two keys, and `cmp` answers Equal, exactly where they are equal.
 pub fn compared_keys_are_equal_keys()
     ensures equal { (a b : List KeyNode) → (⟦<QueryKey as PartialEq>⟧.eq a b ≡ true) ↔ (a ≡ b) }
     ensures ordered { (a b : List KeyNode)
         → (⟦<QueryKey as Ord>⟧.cmp a b ≡ Ordering.Equal) ↔ (a ≡ b) }
 {}
 
-/// Keys of which `==` holds feed a hash alike.
+/// Keys that are `==` feed a hash alike.
 pub fn equal_keys_hash_alike()
     ensures { (a b : List KeyNode) → ⟦<QueryKey as PartialEq>⟧.eq a b ≡ true
         → ⟦<QueryKey as Hash>⟧.hash_input a ≡ ⟦<QueryKey as Hash>⟧.hash_input b }
 {}
 
 /// Statements of one shape have an id, or none of them has.
-#[tactic(auto, using(crate::proofs::Shapes::shapes))]
+#[tactic(auto, using(crate::proofs::IdLaws::ids))]
 pub fn equal_shapes_have_ids_alike()
     ensures { (a b : Statement) → shape a ≡ shape b → has_id a ≡ has_id b }
 {}
 
-/// Two expressions have one key exactly where they have one shape, values and the lengths of lists of values aside.
-#[tactic(auto, using(crate::proofs::Expressions::expressions))]
+/// Two expressions have equal keys exactly where they are one expression but for values and the lengths of lists of values.
+#[tactic(auto, using(crate::proofs::Shapes::expressions))]
 pub fn equal_expression_keys_are_equal_shapes()
     ensures { (a b : Expr) → (expr_key a ≡ expr_key b) ↔ (expr_shape a ≡ expr_shape b) }
 {}

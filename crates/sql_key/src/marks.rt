@@ -1,5 +1,5 @@
 ghost use Rattle.std.specs.Prelude.{◌≡◌};
-ghost use Rattle.sql_key.specs.Shape.{key_marks};
+ghost use Rattle.sql_key.specs.inside.Roses.{key_marks};
 
 use sql_leaf::Marks;
 

@@ -8,7 +8,7 @@ ghost use Rattle.sql_rose.specs.Building.{Adds};
 ghost use Rattle.sql_rose.specs.Rose.{leaf, one, roses_of};
 ghost use Rattle.sql_key.specs.Keys.{key_node};
 ghost use Rattle.sql_key.specs.declared.kind.KeyKind.TheVariants as K;
-ghost use Rattle.sql_key.specs.Shape.{blanked, combination_kind, item_kind, join_kind, key_column, lock_rose, method_kind, mode_kind, modifier_kind, number_rose, position_rose, positional_rose, sample_rose};
+ghost use Rattle.sql_key.specs.inside.Roses.{blanked, combination_kind, item_kind, join_kind, key_column, lock_rose, method_kind, mode_kind, modifier_kind, number_rose, position_rose, positional_rose, sample_rose};
 
 use crate::building::{close, open, push_leaf};
 use crate::{KeyColumn, KeyKind, KeyNode, KeyTable};

@@ -4,8 +4,7 @@
 ghost use Rattle.std.specs.Prelude.{◌≡◌, map};
 ghost use Rattle.std.specs.Option.{option_map};
 ghost use Rattle.sql_node.specs.View.{boxed_select_statement_tree, combination_clause_tree, distinct_clause_tree, expr_tree, exprs_of, from_clause_tree, group_by_clause_tree, having_clause_tree, in_values_tree, items_of, join_on_tree, maybe_of, order_clause_tree, order_item_tree, select_clause_tree, select_statement_tree, source_tree, statement_tree, where_clause_tree};
-ghost use Rattle.sql_rose.specs.Rose.{roses_all};
-ghost use Rattle.sql_key.specs.Shape.{all_blanked, all_leave_id, among_rose, distinct_rose, expr_rose, exprs_roses, from_rose, has_id, item_rose, items_roses, leaves_id, maybe_rose, order_rose, positional_rose, source_rose};
+ghost use Rattle.sql_key.specs.Ids.{among_keeps_id, distinct_keeps_id, expr_keeps_id, exprs_keep_id, from_keeps_id, has_id, items_keep_id, lacks_places, maybe_keeps_id, order_keeps_id, source_keeps_id};
 
 use sql_leaf::PositionalItem;
 use sql_node::{
@@ -18,7 +17,7 @@ use sql_schema::SqlList;
 #[tactic(auto, using(sql_node::proofs::Trees::opens_expr, crate::proofs::Among::opens_among))]
 #[cycle(plain)]
 fn expr_leaves_id(expr: &Expr) -> bool
-    ensures { result ≡ all_leave_id (expr_rose (expr_tree expr.now)) }
+    ensures { result ≡ expr_keeps_id (expr_tree expr.now) }
 {
     match expr {
         Expr::Column(_) | Expr::Field(_) | Expr::Value(_, _) | Expr::CountStar => true,
@@ -42,8 +41,7 @@ fn expr_leaves_id(expr: &Expr) -> bool
 
 #[cycle(plain)]
 fn exprs_leave_id(exprs: &[Expr]) -> bool
-    ensures { result
-        ≡ roses_all leaves_id (all_blanked (exprs_roses (exprs_of (map expr_tree exprs.now)))) }
+    ensures { result ≡ exprs_keep_id (exprs_of (map expr_tree exprs.now)) }
 {
     for expr in exprs {
         if !expr_leaves_id(expr) {
@@ -56,7 +54,7 @@ fn exprs_leave_id(exprs: &[Expr]) -> bool
 #[tactic(auto, using(sql_node::proofs::Trees::opens_in_values))]
 #[cycle(plain)]
 fn among_leaves_id(among: &InValues) -> bool
-    ensures { result ≡ all_leave_id (among_rose (in_values_tree among.now)) }
+    ensures { result ≡ among_keeps_id (in_values_tree among.now) }
 {
     match among {
         InValues::List(_, _) => false,
@@ -67,7 +65,7 @@ fn among_leaves_id(among: &InValues) -> bool
 #[tactic(auto, using(sql_node::proofs::Trees::opens_join_on, sql_node::proofs::Trees::opens_join))]
 #[cycle(plain)]
 fn join_leaves_id(join: &JoinOn) -> bool
-    ensures { result ≡ all_leave_id (source_rose (join_on_tree join.now)) }
+    ensures { result ≡ source_keeps_id (join_on_tree join.now) }
 {
     source_leaves_id(&join.join.left)
         && source_leaves_id(&join.join.right)
@@ -76,7 +74,7 @@ fn join_leaves_id(join: &JoinOn) -> bool
 
 #[cycle(plain)]
 fn on_leaves_id(on: &Option<Expr>) -> bool
-    ensures { result ≡ all_leave_id (maybe_rose (maybe_of (option_map expr_tree on.now))) }
+    ensures { result ≡ maybe_keeps_id (maybe_of (option_map expr_tree on.now)) }
 {
     match on {
         None => true,
@@ -87,7 +85,7 @@ fn on_leaves_id(on: &Option<Expr>) -> bool
 #[tactic(auto, using(sql_node::proofs::Trees::opens_source))]
 #[cycle(plain)]
 fn source_leaves_id(source: &Source) -> bool
-    ensures { result ≡ all_leave_id (source_rose (source_tree source.now)) }
+    ensures { result ≡ source_keeps_id (source_tree source.now) }
 {
     match source {
         Source::Table(source) => source.sample.is_none(),
@@ -99,7 +97,7 @@ fn source_leaves_id(source: &Source) -> bool
 #[tactic(auto, using(sql_node::proofs::Trees::opens_from_clause))]
 #[cycle(plain)]
 fn from_leaves_id(clause: &FromClause) -> bool
-    ensures { result ≡ all_leave_id (from_rose (from_clause_tree clause.now)) }
+    ensures { result ≡ from_keeps_id (from_clause_tree clause.now) }
 {
     match clause {
         FromClause::NoFromClause => true,
@@ -110,7 +108,7 @@ fn from_leaves_id(clause: &FromClause) -> bool
 #[tactic(auto, using(sql_node::proofs::Trees::opens_select_clause))]
 #[cycle(plain)]
 fn selection_leaves_id(clause: &SelectClause) -> bool
-    ensures { result ≡ all_leave_id (expr_rose (select_clause_tree clause.now).1) }
+    ensures { result ≡ expr_keeps_id (select_clause_tree clause.now).1 }
 {
     match clause {
         SelectClause::DefaultSelectClause(selection) | SelectClause::SelectClause(selection) => {
@@ -122,7 +120,7 @@ fn selection_leaves_id(clause: &SelectClause) -> bool
 #[tactic(auto, using(sql_node::proofs::Trees::opens_distinct_clause))]
 #[cycle(plain)]
 fn distinct_leaves_id(clause: &DistinctClause) -> bool
-    ensures { result ≡ all_leave_id (distinct_rose (distinct_clause_tree clause.now)) }
+    ensures { result ≡ distinct_keeps_id (distinct_clause_tree clause.now) }
 {
     match clause {
         DistinctClause::NoDistinctClause | DistinctClause::DistinctClause => true,
@@ -133,7 +131,7 @@ fn distinct_leaves_id(clause: &DistinctClause) -> bool
 #[tactic(auto, using(sql_node::proofs::Trees::opens_where_clause))]
 #[cycle(plain)]
 fn where_leaves_id(clause: &WhereClause) -> bool
-    ensures { result ≡ all_leave_id (maybe_rose (where_clause_tree clause.now)) }
+    ensures { result ≡ maybe_keeps_id (where_clause_tree clause.now) }
 {
     match clause {
         WhereClause::NoWhereClause => true,
@@ -144,7 +142,7 @@ fn where_leaves_id(clause: &WhereClause) -> bool
 #[tactic(auto, using(sql_node::proofs::Trees::opens_group_by_clause))]
 #[cycle(plain)]
 fn group_by_leaves_id(clause: &GroupByClause) -> bool
-    ensures { result ≡ all_leave_id (maybe_rose (group_by_clause_tree clause.now)) }
+    ensures { result ≡ maybe_keeps_id (group_by_clause_tree clause.now) }
 {
     match clause {
         GroupByClause::NoGroupByClause => true,
@@ -155,7 +153,7 @@ fn group_by_leaves_id(clause: &GroupByClause) -> bool
 #[tactic(auto, using(sql_node::proofs::Trees::opens_having_clause))]
 #[cycle(plain)]
 fn having_leaves_id(clause: &HavingClause) -> bool
-    ensures { result ≡ all_leave_id (maybe_rose (having_clause_tree clause.now)) }
+    ensures { result ≡ maybe_keeps_id (having_clause_tree clause.now) }
 {
     match clause {
         HavingClause::NoHavingClause => true,
@@ -166,16 +164,14 @@ fn having_leaves_id(clause: &HavingClause) -> bool
 #[tactic(auto, using(sql_node::proofs::Trees::opens_order_item))]
 #[cycle(plain)]
 fn item_leaves_id(item: &OrderItem) -> bool
-    ensures { result ≡ all_leave_id (item_rose (order_item_tree item.now)) }
+    ensures { result ≡ expr_keeps_id (order_item_tree item.now).0 }
 {
     expr_leaves_id(&item.expr)
 }
 
 #[cycle(plain)]
 fn items_leave_id(items: &[OrderItem]) -> bool
-    ensures { result
-        ≡ roses_all leaves_id
-        (all_blanked (items_roses (items_of (map order_item_tree items.now)))) }
+    ensures { result ≡ items_keep_id (items_of (map order_item_tree items.now)) }
 {
     for item in items {
         if !item_leaves_id(item) {
@@ -188,7 +184,7 @@ fn items_leave_id(items: &[OrderItem]) -> bool
 #[tactic(auto, using(sql_node::proofs::Trees::opens_order_clause))]
 #[cycle(plain)]
 fn order_leaves_id(clause: &OrderClause) -> bool
-    ensures { result ≡ all_leave_id (order_rose (order_clause_tree clause.now)) }
+    ensures { result ≡ order_keeps_id (order_clause_tree clause.now) }
 {
     match clause {
         OrderClause::NoOrderClause => true,
@@ -196,10 +192,10 @@ fn order_leaves_id(clause: &OrderClause) -> bool
     }
 }
 
-/// Whether no item stands in the order: each is an `OrderColumn`.
+/// Whether the order has no item: each item is an `OrderColumn`.
 #[tactic(auto, using(crate::proofs::Positions::positions))]
 fn positions_leave_id(order: &Option<SqlList<PositionalItem>>) -> bool
-    ensures { result ≡ all_leave_id (positional_rose order.now) }
+    ensures { result ≡ lacks_places order.now }
 {
     match order {
         None => true,

@@ -9,7 +9,7 @@ ghost use Rattle.sql_rose.specs.Building.{Adds};
 ghost use Rattle.sql_rose.specs.Rose.{leaf, one};
 ghost use Rattle.sql_key.specs.Keys.{key_node};
 ghost use Rattle.sql_key.specs.declared.kind.KeyKind.TheVariants as K;
-ghost use Rattle.sql_key.specs.Shape.{blanked, maybe_rose, source_rose};
+ghost use Rattle.sql_key.specs.inside.Roses.{blanked, maybe_rose, source_rose};
 
 use crate::building::{close, open, push_leaf};
 use crate::expr::push_expr;

@@ -6,7 +6,7 @@ ghost use Rattle.sql_node.specs.View.{boxed_select_statement_tree, combination_c
 ghost use Rattle.sql_rose.specs.Building.{Adds};
 ghost use Rattle.sql_rose.specs.Rose.{one};
 ghost use Rattle.sql_key.specs.Keys.{key_node};
-ghost use Rattle.sql_key.specs.Shape.{shape};
+ghost use Rattle.sql_key.specs.inside.Roses.{key_rose};
 
 use crate::building::{close, open, push_leaf};
 use crate::clause::{
@@ -36,7 +36,7 @@ fn push_select(
     nodes: &mut Vec<KeyNode>,
 ) -> Result<(), NoMemory>
     ensures { OnOk result
-        (Adds key_node nodes.old.items (one (shape (select_statement_tree statement.now)))
+        (Adds key_node nodes.old.items (one (key_rose (select_statement_tree statement.now)))
         nodes.new.items) }
 {
     let default = is_default(&statement.select);
@@ -66,7 +66,7 @@ fn push_boxed(
     nodes: &mut Vec<KeyNode>,
 ) -> Result<(), NoMemory>
     ensures { OnOk result
-        (Adds key_node nodes.old.items (one (shape (boxed_select_statement_tree statement.now)))
+        (Adds key_node nodes.old.items (one (key_rose (boxed_select_statement_tree statement.now)))
         nodes.new.items) }
 {
     let default = is_default(&statement.select);
@@ -96,7 +96,7 @@ fn push_combination(
     nodes: &mut Vec<KeyNode>,
 ) -> Result<(), NoMemory>
     ensures { OnOk result
-        (Adds key_node nodes.old.items (one (shape (combination_clause_tree clause.now)))
+        (Adds key_node nodes.old.items (one (key_rose (combination_clause_tree clause.now)))
         nodes.new.items) }
 {
     let at = open(
@@ -121,7 +121,7 @@ pub(crate) fn push_statement(
     nodes: &mut Vec<KeyNode>,
 ) -> Result<(), NoMemory>
     ensures { OnOk result
-        (Adds key_node nodes.old.items (one (shape (statement_tree statement.now)))
+        (Adds key_node nodes.old.items (one (key_rose (statement_tree statement.now)))
         nodes.new.items) }
 {
     match statement {

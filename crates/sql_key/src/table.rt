@@ -5,7 +5,7 @@ ghost use Rattle.std.specs.Cmp.Lexicographic.{slice_cmp};
 ghost use Rattle.std.specs.Option.{option_cmp};
 ghost use Rattle.std.specs.Cmp.Rules.{comparing};
 ghost use Rattle.std.proofs.Common.{rules};
-ghost use Rattle.sql_key.specs.Tables.{by_sql_name, column_cmp, same_hash, table_cmp, table_hash, tables_total, text_cmp};
+ghost use Rattle.sql_key.specs.inside.Tables.{by_sql_name, column_cmp, same_hash, table_cmp, table_hash, tables_total, text_cmp};
 
 use sql_schema::{ColumnDecl, Table};
 use std::cmp::Ordering;

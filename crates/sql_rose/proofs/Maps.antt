@@ -38,4 +38,14 @@ module _ {K J : Type 0} (f : K → J) (test : J → Bool) where
     alls-map none = refl
     alls-map (more t ts) = λ i. all-map t i && alls-map ts i
 
+-- a map that leaves each kind as it is
+module _ {K : Type 0} (f : K → K) (same : (k : K) → f k ≡ k) where
+  mutual
+    pub map-same : (t : Rose K) → rose_map f t ≡ t
+    map-same (node k ts) = λ i. node (same k i) (maps-same ts i)
+
+    maps-same : (ts : Roses K) → roses_map f ts ≡ ts
+    maps-same none = refl
+    maps-same (more t ts) = λ i. more (map-same t i) (maps-same ts i)
+
 pub ruleset maps = (list-map, all-map)

@@ -1,4 +1,4 @@
--- A list of nodes that grows: what has come behind it, with the places from its length on.
+-- A list of nodes that grows: what was appended, with indices from its length on.
 use Rattle.std.specs.Prelude.{◌≡◌, ℕ, ◌+◌, List, [], ◌∷◌, ◌++◌, length}
 use Rattle.sql_rose.specs.Rose.{Roses, node, one, joined, flats}
 

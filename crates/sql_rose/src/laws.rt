@@ -16,7 +16,7 @@ pub fn lists_of_maps_are_maps_of_lists<K, J, N, M>()
         → flat turned 0 (rose_map f t) [] ≡ map g (flat make 0 t []) }
 {}
 
-/// A test holds of each kind behind a map exactly where the test of what the map gives holds before it.
+/// A test holds of each kind after a map exactly where the test of what the map gives holds before it.
 #[tactic(auto, using(crate::proofs::Maps::maps))]
 pub fn tests_of_maps_are_tests_before<K, J>()
     ensures { (f : K → J) (test : J → Bool) (t : Rose K)

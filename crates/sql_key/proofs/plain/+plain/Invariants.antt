@@ -1,15 +1,14 @@
 use Rattle.std.proofs.Common.{◌≡◌, map, drop}
 use Rattle.sql_node.specs.View.{expr_tree, exprs_of, items_of, order_item_tree}
-use Rattle.sql_rose.specs.Rose.{roses_all}
-use Rattle.sql_key.specs.Shape.{all_blanked, exprs_roses, items_roses, leaves_id}
+use Rattle.sql_key.specs.Ids.{exprs_keep_id, items_keep_id}
 use Rattle.sql_key.proofs.plain.+plain.Given as goal
 
 abbrev pub invariant-exprs_leave_id-loop-expr : goal.invariant-exprs_leave_id-loop-expr
 invariant-exprs_leave_id-loop-expr l =
-    roses_all leaves_id (all_blanked (exprs_roses (exprs_of (map expr_tree (drop l.expr-index l.exprs)))))
-    ≡ roses_all leaves_id (all_blanked (exprs_roses (exprs_of (map expr_tree l.exprs))))
+    exprs_keep_id (exprs_of (map expr_tree (drop l.expr-index l.exprs)))
+    ≡ exprs_keep_id (exprs_of (map expr_tree l.exprs))
 
 abbrev pub invariant-items_leave_id-loop-item : goal.invariant-items_leave_id-loop-item
 invariant-items_leave_id-loop-item l =
-    roses_all leaves_id (all_blanked (items_roses (items_of (map order_item_tree (drop l.item-index l.items)))))
-    ≡ roses_all leaves_id (all_blanked (items_roses (items_of (map order_item_tree l.items))))
+    items_keep_id (items_of (map order_item_tree (drop l.item-index l.items)))
+    ≡ items_keep_id (items_of (map order_item_tree l.items))

@@ -1,6 +1,6 @@
 use Rattle.std.proofs.Common.{◌≡◌, drop}
 use Rattle.std.specs.Cmp.Lexicographic.{slice_cmp}
-use Rattle.sql_key.specs.Tables.{column_cmp}
+use Rattle.sql_key.specs.inside.Tables.{column_cmp}
 use Rattle.sql_key.proofs.table.cmp_columns.Given as goal
 
 abbrev pub invariant-loop-column : goal.invariant-loop-column
