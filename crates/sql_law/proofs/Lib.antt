@@ -3,10 +3,12 @@ pub mod Forms
 pub mod Typed
 pub mod TextLaws
 pub mod ReadLaws
-pub mod PlaceLaws
 pub mod Views
 pub mod Naming
 pub mod Worked
 pub mod Alike
 pub mod PieceLaws
 pub mod OneText
+pub mod SafeLaws
+pub mod TypeLaws
+pub mod FlatLaws

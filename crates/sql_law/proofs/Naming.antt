@@ -12,9 +12,9 @@ use Rattle.sql_node.specs.Tree.{Origin, Expr, column, Statement}
 use Rattle.sql_source.specs.Origins.{exposed_path, same_origin}
 use Rattle.sql_source.proofs.OriginLaws.{same-equal}
 use Rattle.sql_rules.specs.Lists.{AnyOf, AnyPair, IsSuffix}
-use Rattle.sql_rules.specs.Names.{EachIn, EachExpr, path, Names, NamesOnly, IsNamed}
+use Rattle.sql_rules.specs.Names.{path, Names, NamesOnly, IsNamed}
 use Rattle.sql_rules.specs.Rules.{IsUnknownColumn, Clash, IsSeen, IsOutOfScope, PartBreaks, Broken}
-use Rattle.sql_rules.specs.Scope.{View, widest, Part, a_select, a_combination, parts, clauses, nodes}
+use Rattle.sql_rules.specs.Scope.{View, widest, Part, a_select, a_combination, parts, clauses, nodes, EachExprIn, EachNode}
 use Rattle.sql_rules.specs.declared.rule.Rule.TheVariants as R
 use Rattle.sql_law.proofs.Lists.{each_not, each_both, each_map, each_apply, place_of, pair_at, any_or_none}
 use Rattle.sql_law.proofs.Views.{IsPart, clauses_part, pair_in_part}
@@ -115,7 +115,7 @@ expr_law schema v one apart _ u s = tt
 
 part_law : (schema : Declarations) (d : Dialect) (p : Part)
     → ¬ PartBreaks R.UnknownName schema d p → ¬ PartBreaks R.Ambiguous schema d p → ¬ PartBreaks R.NameClash schema d p
-    → ¬ PartBreaks R.NotInScope schema d p → EachIn IsNamed p
+    → ¬ PartBreaks R.NotInScope schema d p → EachExprIn IsNamed p
 part_law schema d (a_select outer s) unknown twice clash scope =
     let cs = clauses outer s in
     let known = each_not (λ c. AnyOf (IsUnknownColumn schema) (nodes c.expr)) cs (λ h. unknown (inr h)) in
@@ -132,7 +132,7 @@ part_law schema d (a_combination c) unknown twice clash scope = tt
 
 pub names_one_leaf : (schema : Declarations) (d : Dialect) (s : Statement)
     → ¬ Broken R.UnknownName schema d s → ¬ Broken R.Ambiguous schema d s → ¬ Broken R.NameClash schema d s
-    → ¬ Broken R.NotInScope schema d s → EachExpr IsNamed s
+    → ¬ Broken R.NotInScope schema d s → EachNode IsNamed s
 names_one_leaf schema d s unknown twice clash scope =
     let ps : List Part = parts [] s in
     each_apply _ _ ps (each_apply _ _ ps (each_apply _ _ ps (each_map _ _ (part_law schema d) ps

@@ -1,10 +1,10 @@
--- Statements that are one but for values have one text.
-use Rattle.std.proofs.Common.{◌≡◌, true, map, sym, ap, ◌∙◌}
+-- Statements of one shape have one text.
+use Rattle.std.proofs.Common.{◌≡◌, map, sym, ap, ◌∙◌}
 use Rattle.sql_dialect.specs.declared.backend.Dialect.{Dialect}
 use Rattle.sql_pass.specs.Pieces.{text_of, values_of, is_safe}
 use Rattle.sql_node.specs.Pieces.{pieces}
 use Rattle.sql_node.specs.Tree.{Statement}
-use Rattle.sql_law.specs.Shape.{shape}
+use Rattle.sql_key.specs.Shape.{shape}
 use Rattle.sql_law.specs.Blank.{blank_bound, blank_pieces}
 use Rattle.sql_law.proofs.Alike.{one_text, one_safety, like_values}
 use Rattle.sql_law.proofs.PieceLaws.{pieces-alike}

@@ -3,14 +3,14 @@ use Rattle.std.proofs.Common.{◌≡◌, ℕ, ℤ, Bool, true, false, List, [], 
 use Rattle.std.proofs.Math.Dec.{eqb-suc-zero}
 use Rattle.sql_schema.specs.declared.types.SqlType.{SqlType}
 use Rattle.sql_dialect.specs.declared.backend.Dialect.{Dialect}
-use Rattle.sql_dialect.specs.declared.backend.Dialect.TheVariants.{Pg, Mysql, Sqlite}
+use Rattle.sql_dialect.specs.declared.backend.Dialect.TheVariants.{Pg, Mysql, Sqlite, Bracket}
 use Rattle.sql_pass.specs.Parts.{side_open, pieces_of_option}
 use Rattle.sql_pass.specs.Paths.{table_pieces}
 use Rattle.sql_pass.specs.Pieces.{Piece, one, Bind, Unsafe}
 use Rattle.sql_pass.specs.declared.value.Bound.TheVariants.{Value as OneValue, List as ManyValues}
 use Rattle.sql_pass.specs.declared.value.Value.{Value}
 use Rattle.sql_pass.specs.declared.value.Value.TheVariants.{Null}
-use Rattle.sql_leaf.specs.Limits.{limit_offset_pieces, no_limit_pieces}
+use Rattle.sql_leaf.specs.Limits.{limit_pieces, offset_pieces, offset_rows_pieces, fetch_pieces, largest_limit, least_limit, fetch_from_the_first, fetch_next, rows_only, limit_alone, offset_alone, limit_and_offset, limit_offset_pieces}
 use Rattle.sql_leaf.specs.Locks.{locking_pieces}
 use Rattle.sql_pass.specs.Bounds.{of_i16, of_i32, of_i64}
 use Rattle.sql_leaf.specs.Positions.{direction_pieces}
@@ -19,7 +19,7 @@ use Rattle.sql_leaf.specs.declared.limit_offset.LimitOffsetClause.{LimitOffsetCl
 use Rattle.sql_leaf.specs.declared.table_source.Tablesample.{Tablesample}
 use Rattle.sql_node.specs.Pieces.{each, one_by_one, among_pieces, among_sql, null_test_sql, comparison_sql, logic_sql, leaf_pieces, joined_by, join_sql, combinator_sql, all_pieces, positions_pieces, end_pieces, group_by, order_by_sql, distinct_on_open, expr_parts, exprs_parts, items_pieces, maybe_pieces, source_pieces, on_pieces, from_pieces, distinct_pieces, order_pieces, pieces}
 use Rattle.sql_node.specs.Tree.{Form, unboxed, boxed, Expr, column, value, list, count_star, nullable, not_of, null_test, count, compared, joined, exists, single, among_values, among_rows, Exprs, no_exprs, more_exprs, Items, no_items, more_items, MaybeExpr, no_expr, an_expr, Source, of_table, of_alias, join, From, no_source, from, Distinct, every, distinct, distinct_on, Order, no_order, order_by, Statement, select, combination}
-use Rattle.sql_law.specs.Shape.{blank, blank_values, blank_rows, blank_sample, shape_expr, shape_exprs, shape_items, shape_maybe, shape_source, shape_from, shape_distinct, shape_order, shape}
+use Rattle.sql_key.specs.Shape.{blank, blank_rows, blank_sample, nulls, erased_expr, erased_exprs, erased_items, erased_maybe, erased_source, erased_from, erased_distinct, erased_order, shape}
 use Rattle.sql_law.proofs.Alike.{Alike, alike-same, alike-append, alike-bind, alike-behind, alike-before, alike-around, AlikeLists, lists-append, commas-alike, AlikeWritten, spread-alike, each-alike}
 
 -- ## Values
@@ -49,7 +49,7 @@ one_by_one-alike d n x y h t (v ∷ vs) =
     (map (λ v. one (Bind (OneValue t v))) (v ∷ vs)) (values-alike t (v ∷ vs))))))
 
 among-alike : (d : Dialect) (n : Bool) (x y : List Piece) → Alike x y → (t : SqlType) (vs : List Value)
-    → Alike (among_pieces d n x t (blank_values vs)) (among_pieces d n y t vs)
+    → Alike (among_pieces d n x t (nulls vs)) (among_pieces d n y t vs)
 among-alike Pg n x y h t vs =
     alike-append (alike-around (codes "(") (among_sql Pg n) h)
     (alike-before (codes "))")
@@ -57,20 +57,51 @@ among-alike Pg n x y h t vs =
     (ap (ManyValues t) (blank-twice vs))))
 among-alike Mysql n x y h t vs = one_by_one-alike Mysql n x y h t vs
 among-alike Sqlite n x y h t vs = one_by_one-alike Sqlite n x y h t vs
+among-alike Bracket n x y h t vs = one_by_one-alike Bracket n x y h t vs
 
 -- ## Numbers
 
 big-alike : (n : ℤ) → Alike (one (Bind (of_i64 (blank n)))) (one (Bind (of_i64 n)))
 big-alike n = alike-bind (of_i64 (blank n)) (of_i64 n) refl
 
+limit-alike : (n : ℤ) → Alike (limit_pieces (blank n)) (limit_pieces n)
+limit-alike n = alike-behind (codes " LIMIT ") (big-alike n)
+
+offset-alike : (n : ℤ) → Alike (offset_pieces (blank n)) (offset_pieces n)
+offset-alike n = alike-behind (codes " OFFSET ") (big-alike n)
+
+offset_rows-alike : (n : ℤ) → Alike (offset_rows_pieces (blank n)) (offset_rows_pieces n)
+offset_rows-alike n = alike-behind (codes " OFFSET ") (alike-before (codes " ROWS") (big-alike n))
+
+fetch-alike : (words : List ℕ) (n : ℤ) → Alike (fetch_pieces words (blank n)) (fetch_pieces words n)
+fetch-alike words n = alike-behind words (alike-before rows_only (big-alike n))
+
+limit_alone-alike : (d : Dialect) (l : ℤ) → Alike (limit_alone d (blank l)) (limit_alone d l)
+limit_alone-alike Pg l = limit-alike l
+limit_alone-alike Mysql l = limit-alike l
+limit_alone-alike Sqlite l = limit-alike l
+limit_alone-alike Bracket l = fetch-alike fetch_from_the_first l
+
+offset_alone-alike : (d : Dialect) (b : Bool) (o : ℤ) → Alike (offset_alone d b (blank o)) (offset_alone d b o)
+offset_alone-alike Pg b o = offset-alike o
+offset_alone-alike Mysql false o = offset-alike o
+offset_alone-alike Mysql true o = alike-behind largest_limit (offset-alike o)
+offset_alone-alike Sqlite b o = alike-behind least_limit (offset-alike o)
+offset_alone-alike Bracket b o = offset_rows-alike o
+
+limit_and_offset-alike : (d : Dialect) (l o : ℤ)
+    → Alike (limit_and_offset d (blank l) (blank o)) (limit_and_offset d l o)
+limit_and_offset-alike Pg l o = alike-append (limit-alike l) (offset-alike o)
+limit_and_offset-alike Mysql l o = alike-append (limit-alike l) (offset-alike o)
+limit_and_offset-alike Sqlite l o = alike-append (limit-alike l) (offset-alike o)
+limit_and_offset-alike Bracket l o = alike-append (offset_rows-alike o) (fetch-alike fetch_next l)
+
 page-alike : (d : Dialect) (b : Bool) (l o : Option ℤ)
     → Alike (limit_offset_pieces d b (option_map blank l) (option_map blank o)) (limit_offset_pieces d b l o)
 page-alike d b None None = alike-same []
-page-alike d b None (Some o) =
-    alike-append (alike-same (no_limit_pieces d b)) (alike-behind (codes " OFFSET ") (big-alike o))
-page-alike d b (Some l) None = alike-behind (codes " LIMIT ") (big-alike l)
-page-alike d b (Some l) (Some o) =
-    alike-append (alike-behind (codes " LIMIT ") (big-alike l)) (alike-behind (codes " OFFSET ") (big-alike o))
+page-alike d b None (Some o) = offset_alone-alike d b o
+page-alike d b (Some l) None = limit_alone-alike d l
+page-alike d b (Some l) (Some o) = limit_and_offset-alike d l o
 
 seed-alike : (s : Option ℤ) → Alike (seed_pieces (option_map blank s)) (seed_pieces s)
 seed-alike None = alike-same []
@@ -93,7 +124,7 @@ end-alike d r (boxed e n) = page-alike d true r.limit_clause r.offset_clause
 
 module _ (d : Dialect) where
   mutual
-    expr-alike : (e : Expr) → AlikeWritten (expr_parts d (shape_expr e)) (expr_parts d e)
+    expr-alike : (e : Expr) → AlikeWritten (expr_parts d (erased_expr nulls e)) (expr_parts d e)
     expr-alike (column o c) = alike-same (leaf_pieces o c)
     expr-alike (value t v) = one-alike t v
     expr-alike (list es) = exprs-alike es
@@ -101,93 +132,93 @@ module _ (d : Dialect) where
     expr-alike (nullable e) = expr-alike e
     expr-alike (not_of e) =
         alike-around (codes "NOT (") (codes ")")
-        (spread-alike (expr_parts d (shape_expr e)) (expr_parts d e) (expr-alike e))
+        (spread-alike (expr_parts d (erased_expr nulls e)) (expr_parts d e) (expr-alike e))
     expr-alike (null_test n e) =
         alike-around (codes "(") (null_test_sql n)
-        (spread-alike (expr_parts d (shape_expr e)) (expr_parts d e) (expr-alike e))
+        (spread-alike (expr_parts d (erased_expr nulls e)) (expr_parts d e) (expr-alike e))
     expr-alike (count e) =
         alike-around (codes "COUNT(") (codes ")")
-        (spread-alike (expr_parts d (shape_expr e)) (expr_parts d e) (expr-alike e))
+        (spread-alike (expr_parts d (erased_expr nulls e)) (expr_parts d e) (expr-alike e))
     expr-alike (compared by a b) =
         alike-append
         (alike-around (codes "(") (comparison_sql by)
-        (spread-alike (expr_parts d (shape_expr a)) (expr_parts d a) (expr-alike a)))
-        (alike-before (codes ")") (spread-alike (expr_parts d (shape_expr b)) (expr_parts d b) (expr-alike b)))
+        (spread-alike (expr_parts d (erased_expr nulls a)) (expr_parts d a) (expr-alike a)))
+        (alike-before (codes ")") (spread-alike (expr_parts d (erased_expr nulls b)) (expr_parts d b) (expr-alike b)))
     expr-alike (joined by a b) =
         alike-append
         (alike-around (codes "(") (logic_sql by)
-        (spread-alike (expr_parts d (shape_expr a)) (expr_parts d a) (expr-alike a)))
-        (alike-before (codes ")") (spread-alike (expr_parts d (shape_expr b)) (expr_parts d b) (expr-alike b)))
+        (spread-alike (expr_parts d (erased_expr nulls a)) (expr_parts d a) (expr-alike a)))
+        (alike-before (codes ")") (spread-alike (expr_parts d (erased_expr nulls b)) (expr_parts d b) (expr-alike b)))
     expr-alike (exists q) = alike-around (codes "EXISTS (") (codes ")") (pieces-alike q)
     expr-alike (single q) = alike-around (codes "(") (codes ")") (pieces-alike q)
     expr-alike (among_values n e t xs) =
-        among-alike d n _ _ (spread-alike (expr_parts d (shape_expr e)) (expr_parts d e) (expr-alike e)) t xs
+        among-alike d n _ _ (spread-alike (expr_parts d (erased_expr nulls e)) (expr_parts d e) (expr-alike e)) t xs
     expr-alike (among_rows n e q) =
         alike-append
         (alike-around (codes "(") (among_sql d n)
-        (spread-alike (expr_parts d (shape_expr e)) (expr_parts d e) (expr-alike e)))
+        (spread-alike (expr_parts d (erased_expr nulls e)) (expr_parts d e) (expr-alike e)))
         (alike-before (codes "))") (pieces-alike q))
 
-    exprs-alike : (es : Exprs) → AlikeLists (exprs_parts d (shape_exprs es)) (exprs_parts d es)
+    exprs-alike : (es : Exprs) → AlikeLists (exprs_parts d (erased_exprs nulls es)) (exprs_parts d es)
     exprs-alike no_exprs = tt
     exprs-alike (more_exprs e es) =
-        lists-append (each (expr_parts d (shape_expr e))) (exprs_parts d (shape_exprs es)) (each (expr_parts d e))
+        lists-append (each (expr_parts d (erased_expr nulls e))) (exprs_parts d (erased_exprs nulls es)) (each (expr_parts d e))
         (exprs_parts d es)
-        (each-alike (expr_parts d (shape_expr e)) (expr_parts d e) (expr-alike e)) (exprs-alike es)
+        (each-alike (expr_parts d (erased_expr nulls e)) (expr_parts d e) (expr-alike e)) (exprs-alike es)
 
-    items-alike : (is : Items) → AlikeLists (items_pieces d (shape_items is)) (items_pieces d is)
+    items-alike : (is : Items) → AlikeLists (items_pieces d (erased_items nulls is)) (items_pieces d is)
     items-alike no_items = tt
     items-alike (more_items e by is) = (
-      alike-append (spread-alike (expr_parts d (shape_expr e)) (expr_parts d e) (expr-alike e))
+      alike-append (spread-alike (expr_parts d (erased_expr nulls e)) (expr_parts d e) (expr-alike e))
           (alike-same (direction_pieces by)),
       items-alike is,
     )
 
     maybe-alike : (before : List ℕ) (e : MaybeExpr)
-        → Alike (maybe_pieces d before (shape_maybe e)) (maybe_pieces d before e)
+        → Alike (maybe_pieces d before (erased_maybe nulls e)) (maybe_pieces d before e)
     maybe-alike before no_expr = alike-same []
     maybe-alike before (an_expr e) =
-        alike-behind before (spread-alike (expr_parts d (shape_expr e)) (expr_parts d e) (expr-alike e))
+        alike-behind before (spread-alike (expr_parts d (erased_expr nulls e)) (expr_parts d e) (expr-alike e))
 
-    on-alike : (e : MaybeExpr) (x y : List Piece) → Alike x y → Alike (on_pieces d x (shape_maybe e)) (on_pieces d y e)
+    on-alike : (e : MaybeExpr) (x y : List Piece) → Alike x y → Alike (on_pieces d x (erased_maybe nulls e)) (on_pieces d y e)
     on-alike no_expr x y h = h
     on-alike (an_expr e) x y h =
         alike-behind (codes "(")
         (alike-append h
         (alike-around (codes " ON ") (codes ")")
-        (spread-alike (expr_parts d (shape_expr e)) (expr_parts d e) (expr-alike e))))
+        (spread-alike (expr_parts d (erased_expr nulls e)) (expr_parts d e) (expr-alike e))))
 
-    source-alike : (s : Source) → Alike (source_pieces d (shape_source s)) (source_pieces d s)
+    source-alike : (s : Source) → Alike (source_pieces d (erased_source nulls s)) (source_pieces d s)
     source-alike (of_table t only sample) =
         alike-append (alike-same (only_pieces only)) (alike-append (alike-same (table_pieces t)) (sample-alike sample))
     source-alike (of_alias a t) = alike-same (alias_pieces a t)
     source-alike (join k l r on) =
-        on-alike on (joined_by (source_pieces d (shape_source l)) k (source_pieces d (shape_source r)))
+        on-alike on (joined_by (source_pieces d (erased_source nulls l)) k (source_pieces d (erased_source nulls r)))
         (joined_by (source_pieces d l) k (source_pieces d r))
         (alike-append (source-alike l) (alike-behind (join_sql k) (source-alike r)))
 
-    from-alike : (f : From) → Alike (from_pieces d (shape_from f)) (from_pieces d f)
+    from-alike : (f : From) → Alike (from_pieces d (erased_from nulls f)) (from_pieces d f)
     from-alike no_source = alike-same []
     from-alike (from s) = alike-behind (codes " FROM ") (source-alike s)
 
-    distinct-alike : (u : Distinct) → Alike (distinct_pieces d (shape_distinct u)) (distinct_pieces d u)
+    distinct-alike : (u : Distinct) → Alike (distinct_pieces d (erased_distinct nulls u)) (distinct_pieces d u)
     distinct-alike every = alike-same []
     distinct-alike distinct = alike-same _
     distinct-alike (distinct_on e) =
         alike-around distinct_on_open (codes ") ")
-        (spread-alike (expr_parts d (shape_expr e)) (expr_parts d e) (expr-alike e))
+        (spread-alike (expr_parts d (erased_expr nulls e)) (expr_parts d e) (expr-alike e))
 
-    order-alike : (o : Order) → Alike (order_pieces d (shape_order o)) (order_pieces d o)
+    order-alike : (o : Order) → Alike (order_pieces d (erased_order nulls o)) (order_pieces d o)
     order-alike no_order = alike-same []
     order-alike (order_by is) =
         alike-behind order_by_sql
-        (commas-alike true (items_pieces d (shape_items is)) (items_pieces d is) (items-alike is))
+        (commas-alike true (items_pieces d (erased_items nulls is)) (items_pieces d is) (items-alike is))
 
     pub pieces-alike : (s : Statement) → Alike (pieces d (shape s)) (pieces d s)
     pieces-alike (select default e f u w o rows g h form marks) =
         alike-behind (codes "SELECT ")
         (alike-append (distinct-alike u)
-        (alike-append (spread-alike (expr_parts d (shape_expr e)) (expr_parts d e) (expr-alike e))
+        (alike-append (spread-alike (expr_parts d (erased_expr nulls e)) (expr_parts d e) (expr-alike e))
         (alike-append (from-alike f)
         (alike-append (maybe-alike (codes " WHERE ") w)
         (alike-append (maybe-alike group_by g)

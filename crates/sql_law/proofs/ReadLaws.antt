@@ -9,11 +9,12 @@ use Rattle.sql_pass.specs.Pieces.{text_of, values_of}
 use Rattle.sql_node.specs.Pieces.{pieces}
 use Rattle.sql_node.specs.Tree.{Statement}
 use Rattle.sql_reading.specs.Filled.{filled, normal}
-use Rattle.sql_reading.specs.HasText.{HasText}
+use Rattle.sql_reading.specs.inside.HasText.{HasText}
 use Rattle.sql_reading.proofs.ReadingLaws as reading
+use Rattle.sql_reading.proofs.TextLaws.{value-law}
 use Rattle.sql_rules.specs.Rules.{Accepted}
 use Rattle.sql_rules.specs.declared.rule.Rule.TheVariants as R
-use Rattle.sql_law.specs.Counted.{PlacesAreCounted}
+use Rattle.sql_rules.specs.Counted.{PlacesAreCounted}
 use Rattle.sql_law.proofs.TextLaws.{has_text, has_numbers}
 
 text : (schema : Declarations) (d : Dialect) (s : Statement) → PlacesAreCounted s → Accepted schema d s → HasText d s
@@ -32,3 +33,7 @@ fills schema d s counted h = reading.fills d s (text schema d s counted h)
 pub as_many : (schema : Declarations) (d : Dialect) (s : Statement) → PlacesAreCounted s → Accepted schema d s
     → length (values_query (normal d s)) ≡ length (values_of (pieces d s))
 as_many schema d s counted h = reading.as_many d s (text schema d s counted h)
+
+pub values : (schema : Declarations) (d : Dialect) (s : Statement) → PlacesAreCounted s → Accepted schema d s
+    → values_of (pieces d s) ≡ values_query (filled d s)
+values schema d s counted h = value-law d s (text schema d s counted h)

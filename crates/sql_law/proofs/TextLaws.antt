@@ -5,17 +5,16 @@ use Rattle.sql_schema.specs.Declarations.{Declarations}
 use Rattle.sql_dialect.specs.Supports.{combines}
 use Rattle.sql_dialect.specs.Written.{MAX_BINDS}
 use Rattle.sql_dialect.specs.declared.backend.Dialect.{Dialect}
-use Rattle.sql_dialect.specs.declared.backend.Dialect.TheVariants.{Pg, Mysql, Sqlite}
 use Rattle.sql_leaf.specs.declared.locking.LockingClause.TheVariants.{NoLockingClause}
 use Rattle.sql_pass.specs.Pieces.{values_of}
 use Rattle.sql_node.specs.Pieces.{pieces}
 use Rattle.sql_node.specs.Tree.{unboxed, Expr, column, value, list, count_star, nullable, not_of, null_test, count, compared, joined, exists, single, among_values, among_rows, Exprs, no_exprs, more_exprs, Items, no_items, more_items, MaybeExpr, no_expr, an_expr, Source, of_table, of_alias, join, From, no_source, from, Distinct, every, distinct, distinct_on, Order, no_order, order_by, Statement, select, combination}
-use Rattle.sql_reading.specs.HasText.{IsSingle, ExprHasText, ExprsHaveText, ItemsHaveText, MaybeHasText, GroupHasText, OnHasText, SourceHasText, FromHasText, DistinctHasText, OrderHasText, HasText, HasNumbers}
+use Rattle.sql_reading.specs.inside.HasText.{IsSingle, ExprHasText, ExprsHaveText, ItemsHaveText, MaybeHasText, GroupHasText, OnHasText, SourceHasText, FromHasText, DistinctHasText, OrderHasText, HasText, HasNumbers}
 use Rattle.sql_rules.specs.Lists.{AnyOf, Each}
 use Rattle.sql_rules.specs.Rules.{Present, IsIllTyped, IsEmptyList, IsEmptyOrder, IsIllTypedClause, LacksOn, FromLacksOn, IsNotPg, IsDistinctOn, HasTableMarks, FromHasMarks, IsSelectUnsupported, IsCombinationUnsupported, PartBreaks, Broken}
 use Rattle.sql_rules.specs.Scope.{View, origins, origins_of, widest, Part, a_select, a_combination, parts, in_expr, in_exprs, in_items, in_maybe, in_source, in_from, in_distinct, in_order, in_selection, in_on, in_where, in_group_by, in_having, Clause, clauses, maybe_clause, ons, ons_of, distinct_clause, item_clauses, order_clauses, nodes, flat}
 use Rattle.sql_rules.specs.declared.rule.Rule.TheVariants as R
-use Rattle.sql_law.specs.Counted.{OrderIsCounted, PartIsCounted, PlacesAreCounted}
+use Rattle.sql_rules.specs.Counted.{OrderIsCounted, PartIsCounted, PlacesAreCounted}
 use Rattle.sql_law.proofs.Forms.{page_has_text, form_fits, table_has_text, on_pg, supported, places_have_text}
 use Rattle.sql_law.proofs.Lists.{each_not, each_both, each_map, each_front, each_back, each_apply}
 use Rattle.sql_law.proofs.Typed.{typed_is_single, AreTyped, tops_typed, IsTypedInside, AreTypedInside, inside_one, inside_list, has_element}
@@ -247,7 +246,5 @@ has_text schema d s counted lists on types lacks =
 
 pub has_numbers : (schema : Declarations) (d : Dialect) (s : Statement) → ¬ Broken R.TooManyBinds schema d s
     → HasNumbers d (length (values_of (pieces d s)))
-has_numbers schema Pg s h =
-    ⊎_elim (λ l. absurd (h (refl, l))) (λ l. l) (cases_lt MAX_BINDS (length (values_of (pieces Pg s))))
-has_numbers schema Mysql s h = tt
-has_numbers schema Sqlite s h = tt
+has_numbers schema d s h =
+    λ numbered. ⊎_elim (λ l. absurd (h (numbered, l))) (λ l. l) (cases_lt MAX_BINDS (length (values_of (pieces d s))))

@@ -2,7 +2,7 @@
 use Rattle.std.proofs.Common.{◌≡◌, List, [], ◌∷◌, ◌++◌, map, Option, refl, ap, inl, inr, ◌⊎◌}
 use Rattle.sql_schema.specs.declared.types.SqlType.{SqlType}
 use Rattle.sql_node.specs.Tree.{Expr, column, value, list, count_star, nullable, not_of, null_test, count, compared, joined, exists, single, among_values, among_rows, Exprs, no_exprs, more_exprs}
-use Rattle.sql_reading.specs.HasText.{IsSingle, HasElement, SomeElement}
+use Rattle.sql_reading.specs.inside.HasText.{IsSingle, HasElement, SomeElement}
 use Rattle.sql_rules.specs.Lists.{AnyOf, Each}
 use Rattle.sql_rules.specs.Rules.{IsIllTyped}
 use Rattle.sql_rules.specs.Scope.{nodes, nodes_of, flat, flat_of}

@@ -1,15 +1,24 @@
--- A statement that breaks none of the rules.
-use Rattle.std.proofs.Common.{◌≡◌, ◌<◌, length, refl, subst, arith}
+-- Declarations that make a schema, and a statement that breaks none of the rules.
+use Rattle.std.proofs.Common.{◌≡◌, ◌<◌, None, length, refl, subst, arith}
+use Rattle.sql_schema.specs.Refusals.{least_refusal}
 use Rattle.sql_dialect.specs.declared.backend.Dialect.{Dialect}
+use Rattle.sql_dialect.specs.declared.backend.Dialect.TheVariants.{Pg, Mysql, Sqlite, Bracket}
 use Rattle.sql_pass.specs.Pieces.{one, values_of}
 use Rattle.sql_node.specs.Pieces.{pieces}
 use Rattle.sql_rules.specs.Rules.{Accepted}
 use Rattle.sql_rules.specs.declared.rule.Rule.TheVariants as R
 use Rattle.sql_law.specs.Examples.{one_table, first_users}
 
+pub declared : least_refusal one_table ≡ None
+unfolding least_refusal
+declared = refl
+
 one-value : (d : Dialect) → length (values_of (pieces d first_users)) ≡ 1
 unfolding one
-one-value d = refl
+one-value Pg = refl
+one-value Mysql = refl
+one-value Sqlite = refl
+one-value Bracket = refl
 
 few-values : (d : Dialect) → 4294967295 < length (values_of (pieces d first_users)) → ⊥
 few-values d l = let k : 4294967295 < 1 = subst (λ n. 4294967295 < n) (one-value d) l in omega arith

@@ -1,4 +1,4 @@
--- A statement that breaks no rule.
+-- Declarations that make a schema, and a statement that breaks no rule.
 use Rattle.std.specs.Prelude.{pos, [], ◌∷◌, Some, None, true, false, codes}
 use Rattle.sql_schema.specs.Declarations.{Declarations}
 use Rattle.sql_schema.specs.declared.declaration.ColumnDecl.{ColumnDecl}

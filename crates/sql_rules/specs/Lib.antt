@@ -1,6 +1,9 @@
+pub mod Counted
+pub mod inside
 pub mod Lists
 pub mod Names
 pub mod Rules
+pub mod Safety
 pub mod Scope
 pub mod Texts
 pub mod Types

@@ -1,18 +1,10 @@
 -- Which leaves a column's path names (PostgreSQL, Value Expressions, Column References).
 use Rattle.std.specs.Prelude.{◌≡◌, ℕ, List, [], ◌∷◌, ◌++◌, Some, slice_get}
 use Rattle.sql_schema.specs.declared.declaration.ColumnDecl.{ColumnDecl}
-use Rattle.sql_node.specs.Tree.{Origin, Expr, column, Statement}
+use Rattle.sql_node.specs.Tree.{Origin, Expr, column}
 use Rattle.sql_source.specs.Origins.{exposed_path}
-use Rattle.sql_rules.specs.Lists.{AnyOf, Each, IsSuffix}
-use Rattle.sql_rules.specs.Scope.{View, Part, a_select, a_combination, parts, clauses, nodes}
-
--- P holds of each expression at any depth, by what its clause sees
-abbrev pub EachIn : (View → Expr → Type 0) → Part → Type 0
-EachIn P (a_select outer s) = Each (λ c. Each (P c.view) (nodes c.expr)) (clauses outer s)
-EachIn P (a_combination c) = Unit {0}
-
-abbrev pub EachExpr : (View → Expr → Type 0) → Statement → Type 0
-EachExpr P s = Each (EachIn P) (parts [] s)
+use Rattle.sql_rules.specs.Lists.{AnyOf, IsSuffix}
+use Rattle.sql_rules.specs.Scope.{View}
 
 -- as it is written
 abbrev pub path : Origin → ColumnDecl → List (List ℕ)

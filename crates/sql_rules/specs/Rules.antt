@@ -1,5 +1,5 @@
 -- The fourteen rules that a statement may break. Each is said of one place: a statement inside a statement, or of a clause or
--- an expression in it. The trait bound of diesel that a rule stands for is named beside it.
+-- an expression in it. Each rule names the trait bound of diesel that it replaces.
 use Rattle.std.specs.Prelude.{◌≡◌, ◌≢◌, ◌<◌, List, [], ◌∷◌, ◌++◌, ◌⊎◌, length, Option, Some, None, Bool, false, IsTrue, ◌||◌}
 use Rattle.sql_schema.specs.Declarations.{Declarations}
 use Rattle.sql_schema.specs.Together.{may_stand_together}
@@ -8,8 +8,9 @@ use Rattle.sql_schema.specs.declared.declaration.TableDecl.{TableDecl}
 use Rattle.sql_schema.specs.declared.types.Base.TheVariants.{Bool as BoolBase}
 use Rattle.sql_schema.specs.declared.types.SqlType.{SqlType}
 use Rattle.sql_dialect.specs.Supports.{combines}
+use Rattle.sql_dialect.specs.Written.{numbers, MAX_BINDS}
 use Rattle.sql_dialect.specs.declared.backend.Dialect.{Dialect}
-use Rattle.sql_dialect.specs.declared.backend.Dialect.TheVariants.{Pg, Mysql, Sqlite}
+use Rattle.sql_dialect.specs.declared.backend.Dialect.TheVariants.{Pg, Mysql, Sqlite, Bracket}
 use Rattle.sql_pass.specs.Pieces.{values_of}
 use Rattle.sql_leaf.specs.declared.limit_offset.LimitOffsetClause.{LimitOffsetClause}
 use Rattle.sql_leaf.specs.declared.locking.LockMode.TheVariants.{ForUpdate, ForNoKeyUpdate, ForShare, ForKeyShare}
@@ -22,7 +23,7 @@ use Rattle.sql_source.specs.Leaves.{is_padded}
 use Rattle.sql_source.specs.Origins.{exposed_path}
 use Rattle.sql_key.specs.Expressions.{expr_shape}
 use Rattle.sql_rules.specs.Lists.{AnyOf, AnyPair, IsSuffix, Differ}
-use Rattle.sql_rules.specs.Scope.{View, leaves_of, widest, Select, Combination, Part, a_select, a_combination, parts, Place, in_selection, in_distinct_on, in_on, in_where, in_group_by, in_having, in_order_by, Clause, clauses, own, nodes, flat, flat_items}
+use Rattle.sql_rules.specs.Scope.{View, leaves_of, widest, Select, Combination, Part, a_select, a_combination, parts, Place, in_selection, in_distinct_on, in_on, in_where, in_group_by, in_having, in_order_by, Clause, clauses, own, nodes, flat, flat_items, AnyExpr}
 use Rattle.sql_rules.specs.Types.{type_of, columns, fits}
 use Rattle.sql_rules.specs.Verdicts.{Verdict, NoVerdict, Never, mix, verdict, holds_aggregate}
 use Rattle.sql_rules.specs.declared.rule.Rule.{Rule}
@@ -33,10 +34,6 @@ use Rattle.sql_rules.specs.declared.rule.Rule.TheVariants as R
 -- in a clause of the select statement
 abbrev pub AnyClause : (Clause → Type 0) → View → Select → Type 0
 AnyClause P outer s = AnyOf P (clauses outer s)
-
--- in an expression at any depth, outside subselects, by what its clause sees
-abbrev pub AnyExpr : (View → Expr → Type 0) → View → Select → Type 0
-AnyExpr P = AnyClause (λ c. AnyOf (P c.view) (nodes c.expr))
 
 -- in two leaves that WHERE sees, the one on the left first
 abbrev pub AnyTwoLeaves : (Origin → Origin → Type 0) → View → Select → Type 0
@@ -201,13 +198,14 @@ IsSelected in_selection = Unit {0}
 IsSelected in_distinct_on = Unit {0}
 IsSelected _ = ⊥
 
--- the source's rows may be missing; one that is found twice is left to Ambiguous
+-- The source is one whose rows an outer join may lack, and it stands once in the statement: one that stands twice is left to
+-- Ambiguous.
 abbrev pub IsPadded : Select → Origin → Type 0
 IsPadded s o =
     AnyOf (λ l. (l.origin ≡ o) × IsTrue (is_padded l)) (leaves_of s.source)
     × ¬ AnyPair (λ a b. (a ≡ o) × (b ≡ o)) (own s)
 
--- NeedsNullable: a column that may be NULL for want of its row is selected as it is (diesel, `SelectableExpression` for
+-- NeedsNullable: a column that is NULL where its row is missing is selected under no nullable (diesel, `SelectableExpression` for
 -- `Join`)
 abbrev pub LacksNullable : Select → Clause → Type 0
 LacksNullable s c = IsSelected c.place × AnyOf (IsPadded s) (bare c.expr)
@@ -259,11 +257,13 @@ abbrev pub IsNotPg : Dialect → Type 0
 IsNotPg Pg = ⊥
 IsNotPg Mysql = Unit {0}
 IsNotPg Sqlite = Unit {0}
+IsNotPg Bracket = Unit {0}
 
 abbrev pub IsMysql : Dialect → Type 0
 IsMysql Pg = ⊥
 IsMysql Mysql = Unit {0}
 IsMysql Sqlite = ⊥
+IsMysql Bracket = ⊥
 
 abbrev pub IsOffsetAlone : LimitOffsetClause → Type 0
 IsOffsetAlone c = (c.limit_clause ≡ None) × (c.offset_clause ≢ None)
@@ -273,7 +273,7 @@ IsDistinctOn every = ⊥
 IsDistinctOn distinct = ⊥
 IsDistinctOn (distinct_on e) = Unit {0}
 
--- PostgreSQL has all locks, MySQL has FOR UPDATE and FOR SHARE (Locking Reads), SQLite has none
+-- PostgreSQL has all locks, MySQL has FOR UPDATE and FOR SHARE (Locking Reads), SQLite and Bracket have none
 abbrev pub LacksLock : Dialect → LockingClause → Type 0
 LacksLock d NoLockingClause = ⊥
 LacksLock Pg (Locked m w) = ⊥
@@ -282,6 +282,7 @@ LacksLock Mysql (Locked ForNoKeyUpdate w) = Unit {0}
 LacksLock Mysql (Locked ForShare w) = ⊥
 LacksLock Mysql (Locked ForKeyShare w) = Unit {0}
 LacksLock Sqlite (Locked m w) = Unit {0}
+LacksLock Bracket (Locked m w) = Unit {0}
 
 -- its lock is none of the dialect's, or it was boxed for another dialect
 abbrev pub LacksForm : Dialect → Form → Type 0
@@ -338,11 +339,11 @@ abbrev pub PartBreaks : Rule → Declarations → Dialect → Part → Type 0
 PartBreaks r schema d (a_select outer s) = SelectBreaks r schema d outer s
 PartBreaks r schema d (a_combination c) = CombinationBreaks r d c
 
--- TooManyBinds: PostgreSQL numbers placeholders, and its builder counts them in 32 bits
+-- TooManyBinds: the dialect numbers placeholders, and there are more values than numbers, which are of 32 bits
 abbrev pub HasTooManyBinds : Dialect → Statement → Type 0
-HasTooManyBinds d s = (d ≡ Pg) × (4294967295 < length (values_of (pieces d s)))
+HasTooManyBinds d s = IsTrue (numbers d) × (MAX_BINDS < length (values_of (pieces d s)))
 
--- Rules are broken by a statement inside, by whatever depth; TooManyBinds is of the whole.
+-- Rules are broken by a statement at any depth; TooManyBinds is of the whole.
 abbrev pub Broken : Rule → Declarations → Dialect → Statement → Type 0
 Broken R.TooManyBinds schema d s = HasTooManyBinds d s
 Broken r schema d s = AnyOf (PartBreaks r schema d) (parts [] s)
@@ -351,7 +352,7 @@ Broken r schema d s = AnyOf (PartBreaks r schema d) (parts [] s)
 abbrev pub Accepted : Declarations → Dialect → Statement → Type 0
 Accepted schema d s = (r : Rule) → ¬ Broken r schema d s
 
--- in the order in which they are told
+-- in the order in which they are reported
 abbrev pub all_rules : List Rule
 all_rules =
     R.UnknownName

@@ -8,6 +8,7 @@ use Rattle.sql_leaf.specs.declared.marks.Marks.{Marks}
 use Rattle.sql_leaf.specs.declared.position.PositionalItem.{PositionalItem}
 use Rattle.sql_node.specs.Tree.{Origin, Form, unboxed, boxed, Expr, column, value, list, count_star, nullable, not_of, null_test, count, compared, joined, exists, single, among_values, among_rows, Exprs, no_exprs, more_exprs, Items, no_items, more_items, MaybeExpr, no_expr, an_expr, Source, of_table, of_alias, join, From, no_source, from, Distinct, every, distinct, distinct_on, Order, no_order, order_by, Statement, select, combination}
 use Rattle.sql_source.specs.Leaves.{Leaf, leaves}
+use Rattle.sql_rules.specs.Lists.{AnyOf, Each}
 
 -- ---- views
 
@@ -26,7 +27,7 @@ leaves_of (from f) = leaves f
 abbrev pub origins_of : From → View
 origins_of f = map (λ l. l.origin) (leaves_of f)
 
--- The widest view, which WHERE sees: beside its own leaves what the clause around the statement sees. A boxed statement and
+-- The widest view, which WHERE sees: its own leaves, and what the clause around the statement sees. A boxed statement and
 -- one without a source see their own alone.
 abbrev pub widest : Form → From → View → View
 widest (unboxed l) no_source outer = []
@@ -35,7 +36,7 @@ widest (boxed d n) f outer = origins_of f
 
 -- ---- the statements inside a statement
 
--- a select statement with its clauses by name; whether its selection is the default is nothing to the rules
+-- a select statement with its clauses by name; the rules ignore whether its selection is the default
 pub record Select : Type 0 where
   pub selection : Expr
   pub source : From
@@ -214,6 +215,31 @@ abbrev mutual
   pub nodes_of : Exprs → List Expr
   nodes_of no_exprs = []
   nodes_of (more_exprs e es) = nodes e ++ nodes_of es
+
+-- P holds of an expression in a clause of the select statement, at any depth, outside subselects, by what the clause sees
+abbrev pub AnyExpr : (View → Expr → Type 0) → View → Select → Type 0
+AnyExpr P outer s = AnyOf (λ c. AnyOf (P c.view) (nodes c.expr)) (clauses outer s)
+
+-- of each
+abbrev pub EachExpr : (View → Expr → Type 0) → View → Select → Type 0
+EachExpr P outer s = Each (λ c. Each (P c.view) (nodes c.expr)) (clauses outer s)
+
+-- the same of a statement inside a statement; a combination has no expressions of its own
+abbrev pub AnyExprIn : (View → Expr → Type 0) → Part → Type 0
+AnyExprIn P (a_select outer s) = AnyExpr P outer s
+AnyExprIn P (a_combination c) = ⊥
+
+abbrev pub EachExprIn : (View → Expr → Type 0) → Part → Type 0
+EachExprIn P (a_select outer s) = EachExpr P outer s
+EachExprIn P (a_combination c) = Unit {0}
+
+-- P holds of an expression anywhere in a statement
+abbrev pub AnyNode : (View → Expr → Type 0) → Statement → Type 0
+AnyNode P s = AnyOf (AnyExprIn P) (parts [] s)
+
+-- of each
+abbrev pub EachNode : (View → Expr → Type 0) → Statement → Type 0
+EachNode P s = Each (EachExprIn P) (parts [] s)
 
 -- the elements of a list, those of nested lists too, each under the nullables that stand over its lists
 abbrev mutual

@@ -2,4 +2,4 @@ use Rattle.sql_law.proofs.Worked as worked
 use Rattle.sql_law.proofs.a_statement_is_accepted.Goals as goal
 
 pub returns : goal.returns
-returns c = record { accepted = worked.accepted; counted = (tt, tt) }
+returns c = record { declared = worked.declared; accepted = worked.accepted; counted = (tt, tt) }

@@ -1,0 +1,2 @@
+-- Devices of proofs and of contracts on tests.
+pub mod Misfits

@@ -1,4 +1,0 @@
-pub mod Unshape
-pub mod ShapeLaws
-pub mod OneText
-pub mod TypeLaws
