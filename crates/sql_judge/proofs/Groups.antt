@@ -1,17 +1,7 @@
 -- Verdicts and aggregates, one element after the other.
-use Rattle.std.proofs.Common.{◌≡◌, Bool, true, false, ◌||◌, ◌++◌, List, [], ◌∷◌, map, refl, ap, ◌∙◌, sym}
-use Rattle.std.specs.List.{list_any}
+use Rattle.std.proofs.Common.{◌≡◌, refl}
+use Rattle.std.proofs.lemmas.List.Folds.{list_any-append}
 use Rattle.sql_rules.specs.Verdicts.{Verdict, No, Yes, Never, NoVerdict, mix}
-
-or-or : (a b c : Bool) → (a || (b || c)) ≡ ((a || b) || c)
-or-or true b c = refl
-or-or false b c = refl
-
-pub list_any-append : {X : Type 0} (t : X → Bool) (xs ys : List X)
-    → list_any t (xs ++ ys) ≡ (list_any t xs || list_any t ys)
-list_any-append t [] ys = refl
-list_any-append t (x ∷ xs) ys =
-    ap (λ b. t x || b) (list_any-append t xs ys) ∙ or-or (t x) (list_any t xs) (list_any t ys)
 
 pub mix-unit : (a : Verdict) → mix a Never ≡ a
 mix-unit No = refl

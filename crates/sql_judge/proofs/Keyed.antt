@@ -7,7 +7,7 @@ use Rattle.sql_key.specs.Expressions.{expr_key, expr_shape}
 use Rattle.sql_key.specs.declared.kind.KeyNode.{KeyNode}
 use Rattle.sql_key.specs.contracts.key.QueryKeyPartialEq.TheImpl as key_eq
 use Rattle.sql_key.proofs.ExactNodes.{same-key}
-use Rattle.sql_key.proofs.Expressions.{same-expression}
+use Rattle.sql_key.proofs.Shapes.{same-expression}
 use Rattle.sql_rules.specs.Lists.{Differ}
 use Rattle.sql_rules.specs.Scope.{flat}
 use Rattle.sql_judge.proofs.Differing.{differ_before, differ_seen}

@@ -1,13 +1,11 @@
 pub mod Answered
 pub mod Breaking
+pub mod Clashes
 pub mod Differing
+pub mod Firsts
 pub mod Flats
 pub mod Groups
 pub mod Keyed
-pub mod Loops
 pub mod Paddings
-pub mod SameTypes
 pub mod Sides
 pub mod Selections
-pub mod Tests
-pub mod TypeLaws

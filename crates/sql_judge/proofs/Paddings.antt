@@ -11,7 +11,7 @@ use Rattle.sql_source.specs.Leaves.{Leaf, leaves, in_right_side, is_padded}
 use Rattle.sql_rules.specs.Lists.{AnyOf}
 use Rattle.sql_rules.specs.Rules.{IsSeen}
 use Rattle.sql_rules.specs.Scope.{origins}
-use Rattle.sql_judge.proofs.Loops.{any_each, any_map, any_split, map_any}
+use Rattle.sql_rules.proofs.Loops.{any_each, any_map, any_split, map_any}
 use Rattle.sql_rules.proofs.Lists.{any_left, any_right}
 
 -- a leaf of that origin whose rows may be missing

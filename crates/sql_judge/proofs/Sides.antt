@@ -7,7 +7,7 @@ use Rattle.sql_node.specs.declared.source.JoinOn.{JoinOn, out-JoinOn}
 use Rattle.sql_rules.specs.Rules.{IsSeen}
 use Rattle.sql_rules.specs.Scope.{origins}
 use Rattle.sql_places.proofs.Views.{origins-join_on}
-use Rattle.sql_judge.proofs.Loops.{any_split}
+use Rattle.sql_rules.proofs.Loops.{any_split}
 use Rattle.sql_rules.proofs.Lists.{any_left, any_right}
 
 pub seen-left : (j : JoinOn) (o : Origin) → IsSeen (origins (source_tree (out-Join (out-JoinOn j).join).left)) o

@@ -13,7 +13,7 @@ path_ends None x g y = bytes_eq x y
 path_ends (Some s) x None y = false
 path_ends (Some s) x (Some t) y = bytes_eq s t && bytes_eq x y
 
--- what stands in front of the last name that a leaf exposes, and that name
+-- what stands before the last name that a leaf exposes, and that name
 abbrev pub front_under : Option (List ℕ) → TableDecl → Option (List ℕ)
 front_under None t = t.schema
 front_under (Some a) t = None

@@ -1,7 +1,8 @@
+-- What `first_broken` answers.
+pub mod First
 -- Devices of proofs alone: the rules are defined in `sql_rules` (`Rules`).
-pub mod Columns
 pub mod Ends
 pub mod Grouped
 pub mod Keyed
-pub mod Misfits
-pub mod Seen
+pub mod Padded
+pub mod Viewed

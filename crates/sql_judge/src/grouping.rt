@@ -9,13 +9,13 @@ ghost use Rattle.sql_source.specs.Lent.{origin_of};
 ghost use Rattle.sql_rules.specs.Scope.{nodes_of};
 ghost use Rattle.sql_rules.specs.Rules.{CountsAggregate, HasAggregate, IsMisgrouped, distinct_verdict as distinct_gives, items_verdict as items_give, order_verdict as order_gives};
 ghost use Rattle.sql_rules.specs.Verdicts.{column_verdict as column_gives, fields, fields_of, holds_aggregate, holds_column, holds_key as holds_whole_key, is_aggregate, NoVerdict, mix as mixed, verdict as gives, verdict_of};
-ghost use Rattle.sql_places.specs.Lent.{order_of, select_of};
+ghost use Rattle.sql_places.specs.Borrowed.{order_of, select_of};
 ghost use Rattle.sql_judge.specs.Grouped.{count_gives, verdict_tree};
 
 use crate::test::NodeTest;
 use crate::unsupported::is_unboxed;
 use sql_node::{DistinctClause, Expr, OrderItem};
-use sql_places::Selection;
+use sql_places::SelectView;
 use sql_schema::Column;
 use sql_source::Origin;
 
@@ -250,7 +250,7 @@ fn is_none(verdict: Verdict) -> bool
 }
 
 /// Whether an aggregate stands in a condition or a group by list, or what is selected has no one value in a group.
-pub(crate) fn is_misgrouped(select: Selection<'_>) -> bool
+pub(crate) fn is_misgrouped(select: SelectView<'_>) -> bool
     ensures { Decides result (IsMisgrouped (select_of select.entry)) }
 {
     let group = select.group_by;

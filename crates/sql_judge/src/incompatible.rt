@@ -5,11 +5,11 @@ ghost use Rattle.std.specs.Prelude.{◌≡◌, option_map};
 ghost use Rattle.std.specs.Bool.{Decides};
 ghost use Rattle.sql_node.specs.View.{distinct_clause_tree, expr_tree, maybe_of};
 ghost use Rattle.sql_rules.specs.Rules.{HasLock, IsDistinct, IsIncompatible, Present, misuse as misused};
-ghost use Rattle.sql_places.specs.Lent.{form_of, select_of};
+ghost use Rattle.sql_places.specs.Borrowed.{form_of, select_of};
 
 use sql_leaf::{LockingClause, Marks};
 use sql_node::{DistinctClause, Expr};
-use sql_places::{Form, Selection};
+use sql_places::{Form, SelectView};
 
 fn is_present(clause: Option<&Expr>) -> bool
     ensures { Decides result (Present (maybe_of (option_map (λ e. expr_tree e.now) clause.entry))) }
@@ -44,7 +44,7 @@ fn misuse(marks: Marks) -> bool
 }
 
 /// Whether a select statement has clauses that do not go together, or a call was made that it can't take.
-pub(crate) fn is_incompatible(select: Selection<'_>) -> bool
+pub(crate) fn is_incompatible(select: SelectView<'_>) -> bool
     ensures { Decides result (IsIncompatible (select_of select.entry)) }
 {
     let groups = is_present(select.group_by);

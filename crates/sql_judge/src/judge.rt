@@ -4,88 +4,109 @@
 ghost use Rattle.std.specs.Prelude.{◌≡◌, ◌≢◌, ◌⊎◌, IfOk, map, [], IsTrue};
 ghost use Rattle.std.specs.Bool.{Decides};
 ghost use Rattle.sql_node.specs.View.{statement_tree};
+ghost use Rattle.sql_rules.specs.Counted.{PlacesAreCounted};
 ghost use Rattle.sql_rules.specs.Lists.{AnyOf, Each, Selects};
-ghost use Rattle.sql_rules.specs.Rules.{AnyClause, AnyExpr, AnyTwoLeaves, Broken, CombinationBreaks, CountsAggregate, HasUnknownName, IsEmptyList, IsEmptyOrder, IsIllTypedClause, IsMisgrouped, PartBreaks, SelectBreaks, all_rules};
-ghost use Rattle.sql_rules.specs.Scope.{parts as parts_in};
+ghost use Rattle.sql_rules.specs.Rules.{AnyClause, AnyTwoLeaves, Broken, CombinationBreaks, CountsAggregate, HasUnknownName, IsEmptyList, IsEmptyOrder, IsIllTypedClause, IsMisgrouped, LacksNullable, PartBreaks, SelectBreaks, all_rules};
+ghost use Rattle.sql_rules.specs.Scope.{AnyExpr, parts as parts_in};
 ghost use Rattle.sql_rules.specs.Types.{columns as columns_of};
-ghost use Rattle.sql_places.specs.Lent.{combined_of};
-ghost use Rattle.sql_judge.specs.Seen.{IsLook, IsWhole, look_part, seen_outer, seen_select};
+ghost use Rattle.sql_places.specs.Borrowed.{combined_of};
+ghost use Rattle.sql_judge.specs.First.{IsFirst, inner_rules};
+ghost use Rattle.sql_judge.specs.Viewed.{IsViewed, IsWhole, viewed_part, viewed_outer, viewed_select};
 
 use crate::grouping::{Counted, is_misgrouped};
 use crate::incompatible::is_incompatible;
-use crate::leaves::{Alike, Apart, Clash};
+use crate::leaves::{Ambiguous, NameClash, NotTogether};
 use crate::lists::{EmptyClause, has_no_positions, is_empty_order};
 use crate::names::{OutOfScope, UnknownColumn, any_unknown};
 use crate::nullable::BarePadded;
 use crate::order::order_differs;
 use crate::relation::from_lacks_on;
-use crate::seen::{Look, Seen, look_at_each};
 use crate::test::{ClauseTest, InNodes, PairTest, any_clause, any_pair};
 use crate::typing::IllTyped;
 use crate::unsupported::{combination_unsupported, select_unsupported};
+use crate::viewed::{Viewed, ViewedSelect, view_each};
 use sql_dialect::Backend;
 use sql_node::Statement;
-use sql_places::{Combined, parts};
+use sql_places::{CombinationView, parts, places_are_counted};
 use sql_rules::{RULES, Rule};
 use sql_schema::{NoMemory, Schema};
 use sql_types::{columns, has_too_many_binds};
 use std::alloc::Global;
 
-fn any_two<T: PairTest>(test: &T, seen: &Seen<'_>) -> bool
-    requires { IsWhole seen.now }
+fn any_two<T: PairTest>(test: &T, viewed: &ViewedSelect<'_>) -> bool
+    requires { IsWhole viewed.now }
     ensures { Decides result
-        (AnyTwoLeaves (T.holds test.now) (seen_outer seen.now) (seen_select seen.now)) }
+        (AnyTwoLeaves (T.holds test.now) (viewed_outer viewed.now) (viewed_select viewed.now)) }
 {
-    any_pair(test, seen.widest.as_slice())
+    any_pair(test, viewed.widest.as_slice())
 }
 
-fn has_unknown_name(alloc: Global, schema: &Schema, seen: &Seen<'_>) -> Result<bool, NoMemory>
-    requires { IsWhole seen.now }
+fn has_unknown_name(
+    alloc: Global,
+    schema: &Schema,
+    viewed: &ViewedSelect<'_>,
+) -> Result<bool, NoMemory>
+    requires { IsWhole viewed.now }
     ensures { IfOk result (λ b. Decides b
-        (HasUnknownName schema.now (seen_outer seen.now) (seen_select seen.now))) }
+        (HasUnknownName schema.now (viewed_outer viewed.now) (viewed_select viewed.now))) }
 {
-    let column = any_in(&InNodes(UnknownColumn { schema }), alloc, seen)?;
-    let table = any_unknown(schema, seen.own.as_slice());
+    let column = any_in(&InNodes(UnknownColumn { schema }), alloc, viewed)?;
+    let table = any_unknown(schema, viewed.own.as_slice());
     Ok(table || column)
 }
 
 /// Whether the test holds of a clause.
-fn any_in<T: ClauseTest>(test: &T, alloc: Global, seen: &Seen<'_>) -> Result<bool, NoMemory>
-    requires { IsWhole seen.now }
+fn any_in<T: ClauseTest>(
+    test: &T,
+    alloc: Global,
+    viewed: &ViewedSelect<'_>,
+) -> Result<bool, NoMemory>
+    requires { IsWhole viewed.now }
     ensures { IfOk result (λ b. Decides b
-        (AnyClause (T.holds test.now) (seen_outer seen.now) (seen_select seen.now))) }
+        (AnyClause (T.holds test.now) (viewed_outer viewed.now) (viewed_select viewed.now))) }
 {
-    any_clause(test, alloc, seen.clauses.as_slice())
+    any_clause(test, alloc, viewed.clauses.as_slice())
 }
 
-fn has_empty_list(alloc: Global, seen: &Seen<'_>) -> Result<bool, NoMemory>
-    requires { IsWhole seen.now }
+fn has_empty_list(alloc: Global, viewed: &ViewedSelect<'_>) -> Result<bool, NoMemory>
+    requires { IsWhole viewed.now }
     ensures { IfOk result (λ b. Decides b
-        (AnyClause IsEmptyList (seen_outer seen.now) (seen_select seen.now)
-        ⊎ IsEmptyOrder (seen_select seen.now).order)) }
+        (AnyClause IsEmptyList (viewed_outer viewed.now) (viewed_select viewed.now)
+        ⊎ IsEmptyOrder (viewed_select viewed.now).order)) }
 {
-    let clause = any_in(&EmptyClause, alloc, seen)?;
-    Ok(clause || is_empty_order(seen.select.order))
+    let clause = any_in(&EmptyClause, alloc, viewed)?;
+    Ok(clause || is_empty_order(viewed.select.order))
 }
 
-fn has_type_mismatch(alloc: Global, seen: &Seen<'_>) -> Result<bool, NoMemory>
-    requires { IsWhole seen.now }
+fn has_type_mismatch(alloc: Global, viewed: &ViewedSelect<'_>) -> Result<bool, NoMemory>
+    requires { IsWhole viewed.now }
     ensures { IfOk result (λ b. Decides b
-        (AnyClause IsIllTypedClause (seen_outer seen.now) (seen_select seen.now)
-        ⊎ IsTrue (seen_select seen.now).marks.key_count)) }
+        (AnyClause IsIllTypedClause (viewed_outer viewed.now) (viewed_select viewed.now)
+        ⊎ IsTrue (viewed_select viewed.now).marks.key_count)) }
 {
-    let clause = any_in(&IllTyped, alloc, seen)?;
-    Ok(clause || seen.select.marks.key_count)
+    let clause = any_in(&IllTyped, alloc, viewed)?;
+    Ok(clause || viewed.select.marks.key_count)
 }
 
-fn breaks_grouping(alloc: Global, seen: &Seen<'_>) -> Result<bool, NoMemory>
-    requires { IsWhole seen.now }
+fn breaks_grouping(alloc: Global, viewed: &ViewedSelect<'_>) -> Result<bool, NoMemory>
+    requires { IsWhole viewed.now }
     ensures { IfOk result (λ b. Decides b
-        (AnyExpr (λ v. CountsAggregate) (seen_outer seen.now) (seen_select seen.now)
-        ⊎ IsMisgrouped (seen_select seen.now))) }
+        (AnyExpr (λ v. CountsAggregate) (viewed_outer viewed.now) (viewed_select viewed.now)
+        ⊎ IsMisgrouped (viewed_select viewed.now))) }
 {
-    let counted = any_in(&InNodes(Counted), alloc, seen)?;
-    Ok(counted || is_misgrouped(seen.select))
+    let counted = any_in(&InNodes(Counted), alloc, viewed)?;
+    Ok(counted || is_misgrouped(viewed.select))
+}
+
+fn needs_nullable(alloc: Global, viewed: &ViewedSelect<'_>) -> Result<bool, NoMemory>
+    requires { IsWhole viewed.now }
+    ensures { IfOk result (λ b. Decides b
+        (AnyClause (LacksNullable (viewed_select viewed.now)) (viewed_outer viewed.now)
+        (viewed_select viewed.now))) }
+{
+    let select = viewed.select;
+    let own = viewed.own.as_slice();
+    any_in(&BarePadded { select, own }, alloc, viewed)
 }
 
 /// Whether a select statement inside the statement breaks the rule.
@@ -94,32 +115,32 @@ fn select_breaks<DB: Backend>(
     rule: Rule,
     backend: &DB,
     schema: &Schema,
-    seen: &Seen<'_>,
+    viewed: &ViewedSelect<'_>,
 ) -> Result<bool, NoMemory>
-    requires { IsWhole seen.now }
+    requires { IsWhole viewed.now }
     ensures { IfOk result (λ b. Decides b
-        (SelectBreaks rule schema.now DB.speaks (seen_outer seen.now) (seen_select seen.now))) }
+        (SelectBreaks rule schema.now DB.speaks (viewed_outer viewed.now) (viewed_select viewed.now))) }
 {
-    let select = seen.select;
+    let select = viewed.select;
     match rule {
-        Rule::UnknownName => has_unknown_name(alloc, schema, seen),
+        Rule::UnknownName => has_unknown_name(alloc, schema, viewed),
         Rule::Incompatible => Ok(is_incompatible(select)),
-        Rule::EmptyList => has_empty_list(alloc, seen),
+        Rule::EmptyList => has_empty_list(alloc, viewed),
         Rule::NoRelation => Ok(from_lacks_on(select.source)),
-        Rule::Ambiguous => Ok(any_two(&Alike, seen)),
-        Rule::NotTogether => Ok(any_two(&Apart { schema }, seen)),
-        Rule::NameClash => Ok(any_two(&Clash, seen)),
-        Rule::NotInScope => any_in(&InNodes(OutOfScope), alloc, seen),
-        Rule::TypeMismatch => has_type_mismatch(alloc, seen),
-        Rule::NeedsNullable => any_in(&BarePadded { select }, alloc, seen),
-        Rule::Grouping => breaks_grouping(alloc, seen),
+        Rule::Ambiguous => Ok(any_two(&Ambiguous, viewed)),
+        Rule::NotTogether => Ok(any_two(&NotTogether { schema }, viewed)),
+        Rule::NameClash => Ok(any_two(&NameClash, viewed)),
+        Rule::NotInScope => any_in(&InNodes(OutOfScope), alloc, viewed),
+        Rule::TypeMismatch => has_type_mismatch(alloc, viewed),
+        Rule::NeedsNullable => needs_nullable(alloc, viewed),
+        Rule::Grouping => breaks_grouping(alloc, viewed),
         Rule::InvalidDistinctOrder => order_differs(alloc, select),
         Rule::Unsupported => Ok(select_unsupported(backend.dialect(), select)),
         Rule::TooManyBinds => Ok(false),
     }
 }
 
-fn sides_differ(alloc: Global, both: Combined<'_>) -> Result<bool, NoMemory>
+fn sides_differ(alloc: Global, both: CombinationView<'_>) -> Result<bool, NoMemory>
     ensures { IfOk result (λ b. Decides b
         (columns_of (combined_of both.entry).left ≢ columns_of (combined_of both.entry).right)) }
 {
@@ -133,7 +154,7 @@ fn combination_breaks<DB: Backend>(
     alloc: Global,
     rule: Rule,
     backend: &DB,
-    both: Combined<'_>,
+    both: CombinationView<'_>,
 ) -> Result<bool, NoMemory>
     ensures { IfOk result (λ b. Decides b
         (CombinationBreaks rule DB.speaks (combined_of both.entry))) }
@@ -151,15 +172,15 @@ fn part_breaks<DB: Backend>(
     rule: Rule,
     backend: &DB,
     schema: &Schema,
-    part: &Look<'_>,
+    part: &Viewed<'_>,
 ) -> Result<bool, NoMemory>
-    requires { IsLook part.now }
+    requires { IsViewed part.now }
     ensures { IfOk result (λ b. Decides b
-        (PartBreaks rule schema.now DB.speaks (look_part part.now))) }
+        (PartBreaks rule schema.now DB.speaks (viewed_part part.now))) }
 {
     match part {
-        Look::Select(seen) => select_breaks(alloc, rule, backend, schema, seen),
-        Look::Combination(both) => combination_breaks(alloc, rule, backend, *both),
+        Viewed::Select(viewed) => select_breaks(alloc, rule, backend, schema, viewed),
+        Viewed::Combination(both) => combination_breaks(alloc, rule, backend, *both),
     }
 }
 
@@ -168,11 +189,11 @@ fn any_breaks<DB: Backend>(
     rule: Rule,
     backend: &DB,
     schema: &Schema,
-    parts: &[Look<'_>],
+    parts: &[Viewed<'_>],
 ) -> Result<bool, NoMemory>
-    requires { Each IsLook parts.now }
+    requires { Each IsViewed parts.now }
     ensures { IfOk result (λ b. Decides b
-        (AnyOf (PartBreaks rule schema.now DB.speaks) (map look_part parts.now))) }
+        (AnyOf (PartBreaks rule schema.now DB.speaks) (map viewed_part parts.now))) }
 {
     for part in parts {
         if part_breaks(alloc, rule, backend, schema, part)? {
@@ -189,15 +210,15 @@ fn breaks<DB: Backend>(
     backend: &DB,
     schema: &Schema,
     statement: &Statement,
-    parts: &[Look<'_>],
+    parts: &[Viewed<'_>],
 ) -> Result<bool, NoMemory>
-    requires whole { Each IsLook parts.now }
-    requires parts { map look_part parts.now ≡ parts_in [] (statement_tree statement.now) }
+    requires whole { Each IsViewed parts.now }
+    requires parts { map viewed_part parts.now ≡ parts_in [] (statement_tree statement.now) }
     ensures { IfOk result (λ b. Decides b
         (Broken rule schema.now DB.speaks (statement_tree statement.now))) }
 {
     match rule {
-        Rule::TooManyBinds => Ok(has_too_many_binds(backend, statement)),
+        Rule::TooManyBinds => has_too_many_binds(alloc, backend, statement),
         _ => any_breaks(alloc, rule, backend, schema, parts),
     }
 }
@@ -213,7 +234,7 @@ fn broken_among<DB: Backend>(
     ensures { IfOk result (λ v. Selects
         (λ r. Broken r schema.now DB.speaks (statement_tree statement.now)) rules.now v.items) }
 {
-    let parts = look_at_each(alloc, parts(alloc, statement)?)?;
+    let parts = view_each(alloc, parts(alloc, statement)?)?;
     let mut broken = Vec::new(alloc);
     for rule in rules {
         if breaks(alloc, *rule, backend, schema, statement, parts.as_slice())? {
@@ -234,4 +255,51 @@ pub fn broken<DB: Backend>(
         (λ r. Broken r schema.now DB.speaks (statement_tree statement.now)) all_rules v.items) }
 {
     broken_among(alloc, &RULES, backend, schema, statement)
+}
+
+/// The first of these rules that the statement breaks.
+fn first_among<DB: Backend>(
+    alloc: Global,
+    rules: &[Rule],
+    backend: &DB,
+    schema: &Schema,
+    statement: &Statement,
+    parts: &[Viewed<'_>],
+) -> Result<Option<Rule>, NoMemory>
+    requires whole { Each IsViewed parts.now }
+    requires parts { map viewed_part parts.now ≡ parts_in [] (statement_tree statement.now) }
+    ensures { IfOk result (λ o. IsFirst
+        (λ r. Broken r schema.now DB.speaks (statement_tree statement.now)) rules.now o) }
+{
+    for rule in rules {
+        if breaks(alloc, *rule, backend, schema, statement, parts)? {
+            return Ok(Some(*rule));
+        }
+    }
+    Ok(None)
+}
+
+/// The first rule that the statement breaks, of all but the last. `TooManyBinds` is of the statement's values, which are not
+/// made here.
+pub fn first_broken<DB: Backend>(
+    alloc: Global,
+    backend: &DB,
+    schema: &Schema,
+    statement: &Statement,
+) -> Result<Option<Rule>, NoMemory>
+    ensures first { IfOk result (λ o. IsFirst
+        (λ r. Broken r schema.now DB.speaks (statement_tree statement.now)) inner_rules o) }
+    ensures counted { IfOk result (λ o. PlacesAreCounted (statement_tree statement.now)) }
+{
+    let parts = parts(alloc, statement)?;
+    places_are_counted(parts.as_slice());
+    let viewed = view_each(alloc, parts)?;
+    first_among(
+        alloc,
+        &RULES[..13],
+        backend,
+        schema,
+        statement,
+        viewed.as_slice(),
+    )
 }

@@ -13,9 +13,9 @@ use sql_source::Origin;
 
 /// That two leaves are one.
 #[derive(Drop)]
-pub(crate) struct Alike;
+pub(crate) struct Ambiguous;
 
-impl PairTest for Alike {
+impl PairTest for Ambiguous {
     ghost holds = { λ t a b. a ≡ b };
 
     fn test(&self, left: Origin<'_>, right: Origin<'_>) -> bool {
@@ -25,7 +25,7 @@ impl PairTest for Alike {
 
 /// That two tables may not stand in one statement.
 #[derive(Drop)]
-pub(crate) struct Apart<'a> {
+pub(crate) struct NotTogether<'a> {
     pub schema: &'a Schema,
 }
 
@@ -35,7 +35,7 @@ fn are_apart(schema: &Schema, one: &Table, other: &Table) -> bool
     !is_one_table(one, other) && !schema.allowed_together(one, other)
 }
 
-impl PairTest for Apart<'_> {
+impl PairTest for NotTogether<'_> {
     ghost holds = { λ t a b. MayNotMeet t.schema.now a b };
 
     fn test(&self, left: Origin<'_>, right: Origin<'_>) -> bool {
@@ -88,9 +88,9 @@ fn are_clashing(left: Origin<'_>, right: Origin<'_>) -> bool
 
 /// That one leaf can be named as another.
 #[derive(Drop)]
-pub(crate) struct Clash;
+pub(crate) struct NameClash;
 
-impl PairTest for Clash {
+impl PairTest for NameClash {
     ghost holds = { λ t a b. clash a b };
 
     fn test(&self, left: Origin<'_>, right: Origin<'_>) -> bool {

@@ -10,9 +10,9 @@ mod names;
 mod nullable;
 mod order;
 mod relation;
-mod seen;
 mod test;
 mod typing;
 mod unsupported;
+mod viewed;
 
-pub use judge::broken;
+pub use judge::{broken, first_broken};

@@ -7,11 +7,11 @@ ghost use Rattle.sql_node.specs.View.{expr_tree, exprs_of, items_of, order_item_
 ghost use Rattle.sql_rules.specs.Rules.{IsEmptyList, IsEmptyOrder, IsListPlace};
 ghost use Rattle.sql_rules.specs.Scope.{flat, flat_items, flat_of};
 ghost use Rattle.sql_places.specs.Claused.{clause_of, place_of};
-ghost use Rattle.sql_places.specs.Lent.{combined_of, order_of};
+ghost use Rattle.sql_places.specs.Borrowed.{combined_of, order_of};
 
 use crate::test::ClauseTest;
 use sql_node::{Expr, OrderItem};
-use sql_places::{Clause, Combined, Place};
+use sql_places::{Clause, ClauseKind, CombinationView};
 use sql_schema::NoMemory;
 use std::alloc::Global;
 
@@ -39,17 +39,17 @@ fn is_empty(expr: &Expr) -> bool
     }
 }
 
-fn is_list_place(place: Place) -> bool
-    ensures { Decides result (IsListPlace (place_of place)) }
+fn is_list_kind(kind: ClauseKind) -> bool
+    ensures { Decides result (IsListPlace (place_of kind)) }
 {
-    match place {
-        Place::Selection => true,
-        Place::DistinctOn => true,
-        Place::On => false,
-        Place::Where => false,
-        Place::GroupBy => true,
-        Place::Having => false,
-        Place::OrderBy => false,
+    match kind {
+        ClauseKind::Selection => true,
+        ClauseKind::DistinctOn => true,
+        ClauseKind::On => false,
+        ClauseKind::Where => false,
+        ClauseKind::GroupBy => true,
+        ClauseKind::Having => false,
+        ClauseKind::OrderBy => false,
     }
 }
 
@@ -61,7 +61,7 @@ impl ClauseTest for EmptyClause {
     ghost holds = { λ t c. IsEmptyList c };
 
     fn test(&self, _alloc: Global, clause: &Clause<'_>) -> Result<bool, NoMemory> {
-        Ok(is_list_place(clause.place) && is_empty(clause.expr))
+        Ok(is_list_kind(clause.kind) && is_empty(clause.expr))
     }
 }
 
@@ -94,7 +94,7 @@ pub(crate) fn is_empty_order(order: Option<&[OrderItem]>) -> bool
 }
 
 /// Whether a combination's order has no item.
-pub(crate) fn has_no_positions(both: Combined<'_>) -> bool
+pub(crate) fn has_no_positions(both: CombinationView<'_>) -> bool
     ensures { Decides result ((combined_of both.entry).order ≡ Some []) }
 {
     match both.order {

@@ -7,8 +7,7 @@ ghost use Rattle.std.specs.List.{list_any};
 ghost use Rattle.sql_source.specs.Lent.{origin_of};
 ghost use Rattle.sql_rules.specs.Lists.{AnyOf};
 ghost use Rattle.sql_rules.specs.Rules.{IsColumn, IsOutOfScope, IsSeen, IsTable, IsUnknownColumn};
-ghost use Rattle.sql_judge.specs.Columns.{same_column as one_column};
-ghost use Rattle.sql_source.specs.Origins.{same_table};
+ghost use Rattle.sql_source.specs.Origins.{same_column as one_column, same_table};
 
 use crate::test::NodeTest;
 use sql_node::Expr;

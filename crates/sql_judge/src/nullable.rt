@@ -1,5 +1,5 @@
 //! Columns whose row an outer join may lack.
-#![tactic(auto, using(sql_node::proofs::Trees::opens_expr, sql_node::proofs::Trees::opens_source, sql_node::proofs::Trees::opens_join_on, sql_node::proofs::Trees::opens_join, sql_node::proofs::Trees::opens_from_clause, sql_places::proofs::Gathering::gathering, sql_places::proofs::Views::views, crate::proofs::Tests::tests))]
+#![tactic(auto, using(sql_node::proofs::Trees::opens_expr, sql_node::proofs::Trees::opens_source, sql_node::proofs::Trees::opens_join_on, sql_node::proofs::Trees::opens_join, sql_node::proofs::Trees::opens_from_clause, sql_places::proofs::Gathering::gathering, sql_places::proofs::Views::views, sql_rules::proofs::Tests::tests))]
 
 ghost use Rattle.std.specs.Prelude.{◌≡◌, IfOk, map, IsTrue, ◌++◌, ◌&&◌, [], ◌∷◌};
 ghost use Rattle.std.specs.Bool.{Decides};
@@ -8,16 +8,17 @@ ghost use Rattle.sql_source.specs.Leaves.{in_right_side, is_padded as lies_right
 ghost use Rattle.sql_source.specs.Lent.{origin_of};
 ghost use Rattle.sql_source.specs.Origins.{same_origin};
 ghost use Rattle.sql_rules.specs.Lists.{AnyOf};
-ghost use Rattle.sql_rules.specs.Rules.{IsPadded, IsSeen, LacksNullable, bare as bare_in, bare_of};
-ghost use Rattle.sql_rules.specs.Scope.{leaves_of, origins, own as own_in};
+ghost use Rattle.sql_rules.specs.Rules.{IsSeen, bare as bare_in, bare_of};
+ghost use Rattle.sql_rules.specs.Scope.{leaves_of, origins};
 ghost use Rattle.sql_places.specs.Gathers.{Gathers};
 ghost use Rattle.sql_places.specs.Claused.{clause_of};
-ghost use Rattle.sql_places.specs.Lent.{select_of};
+ghost use Rattle.sql_places.specs.Borrowed.{select_of};
+ghost use Rattle.sql_judge.specs.Padded.{IsPaddedAmong, LacksNullableAmong};
 
 use crate::test::{ClauseTest, PairTest, any_pair};
 use sql_leaf::JoinKind;
 use sql_node::{Expr, FromClause, JoinOn, Source};
-use sql_places::{Clause, Place, Selection, own_view};
+use sql_places::{Clause, ClauseKind, SelectView};
 use sql_schema::NoMemory;
 use sql_source::Origin;
 use std::alloc::Global;
@@ -168,17 +169,18 @@ impl PairTest for Both<'_> {
     }
 }
 
-fn is_padded(select: Selection<'_>, own: &[Origin<'_>], origin: Origin<'_>) -> bool
-    requires { map origin_of own.now ≡ own_in (select_of select) }
-    ensures { Decides result (IsPadded (select_of select.entry) (origin_of origin.entry)) }
+/// Whether a leaf of that origin may lack its row, where these are the statement's own leaves.
+fn is_padded(select: SelectView<'_>, own: &[Origin<'_>], origin: Origin<'_>) -> bool
+    ensures { Decides result
+        (IsPaddedAmong (map origin_of own.now) (select_of select.entry) (origin_of origin.entry)) }
 {
     from_pads(select.source, origin) && !any_pair(&Both(origin), own)
 }
 
-fn any_padded(select: Selection<'_>, own: &[Origin<'_>], origins: &[Origin<'_>]) -> bool
-    requires { map origin_of own.now ≡ own_in (select_of select) }
+fn any_padded(select: SelectView<'_>, own: &[Origin<'_>], origins: &[Origin<'_>]) -> bool
     ensures { Decides result
-        (AnyOf (IsPadded (select_of select.entry)) (map origin_of origins.now)) }
+        (AnyOf (IsPaddedAmong (map origin_of own.now) (select_of select.entry))
+        (map origin_of origins.now)) }
 {
     for origin in origins {
         if is_padded(select, own, *origin) {
@@ -188,21 +190,21 @@ fn any_padded(select: Selection<'_>, own: &[Origin<'_>], origins: &[Origin<'_>])
     false
 }
 
-/// That a column of a padded source is selected under no nullable.
+/// That a column of a padded source is selected under no nullable, where these are the statement's own leaves.
 #[derive(Clone, Copy)]
-pub(crate) struct BarePadded<'s> {
-    pub select: Selection<'s>,
+pub(crate) struct BarePadded<'v, 's> {
+    pub select: SelectView<'s>,
+    pub own: &'v [Origin<'s>],
 }
 
-impl ClauseTest for BarePadded<'_> {
-    ghost holds = { λ t c. LacksNullable (select_of t.select) c };
+impl ClauseTest for BarePadded<'_, '_> {
+    ghost holds = { λ t c. LacksNullableAmong (map origin_of t.own.now) (select_of t.select) c };
 
     fn test(&self, alloc: Global, clause: &Clause<'_>) -> Result<bool, NoMemory> {
-        match clause.place {
-            Place::Selection | Place::DistinctOn => {
-                let own = own_view(alloc, self.select.source)?;
+        match clause.kind {
+            ClauseKind::Selection | ClauseKind::DistinctOn => {
                 let columns = bare(alloc, clause.expr)?;
-                Ok(any_padded(self.select, own.as_slice(), columns.as_slice()))
+                Ok(any_padded(self.select, self.own, columns.as_slice()))
             }
             _ => Ok(false),
         }

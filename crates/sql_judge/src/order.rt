@@ -10,16 +10,16 @@ ghost use Rattle.sql_rules.specs.Rules.{OrderDiffers};
 ghost use Rattle.sql_rules.specs.Scope.{flat, flat_of, flat_items};
 ghost use Rattle.sql_places.specs.Gathers.{Gathers};
 ghost use Rattle.sql_judge.specs.Keyed.{keyed};
-ghost use Rattle.sql_places.specs.Lent.{select_of};
+ghost use Rattle.sql_places.specs.Borrowed.{select_of};
 
 use sql_key::{QueryKey, expression_key};
 use sql_node::{DistinctClause, Expr, OrderItem};
-use sql_places::{Form, Selection};
+use sql_places::{Form, SelectView};
 use sql_schema::NoMemory;
 use std::alloc::{AllocError, Global};
 
 /// Appends the keys of an expression's elements, which stand under so many nullables. A number of nullables that no `usize` holds
-/// is want of memory.
+/// is an error: out of memory.
 #[cycle(keys)]
 fn push_keys(
     alloc: Global,
@@ -117,7 +117,7 @@ fn shapes_differ(alloc: Global, exprs: &Expr, items: &[OrderItem]) -> Result<boo
 }
 
 /// Whether an item of the order is not the expression of `DISTINCT ON` at its place.
-pub(crate) fn order_differs(alloc: Global, select: Selection<'_>) -> Result<bool, NoMemory>
+pub(crate) fn order_differs(alloc: Global, select: SelectView<'_>) -> Result<bool, NoMemory>
     ensures { IfOk result (λ b. Decides b
         (OrderDiffers (select_of select.entry).form (select_of select.entry).distinctness
         (select_of select.entry).order)) }

@@ -10,11 +10,11 @@ ghost use Rattle.sql_rules.specs.Rules.{IsBool, IsIllTyped, IsIllTypedClause};
 ghost use Rattle.sql_rules.specs.Scope.{flat, flat_of, nodes as nodes_in};
 ghost use Rattle.sql_rules.specs.Types.{type_of as type_in};
 ghost use Rattle.sql_places.specs.Claused.{clause_of};
-ghost use Rattle.sql_judge.specs.Misfits.{misfit};
+ghost use Rattle.sql_rules.specs.inside.Misfits.{misfit};
 
 use crate::test::ClauseTest;
 use sql_node::Expr;
-use sql_places::{Clause, Place, nodes};
+use sql_places::{Clause, ClauseKind, nodes};
 use sql_schema::{Base, NoMemory, SqlType};
 use sql_types::{fits, type_of};
 use std::alloc::Global;
@@ -96,12 +96,12 @@ impl ClauseTest for IllTyped {
     ghost holds = { λ t c. IsIllTypedClause c };
 
     fn test(&self, alloc: Global, clause: &Clause<'_>) -> Result<bool, NoMemory> {
-        match clause.place {
-            Place::Selection | Place::DistinctOn | Place::GroupBy => {
+        match clause.kind {
+            ClauseKind::Selection | ClauseKind::DistinctOn | ClauseKind::GroupBy => {
                 has_ill_typed(alloc, clause.expr)
             }
-            Place::OrderBy => is_ill_typed(alloc, clause.expr),
-            Place::On | Place::Where | Place::Having => {
+            ClauseKind::OrderBy => is_ill_typed(alloc, clause.expr),
+            ClauseKind::On | ClauseKind::Where | ClauseKind::Having => {
                 let ill_typed = is_ill_typed(alloc, clause.expr)?;
                 let other = is_no_condition(alloc, clause.expr)?;
                 Ok(ill_typed || other)

@@ -4,12 +4,12 @@
 ghost use Rattle.std.specs.Bool.{Decides};
 ghost use Rattle.sql_node.specs.View.{distinct_clause_tree, from_clause_tree, source_tree};
 ghost use Rattle.sql_rules.specs.Rules.{FromHasMarks, HasTableMarks, IsCombinationUnsupported, IsDistinctOn, IsMysql, IsNotPg, IsOffsetAlone, IsSelectUnsupported, IsUnboxed, LacksForm, LacksLock};
-ghost use Rattle.sql_places.specs.Lent.{combined_of, form_of, select_of};
+ghost use Rattle.sql_places.specs.Borrowed.{combined_of, form_of, select_of};
 
 use sql_dialect::{Backend, Dialect};
 use sql_leaf::{LimitOffsetClause, LockMode, LockingClause};
 use sql_node::{DistinctClause, FromClause, Source};
-use sql_places::{Combined, Form, Selection};
+use sql_places::{CombinationView, Form, SelectView};
 
 fn is_offset_alone(rows: LimitOffsetClause) -> bool
     ensures { Decides result (IsOffsetAlone rows) }
@@ -28,7 +28,7 @@ fn lacks_lock(dialect: Dialect, locking: LockingClause) -> bool
                 LockMode::ForUpdate | LockMode::ForShare => false,
                 LockMode::ForNoKeyUpdate | LockMode::ForKeyShare => true,
             },
-            Dialect::Sqlite => true,
+            Dialect::Sqlite | Dialect::Bracket => true,
         },
     }
 }
@@ -79,8 +79,7 @@ fn is_not_pg(dialect: Dialect) -> bool
 {
     match dialect {
         Dialect::Pg => false,
-        Dialect::Mysql => true,
-        Dialect::Sqlite => true,
+        Dialect::Mysql | Dialect::Sqlite | Dialect::Bracket => true,
     }
 }
 
@@ -88,9 +87,8 @@ fn is_mysql(dialect: Dialect) -> bool
     ensures { Decides result (IsMysql dialect) }
 {
     match dialect {
-        Dialect::Pg => false,
         Dialect::Mysql => true,
-        Dialect::Sqlite => false,
+        Dialect::Pg | Dialect::Sqlite | Dialect::Bracket => false,
     }
 }
 
@@ -104,7 +102,7 @@ pub(crate) fn is_unboxed(form: Form) -> bool
 }
 
 /// Whether the dialect lacks something that stands in a select statement.
-pub(crate) fn select_unsupported(dialect: Dialect, select: Selection<'_>) -> bool
+pub(crate) fn select_unsupported(dialect: Dialect, select: SelectView<'_>) -> bool
     ensures { Decides result (IsSelectUnsupported dialect (select_of select.entry)) }
 {
     (is_not_pg(dialect) && (is_distinct_on(select.distinct) || from_has_marks(select.source)))
@@ -113,7 +111,7 @@ pub(crate) fn select_unsupported(dialect: Dialect, select: Selection<'_>) -> boo
 }
 
 /// Whether the dialect lacks the combination, or its offset alone.
-pub(crate) fn combination_unsupported<DB: Backend>(backend: &DB, both: Combined<'_>) -> bool
+pub(crate) fn combination_unsupported<DB: Backend>(backend: &DB, both: CombinationView<'_>) -> bool
     ensures { Decides result (IsCombinationUnsupported DB.speaks (combined_of both.entry)) }
 {
     !backend.supports(both.combinator, both.duplicates)

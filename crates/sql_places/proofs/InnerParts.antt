@@ -6,7 +6,7 @@ use Rattle.sql_node.specs.declared.combination.CombinationClause.{CombinationCla
 use Rattle.sql_node.specs.declared.statement.SelectStatement.{SelectStatement}
 use Rattle.sql_node.proofs.Trees.{select_statement-out, boxed_select_statement-out, combination_clause-out}
 use Rattle.sql_rules.specs.Scope.{View, a_select, a_combination, origins_of, widest, parts}
-use Rattle.sql_places.specs.Lent.{select_record, boxed_record, combined_record}
+use Rattle.sql_places.specs.Borrowed.{select_record, boxed_record, combined_record}
 use Rattle.sql_places.specs.Inside.{inside}
 
 pub parts-select : (v : View) (s : SelectStatement) → parts v (select_statement_tree s) ≡

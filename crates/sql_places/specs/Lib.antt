@@ -1,6 +1,6 @@
--- What is lent, as what it is lent from; beside it what inner functions say (`select_record`, `boxed_record`, `combined_record`,
+-- Borrowed views as plain trees, and beside them what inner functions say (`select_record`, `boxed_record`, `combined_record`,
 -- `in_among`). What stands where in a statement is defined in `sql_rules` (`Scope`).
-pub mod Lent
+pub mod Borrowed
 pub mod Claused
 pub mod Parted
 -- Devices of proofs.

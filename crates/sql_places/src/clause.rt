@@ -7,9 +7,9 @@ ghost use Rattle.sql_source.specs.Lent.{origin_of};
 ghost use Rattle.sql_rules.specs.Scope.{clauses_by, distinct_clause, in_order_by, item_clauses, maybe_clause, ons, ons_of, order_clauses};
 ghost use Rattle.sql_places.specs.Gathers.{Gathers};
 ghost use Rattle.sql_places.specs.Claused.{clause_of, place_of};
-ghost use Rattle.sql_places.specs.Lent.{order_of, select_of};
+ghost use Rattle.sql_places.specs.Borrowed.{order_of, select_of};
 
-use crate::lent::Selection;
+use crate::borrowed::SelectView;
 use crate::view::origins_in_both;
 use sql_node::{DistinctClause, Expr, FromClause, JoinOn, OrderItem, Source};
 use sql_schema::NoMemory;
@@ -18,7 +18,7 @@ use std::alloc::Global;
 
 /// Where an expression stands.
 #[derive(Debug, Clone, Copy, PartialEq, Eq)]
-pub enum Place {
+pub enum ClauseKind {
     /// What is selected.
     Selection,
     /// `DISTINCT ON (..)`
@@ -38,7 +38,7 @@ pub enum Place {
 /// A clause, or one item of an order.
 #[derive(Drop)]
 pub struct Clause<'s> {
-    pub place: Place,
+    pub kind: ClauseKind,
     /// The leaves that its columns can be of.
     pub view: Vec<Origin<'s>>,
     pub expr: &'s Expr,
@@ -49,7 +49,7 @@ pub fn clauses<'s>(
     alloc: Global,
     own: &[Origin<'s>],
     widest: &[Origin<'s>],
-    select: Selection<'s>,
+    select: SelectView<'s>,
 ) -> Result<Vec<Clause<'s>>, NoMemory>
     ensures { IfOk result (λ v. map clause_of v.items
         ≡ clauses_by (map origin_of own.now) (map origin_of widest.now) (select_of select.entry)) }
@@ -63,7 +63,7 @@ fn gather_clauses<'s>(
     alloc: Global,
     own: &[Origin<'s>],
     widest: &[Origin<'s>],
-    select: Selection<'s>,
+    select: SelectView<'s>,
     all: &mut Vec<Clause<'s>>,
 ) -> Result<(), NoMemory>
     ensures { Gathers clause_of all.old.items
@@ -71,24 +71,24 @@ fn gather_clauses<'s>(
         result all.new.items }
 {
     gather_distinct(alloc, own, select.distinct, all)?;
-    gather_clause(alloc, Place::Selection, own, select.selection, all)?;
+    gather_clause(alloc, ClauseKind::Selection, own, select.selection, all)?;
     gather_ons_of(alloc, select.source, all)?;
-    gather_maybe(alloc, Place::Where, widest, select.condition, all)?;
-    gather_maybe(alloc, Place::GroupBy, own, select.group_by, all)?;
-    gather_maybe(alloc, Place::Having, own, select.having, all)?;
+    gather_maybe(alloc, ClauseKind::Where, widest, select.condition, all)?;
+    gather_maybe(alloc, ClauseKind::GroupBy, own, select.group_by, all)?;
+    gather_maybe(alloc, ClauseKind::Having, own, select.having, all)?;
     gather_order(alloc, own, select.order, all)
 }
 
 fn gather_clause<'s>(
     alloc: Global,
-    place: Place,
+    kind: ClauseKind,
     view: &[Origin<'s>],
     expr: &'s Expr,
     all: &mut Vec<Clause<'s>>,
 ) -> Result<(), NoMemory>
     ensures { Gathers clause_of all.old.items
         ((record {
-          place = place_of place;
+          place = place_of kind;
           view = map origin_of view.now;
           expr = expr_tree expr.now;
         })
@@ -96,25 +96,25 @@ fn gather_clause<'s>(
         result all.new.items }
 {
     let view = Vec::from_slice(alloc, view)?;
-    all.push(Clause { place, view, expr })?;
+    all.push(Clause { kind, view, expr })?;
     Ok(())
 }
 
 fn gather_maybe<'s>(
     alloc: Global,
-    place: Place,
+    kind: ClauseKind,
     view: &[Origin<'s>],
     expr: Option<&'s Expr>,
     all: &mut Vec<Clause<'s>>,
 ) -> Result<(), NoMemory>
     ensures { Gathers clause_of all.old.items
-        (maybe_clause (place_of place) (map origin_of view.now)
+        (maybe_clause (place_of kind) (map origin_of view.now)
         (maybe_of (option_map (λ e. expr_tree e.now) expr.entry)))
         result all.new.items }
 {
     match expr {
         None => Ok(()),
-        Some(expr) => gather_clause(alloc, place, view, expr, all),
+        Some(expr) => gather_clause(alloc, kind, view, expr, all),
     }
 }
 
@@ -131,7 +131,7 @@ fn gather_distinct<'s>(
     match distinct {
         DistinctClause::NoDistinctClause | DistinctClause::DistinctClause => Ok(()),
         DistinctClause::DistinctOnClause(expr) => {
-            gather_clause(alloc, Place::DistinctOn, view, expr, all)
+            gather_clause(alloc, ClauseKind::DistinctOn, view, expr, all)
         }
     }
 }
@@ -174,7 +174,7 @@ fn gather_on<'s>(alloc: Global, join: &'s JoinOn, all: &mut Vec<Clause<'s>>) -> 
         None => Ok(()),
         Some(on) => {
             let view = origins_in_both(alloc, &join.join.left, &join.join.right)?;
-            gather_clause(alloc, Place::On, view.as_slice(), on, all)
+            gather_clause(alloc, ClauseKind::On, view.as_slice(), on, all)
         }
     }
 }
@@ -227,5 +227,5 @@ fn gather_item<'s>(
         ∷ [])
         result all.new.items }
 {
-    gather_clause(alloc, Place::OrderBy, view, &item.expr, all)
+    gather_clause(alloc, ClauseKind::OrderBy, view, &item.expr, all)
 }

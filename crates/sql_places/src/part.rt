@@ -7,10 +7,10 @@ ghost use Rattle.sql_source.specs.Lent.{origin_of};
 ghost use Rattle.sql_rules.specs.Scope.{in_distinct, in_expr, in_exprs, in_from, in_items, in_maybe, in_order, in_source, parts as parts_in};
 ghost use Rattle.sql_places.specs.Gathers.{Gathers};
 ghost use Rattle.sql_places.specs.Inside.{inside};
-ghost use Rattle.sql_places.specs.Lent.{boxed_record, select_record};
+ghost use Rattle.sql_places.specs.Borrowed.{boxed_record, select_record};
 ghost use Rattle.sql_places.specs.Parted.{part_of, in_among};
 
-use crate::lent::{Combined, Form, Selection};
+use crate::borrowed::{CombinationView, Form, SelectView};
 use crate::view::{origins_in_both, own_view, widest_view};
 use sql_node::{
     BoxedSelectStatement, CombinationClause, DistinctClause, Expr, FromClause, GroupByClause,
@@ -23,15 +23,15 @@ use std::alloc::Global;
 
 /// A statement inside a statement; of a select statement also what the clause around it sees.
 #[derive(Drop)]
-pub enum Part<'s> {
+pub enum Inner<'s> {
     /// What the clause around it sees, and the select statement.
-    Select(Vec<Origin<'s>>, Selection<'s>),
-    /// A combination, whose sides stand behind it.
-    Combination(Combined<'s>),
+    Select(Vec<Origin<'s>>, SelectView<'s>),
+    /// A combination, whose sides come after it.
+    Combination(CombinationView<'s>),
 }
 
 /// The statement and those inside it.
-pub fn parts<'s>(alloc: Global, statement: &'s Statement) -> Result<Vec<Part<'s>>, NoMemory>
+pub fn parts<'s>(alloc: Global, statement: &'s Statement) -> Result<Vec<Inner<'s>>, NoMemory>
     ensures { IfOk result (λ v. map part_of v.items ≡ parts_in [] (statement_tree statement.now)) }
 {
     let mut all = Vec::new(alloc);
@@ -45,7 +45,7 @@ fn gather_expr<'s>(
     alloc: Global,
     view: &[Origin<'s>],
     expr: &'s Expr,
-    all: &mut Vec<Part<'s>>,
+    all: &mut Vec<Inner<'s>>,
 ) -> Result<(), NoMemory>
     ensures { Gathers part_of all.old.items (in_expr (map origin_of view.now) (expr_tree expr.now))
         result all.new.items }
@@ -79,7 +79,7 @@ fn gather_among<'s>(
     alloc: Global,
     view: &[Origin<'s>],
     among: &'s InValues,
-    all: &mut Vec<Part<'s>>,
+    all: &mut Vec<Inner<'s>>,
 ) -> Result<(), NoMemory>
     ensures { Gathers part_of all.old.items
         (in_among (map origin_of view.now) (in_values_tree among.now)) result all.new.items }
@@ -95,7 +95,7 @@ fn gather_exprs<'s>(
     alloc: Global,
     view: &[Origin<'s>],
     exprs: &'s [Expr],
-    all: &mut Vec<Part<'s>>,
+    all: &mut Vec<Inner<'s>>,
 ) -> Result<(), NoMemory>
     ensures { Gathers part_of all.old.items
         (in_exprs (map origin_of view.now) (exprs_of (map expr_tree exprs.now))) result
@@ -112,7 +112,7 @@ fn gather_items<'s>(
     alloc: Global,
     view: &[Origin<'s>],
     items: &'s [OrderItem],
-    all: &mut Vec<Part<'s>>,
+    all: &mut Vec<Inner<'s>>,
 ) -> Result<(), NoMemory>
     ensures { Gathers part_of all.old.items
         (in_items (map origin_of view.now) (items_of (map order_item_tree items.now))) result
@@ -129,7 +129,7 @@ fn gather_item<'s>(
     alloc: Global,
     view: &[Origin<'s>],
     item: &'s OrderItem,
-    all: &mut Vec<Part<'s>>,
+    all: &mut Vec<Inner<'s>>,
 ) -> Result<(), NoMemory>
     ensures { Gathers part_of all.old.items
         (in_expr (map origin_of view.now) (order_item_tree item.now).0) result all.new.items }
@@ -142,7 +142,7 @@ fn gather_order<'s>(
     alloc: Global,
     view: &[Origin<'s>],
     order: &'s OrderClause,
-    all: &mut Vec<Part<'s>>,
+    all: &mut Vec<Inner<'s>>,
 ) -> Result<(), NoMemory>
     ensures { Gathers part_of all.old.items
         (in_order (map origin_of view.now) (order_clause_tree order.now)) result all.new.items }
@@ -158,7 +158,7 @@ fn gather_distinct<'s>(
     alloc: Global,
     view: &[Origin<'s>],
     distinct: &'s DistinctClause,
-    all: &mut Vec<Part<'s>>,
+    all: &mut Vec<Inner<'s>>,
 ) -> Result<(), NoMemory>
     ensures { Gathers part_of all.old.items
         (in_distinct (map origin_of view.now) (distinct_clause_tree distinct.now)) result
@@ -175,7 +175,7 @@ fn gather_select_clause<'s>(
     alloc: Global,
     view: &[Origin<'s>],
     select: &'s SelectClause,
-    all: &mut Vec<Part<'s>>,
+    all: &mut Vec<Inner<'s>>,
 ) -> Result<(), NoMemory>
     ensures { Gathers part_of all.old.items
         (in_expr (map origin_of view.now) (select_clause_tree select.now).1) result all.new.items }
@@ -191,7 +191,7 @@ fn gather_where<'s>(
     alloc: Global,
     view: &[Origin<'s>],
     condition: &'s WhereClause,
-    all: &mut Vec<Part<'s>>,
+    all: &mut Vec<Inner<'s>>,
 ) -> Result<(), NoMemory>
     ensures { Gathers part_of all.old.items
         (in_maybe (map origin_of view.now) (where_clause_tree condition.now)) result all.new.items }
@@ -207,7 +207,7 @@ fn gather_group_by<'s>(
     alloc: Global,
     view: &[Origin<'s>],
     group_by: &'s GroupByClause,
-    all: &mut Vec<Part<'s>>,
+    all: &mut Vec<Inner<'s>>,
 ) -> Result<(), NoMemory>
     ensures { Gathers part_of all.old.items
         (in_maybe (map origin_of view.now) (group_by_clause_tree group_by.now)) result
@@ -224,7 +224,7 @@ fn gather_having<'s>(
     alloc: Global,
     view: &[Origin<'s>],
     having: &'s HavingClause,
-    all: &mut Vec<Part<'s>>,
+    all: &mut Vec<Inner<'s>>,
 ) -> Result<(), NoMemory>
     ensures { Gathers part_of all.old.items
         (in_maybe (map origin_of view.now) (having_clause_tree having.now)) result all.new.items }
@@ -239,7 +239,7 @@ fn gather_having<'s>(
 fn gather_source<'s>(
     alloc: Global,
     source: &'s Source,
-    all: &mut Vec<Part<'s>>,
+    all: &mut Vec<Inner<'s>>,
 ) -> Result<(), NoMemory>
     ensures { Gathers part_of all.old.items (in_source (source_tree source.now)) result
         all.new.items }
@@ -253,7 +253,11 @@ fn gather_source<'s>(
 /// Those of both sides, and those of the condition, which sees both.
 #[tactic(auto, using(sql_node::proofs::Trees::opens_join_on, sql_node::proofs::Trees::opens_join, crate::proofs::Gathering::gathering))]
 #[cycle(parts)]
-fn gather_join<'s>(alloc: Global, join: &'s JoinOn, all: &mut Vec<Part<'s>>) -> Result<(), NoMemory>
+fn gather_join<'s>(
+    alloc: Global,
+    join: &'s JoinOn,
+    all: &mut Vec<Inner<'s>>,
+) -> Result<(), NoMemory>
     ensures { Gathers part_of all.old.items (in_source (join_on_tree join.now)) result
         all.new.items }
 {
@@ -272,7 +276,7 @@ fn gather_join<'s>(alloc: Global, join: &'s JoinOn, all: &mut Vec<Part<'s>>) -> 
 fn gather_from<'s>(
     alloc: Global,
     from: &'s FromClause,
-    all: &mut Vec<Part<'s>>,
+    all: &mut Vec<Inner<'s>>,
 ) -> Result<(), NoMemory>
     ensures { Gathers part_of all.old.items (in_from (from_clause_tree from.now)) result
         all.new.items }
@@ -288,7 +292,7 @@ fn gather_statement<'s>(
     alloc: Global,
     outer: &[Origin<'s>],
     statement: &'s Statement,
-    all: &mut Vec<Part<'s>>,
+    all: &mut Vec<Inner<'s>>,
 ) -> Result<(), NoMemory>
     ensures { Gathers part_of all.old.items
         (parts_in (map origin_of outer.now) (statement_tree statement.now)) result all.new.items }
@@ -305,7 +309,7 @@ fn gather_select<'s>(
     alloc: Global,
     outer: &[Origin<'s>],
     statement: &'s SelectStatement,
-    all: &mut Vec<Part<'s>>,
+    all: &mut Vec<Inner<'s>>,
 ) -> Result<(), NoMemory>
     ensures { Gathers part_of all.old.items
         (parts_in (map origin_of outer.now) (select_statement_tree statement.now)) result
@@ -315,7 +319,7 @@ fn gather_select<'s>(
     let own = own_view(alloc, &statement.from)?;
     let form = Form::Unboxed(statement.locking);
     let widest = widest_view(alloc, outer, form, &statement.from)?;
-    all.push(Part::Select(around, Selection::of_select(statement)))?;
+    all.push(Inner::Select(around, SelectView::of_select(statement)))?;
     gather_in_select(alloc, own.as_slice(), widest.as_slice(), statement, all)
 }
 
@@ -325,7 +329,7 @@ fn gather_in_select<'s>(
     own: &[Origin<'s>],
     widest: &[Origin<'s>],
     statement: &'s SelectStatement,
-    all: &mut Vec<Part<'s>>,
+    all: &mut Vec<Inner<'s>>,
 ) -> Result<(), NoMemory>
     ensures { Gathers part_of all.old.items
         (inside (map origin_of own.now) (map origin_of widest.now) (select_record statement.now))
@@ -345,7 +349,7 @@ fn gather_boxed<'s>(
     alloc: Global,
     outer: &[Origin<'s>],
     statement: &'s BoxedSelectStatement,
-    all: &mut Vec<Part<'s>>,
+    all: &mut Vec<Inner<'s>>,
 ) -> Result<(), NoMemory>
     ensures { Gathers part_of all.old.items
         (parts_in (map origin_of outer.now) (boxed_select_statement_tree statement.now)) result
@@ -353,7 +357,7 @@ fn gather_boxed<'s>(
 {
     let around = Vec::from_slice(alloc, outer)?;
     let own = own_view(alloc, &statement.from)?;
-    all.push(Part::Select(around, Selection::of_boxed(statement)))?;
+    all.push(Inner::Select(around, SelectView::of_boxed(statement)))?;
     gather_in_boxed(alloc, own.as_slice(), statement, all)
 }
 
@@ -363,7 +367,7 @@ fn gather_in_boxed<'s>(
     alloc: Global,
     own: &[Origin<'s>],
     statement: &'s BoxedSelectStatement,
-    all: &mut Vec<Part<'s>>,
+    all: &mut Vec<Inner<'s>>,
 ) -> Result<(), NoMemory>
     ensures { Gathers part_of all.old.items
         (inside (map origin_of own.now) (map origin_of own.now) (boxed_record statement.now)) result
@@ -384,13 +388,13 @@ fn gather_combination<'s>(
     alloc: Global,
     outer: &[Origin<'s>],
     both: &'s CombinationClause,
-    all: &mut Vec<Part<'s>>,
+    all: &mut Vec<Inner<'s>>,
 ) -> Result<(), NoMemory>
     ensures { Gathers part_of all.old.items
         (parts_in (map origin_of outer.now) (combination_clause_tree both.now)) result
         all.new.items }
 {
-    all.push(Part::Combination(Combined::of_combination(both)))?;
+    all.push(Inner::Combination(CombinationView::of_combination(both)))?;
     gather_statement(alloc, outer, &both.source, all)?;
     gather_statement(alloc, outer, &both.rhs, all)
 }

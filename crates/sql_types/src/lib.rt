@@ -4,5 +4,5 @@
 mod binds;
 mod types;
 
-pub use binds::has_too_many_binds;
+pub use binds::{are_too_many, has_too_many_binds};
 pub use types::{columns, fits, type_of};

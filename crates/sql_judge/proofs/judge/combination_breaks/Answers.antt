@@ -1,7 +1,7 @@
 use Rattle.std.proofs.Common.{IfOk, sym, subst}
 use Rattle.std.specs.Bool.{Decides}
 use Rattle.sql_rules.specs.Rules.{CombinationBreaks}
-use Rattle.sql_places.specs.Lent.{combined_of}
+use Rattle.sql_places.specs.Borrowed.{combined_of}
 use Rattle.sql_judge.proofs.judge.combination_breaks.Goals as goal
 
 pub returns-in-TypeMismatch : goal.returns-in-TypeMismatch

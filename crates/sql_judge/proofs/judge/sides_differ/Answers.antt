@@ -1,6 +1,6 @@
 use Rattle.std.proofs.Common.{sym, ◌∙◌}
 use Rattle.std.proofs.lemmas.Bool.Decides.{Decides-like}
-use Rattle.sql_judge.proofs.SameTypes.{types-differ}
+use Rattle.sql_rules.proofs.SameTypes.{types-differ}
 use Rattle.sql_judge.proofs.judge.sides_differ.Goals as goal
 
 pub returns : goal.returns

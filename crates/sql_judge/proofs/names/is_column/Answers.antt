@@ -1,7 +1,7 @@
 use Rattle.std.proofs.Common.{ap, ◌∙◌}
 use Rattle.std.specs.List.{list_any}
-use Rattle.sql_judge.specs.Columns.{same_column}
-use Rattle.sql_judge.proofs.Tests.{column-any-test}
+use Rattle.sql_source.specs.Origins.{same_column}
+use Rattle.sql_rules.proofs.Tests.{column-any-test}
 use Rattle.sql_judge.proofs.names.is_column.Goals as goal
 
 pub returns : goal.returns

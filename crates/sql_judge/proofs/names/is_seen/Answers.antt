@@ -1,8 +1,8 @@
 use Rattle.std.proofs.Common.{◌≡◌, refl, sym, ◌∙◌}
 use Rattle.std.proofs.lemmas.Bool.{false≢true}
 use Rattle.sql_source.specs.Lent.{origin_of}
-use Rattle.sql_judge.proofs.Loops.{here_any, step_any}
-use Rattle.sql_judge.proofs.Tests.{origin-decides}
+use Rattle.sql_rules.proofs.Loops.{here_any, step_any}
+use Rattle.sql_source.proofs.OriginLaws.{origin-decides}
 use Rattle.sql_judge.proofs.names.is_seen.Goals as goal
 
 pub returns-then-is_same : goal.returns-then-is_same

@@ -1,7 +1,7 @@
 use Rattle.std.proofs.Common.{ap, ◌∙◌}
 use Rattle.std.specs.List.{list_any}
 use Rattle.sql_source.specs.Origins.{same_table}
-use Rattle.sql_judge.proofs.Tests.{table-any-test}
+use Rattle.sql_rules.proofs.Tests.{table-any-test}
 use Rattle.sql_judge.proofs.names.is_table.Goals as goal
 
 pub returns : goal.returns

@@ -1,5 +1,5 @@
 use Rattle.sql_source.specs.Lent.{origin_of}
-use Rattle.sql_judge.proofs.Tests.{leaf-test}
+use Rattle.sql_rules.proofs.Tests.{leaf-test}
 use Rattle.sql_judge.proofs.nullable.is_leaf.Goals as goal
 
 pub returns : goal.returns

@@ -1,6 +1,6 @@
 use Rattle.std.proofs.Common.{refl}
 use Rattle.sql_places.specs.Claused.{clause_of}
-use Rattle.sql_judge.proofs.Loops.{here_any}
+use Rattle.sql_rules.proofs.Loops.{here_any}
 use Rattle.sql_judge.proofs.test.any_clause.Goals as goal
 
 pub returns-then-branch : goal.returns-then-branch

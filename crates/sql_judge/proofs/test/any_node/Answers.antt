@@ -1,7 +1,7 @@
 use Rattle.std.proofs.Common.{map, refl}
 use Rattle.sql_node.specs.View.{expr_tree}
 use Rattle.sql_source.specs.Lent.{origin_of}
-use Rattle.sql_judge.proofs.Loops.{here_any}
+use Rattle.sql_rules.proofs.Loops.{here_any}
 use Rattle.sql_judge.proofs.test.any_node.Goals as goal
 
 pub returns-then-test : goal.returns-then-test

@@ -1,7 +1,7 @@
 use Rattle.std.proofs.Common.{◌+◌, refl}
 use Rattle.std.proofs.lemmas.List.{take_rest}
 use Rattle.sql_source.specs.Lent.{origin_of}
-use Rattle.sql_judge.proofs.Loops.{here_pair}
+use Rattle.sql_rules.proofs.Loops.{here_pair}
 use Rattle.sql_judge.proofs.test.any_pair.Goals as goal
 
 pub returns-then-any_right : goal.returns-then-any_right

@@ -1,6 +1,6 @@
 use Rattle.std.proofs.Common.{refl}
 use Rattle.sql_source.specs.Lent.{origin_of}
-use Rattle.sql_judge.proofs.Loops.{here_any}
+use Rattle.sql_rules.proofs.Loops.{here_any}
 use Rattle.sql_judge.proofs.test.any_right.Goals as goal
 
 pub returns-then-test : goal.returns-then-test

@@ -7,9 +7,9 @@ use Rattle.sql_node.specs.View.{expr_tree, exprs_of}
 use Rattle.sql_rules.specs.Lists.{AnyOf}
 use Rattle.sql_rules.specs.Rules.{IsIllTyped}
 use Rattle.sql_rules.specs.Scope.{flat, flat_of, nodes}
-use Rattle.sql_judge.proofs.Loops.{step_given, here_given, end_given}
+use Rattle.sql_rules.proofs.Loops.{step_given, here_given, end_given}
 use Rattle.sql_judge.proofs.Answered.{ok-like}
-use Rattle.sql_judge.proofs.TypeLaws.{flat-nullable}
+use Rattle.sql_rules.proofs.TypeLaws.{flat-nullable}
 use Rattle.sql_judge.proofs.typing.+elements.Goals as goal
 
 pub any_ill_typed-returns-then-branch : goal.any_ill_typed-returns-then-branch

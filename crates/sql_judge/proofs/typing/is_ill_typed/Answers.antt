@@ -5,8 +5,8 @@ use Rattle.std.proofs.lemmas.Bool.Decides.{Decides-at}
 use Rattle.sql_node.specs.View.{expr_tree}
 use Rattle.sql_rules.specs.Scope.{nodes}
 use Rattle.sql_rules.specs.Types.{type_of}
-use Rattle.sql_judge.specs.Misfits.{misfit}
-use Rattle.sql_judge.proofs.TypeLaws.{any-mapped, ill_typed, ill_typed-decides, none-test}
+use Rattle.sql_rules.specs.inside.Misfits.{misfit}
+use Rattle.sql_rules.proofs.TypeLaws.{any-mapped, ill_typed, ill_typed-decides, none-test}
 use Rattle.sql_judge.proofs.typing.is_ill_typed.Goals as goal
 use Rattle.sql_judge.proofs.typing.is_ill_typed.Goals.{then-is_none, else-is_none}
 

@@ -1,5 +1,5 @@
 use Rattle.sql_source.specs.Lent.{origin_of}
-use Rattle.sql_judge.proofs.Tests.{both-test}
+use Rattle.sql_rules.proofs.Tests.{both-test}
 use Rattle.sql_judge.proofs.nullable.BothPairTest.test.Goals as goal
 
 pub returns : goal.returns

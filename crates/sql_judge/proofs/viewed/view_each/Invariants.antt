@@ -1,0 +1,11 @@
+use Rattle.std.proofs.Common.{◌≡◌, map}
+use Rattle.sql_rules.specs.Lists.{Each}
+use Rattle.sql_places.specs.Parted.{part_of}
+use Rattle.sql_judge.specs.Viewed.{IsViewed, viewed_part}
+use Rattle.sql_judge.proofs.viewed.view_each.Given as goal
+
+abbrev pub invariant-loop-part : goal.invariant-loop-part
+invariant-loop-part l = record {
+  whole : Each IsViewed l.all.items;
+  parts : map viewed_part l.all.items ≡ map part_of l.yielded;
+}

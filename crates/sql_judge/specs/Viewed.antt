@@ -1,0 +1,30 @@
+-- What the tests of rules look at, gathered once for each statement inside a statement.
+use Rattle.std.specs.Prelude.{◌≡◌, map}
+use Rattle.sql_source.specs.Lent.{origin_of}
+use Rattle.sql_rules.specs.Scope as scope
+use Rattle.sql_rules.specs.Scope.{a_select, a_combination}
+use Rattle.sql_places.specs.Claused.{clause_of}
+use Rattle.sql_places.specs.Borrowed.{combined_of, select_of}
+use Rattle.sql_judge.specs.declared.viewed.Viewed.{Viewed}
+use Rattle.sql_judge.specs.declared.viewed.Viewed.TheVariants as L
+use Rattle.sql_judge.specs.declared.viewed.ViewedSelect.{ViewedSelect}
+
+abbrev pub viewed_outer : ViewedSelect → scope.View
+viewed_outer s = map origin_of s.outer.items
+
+abbrev pub viewed_select : ViewedSelect → scope.Select
+viewed_select s = select_of s.select
+
+-- its own leaves, what its condition sees, and its clauses
+pub record IsWhole (s : ViewedSelect) : Type 0 where
+  pub own : map origin_of s.own.items ≡ scope.own (viewed_select s)
+  pub widest : map origin_of s.widest.items ≡ scope.widest (viewed_select s).form (viewed_select s).source (viewed_outer s)
+  pub clauses : map clause_of s.clauses.items ≡ scope.clauses (viewed_outer s) (viewed_select s)
+
+abbrev pub viewed_part : Viewed → scope.Part
+viewed_part (L.Select s) = a_select (viewed_outer s) (viewed_select s)
+viewed_part (L.Combination c) = a_combination (combined_of c)
+
+abbrev pub IsViewed : Viewed → Type 0
+IsViewed (L.Select s) = IsWhole s
+IsViewed (L.Combination c) = Unit {0}
