@@ -1,56 +1,17 @@
 -- Each column of a statement that breaks no rule has a type.
-use Rattle.std.proofs.Common.{◌≡◌, List, [], ◌∷◌, ◌++◌, map, Option, None, Some, Bool, true, false, refl, sym, ap, ◌∙◌, subst, inl, inr}
-use Rattle.std.proofs.lemmas.List.{map-append}
+use Rattle.std.proofs.Common.{◌≡◌, List, [], ◌∷◌, map, Option, None, Some, true, false, refl, sym, ap, subst, inl, inr}
 use Rattle.sql_schema.specs.Declarations.{Declarations}
 use Rattle.sql_schema.specs.declared.types.SqlType.{SqlType}
 use Rattle.sql_dialect.specs.declared.backend.Dialect.{Dialect}
-use Rattle.sql_node.specs.Tree.{Form, unboxed, boxed, Expr, column, value, list, count_star, nullable, not_of, null_test, count, compared, joined, exists, single, among_values, among_rows, Exprs, no_exprs, more_exprs, Statement, select, combination}
+use Rattle.sql_node.specs.Tree.{Form, unboxed, boxed, Expr, column, value, list, count_star, nullable, not_of, null_test, count, compared, joined, exists, single, among_values, among_rows, Statement, select, combination}
 use Rattle.sql_rules.specs.Lists.{AnyOf, Each}
 use Rattle.sql_rules.specs.Rules.{Accepted, PartBreaks, IsIllTyped, IsIllTypedClause}
-use Rattle.sql_rules.specs.Scope.{View, Clause, parts, flat, flat_of, nodes, own, distinct_clause}
-use Rattle.sql_rules.specs.Types.{Given, one, many, given, given_each, element_types, only_type, all_nullable, as_nullable, type_of, columns, form_columns}
+use Rattle.sql_rules.specs.Scope.{View, parts, flat, nodes, distinct_clause}
+use Rattle.sql_rules.specs.Types.{given, element_types, as_nullable, type_of, columns, form_columns}
 use Rattle.sql_rules.specs.declared.rule.Rule.TheVariants as R
 use Rattle.sql_rules.proofs.Lists.{any_left, any_right}
+use Rattle.sql_rules.proofs.Nulled.{elements}
 use Rattle.sql_check.specs.Typed.{known}
-
--- ---- the types of a list are those of its elements
-
-nulled_one : (g : Given) → as_nullable (only_type g) ≡ only_type (all_nullable g)
-nulled_one (one t) = refl
-nulled_one (many ts) = refl
-
-nulled_elements : (g : Given) → element_types (all_nullable g) ≡ map as_nullable (element_types g)
-nulled_elements (one t) = refl
-nulled_elements (many ts) = refl
-
-nulled_each : (es : List Expr) → map as_nullable (map type_of es) ≡ map type_of (map nullable es)
-nulled_each [] = refl
-nulled_each (e ∷ es) =
-    ap (λ t. t ∷ map as_nullable (map type_of es)) (nulled_one (given e))
-    ∙ ap (λ ts. type_of (nullable e) ∷ ts) (nulled_each es)
-
-mutual
-  elements : (e : Expr) → element_types (given e) ≡ map type_of (flat e)
-  elements (list es) = elements_of es
-  elements (nullable e) = nulled_elements (given e) ∙ (ap (map as_nullable) (elements e) ∙ nulled_each (flat e))
-  elements (column o c) = refl
-  elements (value t x) = refl
-  elements count_star = refl
-  elements (not_of e) = refl
-  elements (null_test n e) = refl
-  elements (count e) = refl
-  elements (compared by a b) = refl
-  elements (joined by a b) = refl
-  elements (exists q) = refl
-  elements (single q) = refl
-  elements (among_values n e t xs) = refl
-  elements (among_rows n e q) = refl
-
-  elements_of : (es : Exprs) → given_each es ≡ map type_of (flat_of es)
-  elements_of no_exprs = refl
-  elements_of (more_exprs e es) =
-      ap (λ ts. ts ++ given_each es) (elements e)
-      ∙ (ap (λ ts. map type_of (flat e) ++ ts) (elements_of es) ∙ sym (map-append type_of (flat e) (flat_of es)))
 
 -- ---- types that are there
 

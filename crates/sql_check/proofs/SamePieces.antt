@@ -1,18 +1,18 @@
 -- A boxed statement has the pieces of the statement as it stands, where rules are broken by neither.
-use Rattle.std.proofs.Common.{◌≡◌, ◌≢◌, ℤ, Bool, true, false, List, [], ◌++◌, Option, None, Some, ◌||◌, refl, ap, sym, ◌∙◌, inl, inr}
+use Rattle.std.proofs.Common.{◌≡◌, ◌≢◌, ℤ, Bool, true, false, List, ◌++◌, Option, None, Some, ◌||◌, refl, ap, sym, ◌∙◌, inl, inr}
 use Rattle.std.specs.Prelude.{IsTrue, codes}
 use Rattle.std.proofs.lemmas.List.{append-nil}
 use Rattle.sql_schema.specs.Declarations.{Declarations}
 use Rattle.sql_dialect.specs.declared.backend.Dialect.{Dialect}
-use Rattle.sql_dialect.specs.declared.backend.Dialect.TheVariants.{Pg, Mysql, Sqlite}
+use Rattle.sql_dialect.specs.declared.backend.Dialect.TheVariants.{Pg, Mysql, Sqlite, Bracket}
 use Rattle.sql_pass.specs.Pieces.{Piece, Text, one}
 use Rattle.sql_leaf.specs.Limits.{limit_offset_pieces}
 use Rattle.sql_leaf.specs.declared.locking.LockingClause.TheVariants.{NoLockingClause, LockingClause as Locked}
 use Rattle.sql_leaf.specs.declared.marks.Marks.{Marks}
 use Rattle.sql_node.specs.Pieces.{pieces, expr_pieces, from_pieces, distinct_pieces, maybe_pieces, order_pieces, group_by}
 use Rattle.sql_node.specs.Tree.{Form, unboxed, boxed}
-use Rattle.sql_key.specs.Shape.{has_id}
-use Rattle.sql_select.specs.Changes.{boxed_for, dropped_lock}
+use Rattle.sql_key.specs.Ids.{has_id}
+use Rattle.sql_select.specs.Changes.{boxed_for}
 use Rattle.sql_select.specs.Clauses.{Clauses, statement_of}
 use Rattle.sql_rules.specs.Rules.{Accepted, IsMysql, misuse}
 use Rattle.sql_rules.specs.declared.rule.Rule.TheVariants as R
@@ -35,6 +35,7 @@ same_page d None None h = refl
 same_page Pg None (Some o) h = refl
 same_page Mysql None (Some o) h = absurd (h (tt, (refl, some-none o)))
 same_page Sqlite None (Some o) h = refl
+same_page Bracket None (Some o) h = refl
 same_page d (Some l) None h = refl
 same_page d (Some l) (Some o) h = refl
 

@@ -1,21 +1,24 @@
--- What is told of a statement that breaks no rule, and how that is read.
-use Rattle.std.specs.Prelude.{◌≡◌, ◌++◌, ℕ, List, [], ◌∷◌, map, length, Bool, Option, Some, string_bytes}
+-- What the answer says of a statement that breaks no rule, and how that is read.
+use Rattle.std.specs.Prelude.{◌≡◌, ◌++◌, ℕ, List, [], ◌∷◌, map, length, Some}
 use Rattle.sql_schema.specs.Declarations.{Declarations}
 use Rattle.sql_schema.specs.declared.types.SqlType.{SqlType}
 use Rattle.sql_dialect.specs.declared.backend.Dialect.{Dialect}
 use Rattle.sql_grammar.specs.Numbering.{Fills}
 use Rattle.sql_grammar.specs.Reading.{OnlyReading}
 use Rattle.sql_grammar.specs.Values.{values_query}
-use Rattle.sql_pass.specs.Pieces.{text_of, values_of, is_safe}
+use Rattle.sql_pass.specs.Pieces.{text_of, values_of}
 use Rattle.sql_pass.specs.declared.value.Bound.{Bound}
 use Rattle.sql_key.specs.Keys.{id_of}
 use Rattle.sql_node.specs.Pieces.{pieces}
 use Rattle.sql_node.specs.Tree.{Statement}
 use Rattle.sql_reading.specs.Filled.{filled, normal}
 use Rattle.sql_rules.specs.Lists.{Each}
-use Rattle.sql_rules.specs.Names.{EachExpr, IsNamed}
+use Rattle.sql_rules.specs.Names.{IsNamed}
 use Rattle.sql_rules.specs.Rules.{Accepted, Broken, all_rules}
+use Rattle.sql_rules.specs.Scope.{EachNode}
 use Rattle.sql_rules.specs.Types.{columns}
+-- whether it serves for other values, once it is prepared
+pub use Rattle.sql_rules.specs.Safety.{is_safe_in}
 use Rattle.sql_rules.specs.declared.rule.Rule.{Rule}
 use Rattle.sql_check.specs.declared.built.Built.{Built}
 
@@ -27,16 +30,12 @@ sql_of d s = text_of d 0 (pieces d s)
 abbrev pub binds_of : Dialect → Statement → List Bound
 binds_of d s = values_of (pieces d s)
 
--- whether it serves for other values, once it is prepared
-abbrev pub is_safe_in : Dialect → Statement → Bool
-is_safe_in d s = is_safe (pieces d s)
-
--- The statement breaks no rule, and this is told of it: each column of its answer has a type.
+-- The statement breaks no rule, and the answer says this of it: each column has a type.
 pub record IsBuilt (schema : Declarations) (d : Dialect) (s : Statement) (built : Built) : Type 0 where
   pub accepted : Accepted schema d s
-  pub sql : string_bytes built.sql ≡ sql_of d s
-  pub binds : built.binds.items ≡ binds_of d s
-  pub sql_types : map Some built.sql_types.items ≡ columns s
+  pub sql : built.sql ≡ sql_of d s
+  pub binds : built.binds ≡ binds_of d s
+  pub sql_types : map Some built.sql_types ≡ columns s
   pub safe : built.safe ≡ is_safe_in d s
   pub id : built.id ≡ id_of s
 
@@ -46,7 +45,7 @@ pub record IsRead (d : Dialect) (s : Statement) (sql : List ℕ) (binds : List B
   pub reading : OnlyReading d sql (normal d s)
   pub as_many : length (values_query (normal d s)) ≡ length binds
   pub fills : Fills (normal d s) binds (filled d s)
-  pub named : EachExpr IsNamed s
+  pub named : EachNode IsNamed s
 
 -- The rule is broken, and none before it is.
 pub record IsLeast (r : Rule) (schema : Declarations) (d : Dialect) (s : Statement) : Type 0 where

@@ -1,4 +1,4 @@
--- What is told of a statement, and the types of its columns.
+-- What `compile` answers, and the types of a statement's columns.
 pub mod Compiled
 pub mod Errors
 pub mod Typed

@@ -1,36 +1,38 @@
-ghost use Rattle.std.specs.Prelude.{◌≡◌, Some, IfOk, IfErr, string_bytes};
+ghost use Rattle.std.specs.Prelude.{◌≡◌, None, Some, IfOk, IfErr, string_bytes};
 ghost use Rattle.sql_schema.specs.Declarations.{Declarations};
 ghost use Rattle.sql_node.specs.View.{statement_tree};
+ghost use Rattle.sql_judge.specs.First.{IsFirst, inner_rules};
 ghost use Rattle.sql_check.specs.Compiled.{IsBuilt, IsLeast, IsRead, sql_of};
 ghost use Rattle.sql_check.specs.Errors.{rule_of};
 ghost use Rattle.sql_check.specs.Typed.{known};
-ghost use Rattle.sql_rules.specs.Rules.{Accepted, HasTooManyBinds};
+ghost use Rattle.sql_rules.specs.Counted.{PlacesAreCounted};
+ghost use Rattle.sql_rules.specs.Rules.{Broken, HasTooManyBinds};
 ghost use Rattle.sql_rules.specs.declared.rule.Rule.{Rule};
 ghost use Rattle.sql_rules.specs.declared.rule.Rule.TheVariants as rule;
 
 use crate::error::CompileError;
 use sql_dialect::{Backend, QueryBuilder};
-use sql_judge::broken;
+use sql_judge::first_broken;
 use sql_key::{QueryId, QueryKey};
-use sql_law::{accepted_is_read, names_one_leaf};
+use sql_law::{accepted_are_read, names_one_leaf};
 use sql_node::Statement;
 use sql_pass::{Bound, PassError, QueryFragment, debug_binds};
-use sql_schema::{NoMemory, Schema, SqlType};
-use sql_types::columns;
+use sql_schema::{NoMemory, Schema, SqlList, SqlText, SqlType};
+use sql_types::{are_too_many, columns};
 use std::alloc::Global;
 
-/// What is told of a statement that breaks no rule.
+/// What `compile` answers of a statement that breaks no rule.
 #[derive(Drop)]
 pub struct Built {
     /// The text: `SELECT "users"."id" FROM "users" WHERE ("users"."id" = $1)`.
-    pub sql: String,
+    pub sql: SqlText,
     /// The values, in the order of their placeholders.
-    pub binds: Vec<Bound>,
+    pub binds: SqlList<Bound>,
     /// The type of each column of the answer.
-    pub sql_types: Vec<SqlType>,
+    pub sql_types: SqlList<SqlType>,
     /// Whether the statement, prepared once, serves for other values.
     pub safe: bool,
-    /// By what a cache knows the statement, where it has an id.
+    /// The key by which a cache finds the statement, where it has an id.
     pub id: Option<QueryKey>,
 }
 
@@ -66,38 +68,42 @@ fn known_types(alloc: Global, types: &[Option<SqlType>]) -> Result<Vec<SqlType>,
     Ok(all)
 }
 
-/// What is told of the statement, if it breaks no rule.
+/// The answer for a statement that breaks no rule but perhaps the last.
 fn build<DB: Backend>(
     alloc: Global,
     backend: &DB,
     statement: &Statement,
 ) -> Result<Built, CompileError>
     ensures built { IfOk result (λ b. (schema : Declarations)
-        → Accepted schema DB.speaks (statement_tree statement.now)
+        → IsFirst (λ r. Broken r schema DB.speaks (statement_tree statement.now)) inner_rules None
         → IsBuilt schema DB.speaks (statement_tree statement.now) b) }
     ensures read { IfOk result (λ b. (schema : Declarations)
-        → Accepted schema DB.speaks (statement_tree statement.now)
-        → IsRead DB.speaks (statement_tree statement.now) (string_bytes b.sql) b.binds.items) }
+        → IsFirst (λ r. Broken r schema DB.speaks (statement_tree statement.now)) inner_rules None
+        → PlacesAreCounted (statement_tree statement.now)
+        → IsRead DB.speaks (statement_tree statement.now) b.sql b.binds) }
     ensures refused { IfErr result (λ e. (r : Rule) → rule_of e ≡ Some r
         → (r ≡ rule.TooManyBinds) × HasTooManyBinds DB.speaks (statement_tree statement.now)) }
 {
     let sql = text(alloc, backend, statement)?;
     let binds = debug_binds(alloc, backend, statement)?;
+    if are_too_many(backend, binds.as_slice()) {
+        return Err(CompileError::TooManyBinds);
+    }
     let types = columns(alloc, statement)?;
     let sql_types = known_types(alloc, &types)?;
     let id = statement.query_id(alloc)?;
-    accepted_is_read(statement);
+    accepted_are_read();
     names_one_leaf();
     Ok(Built {
-        sql,
-        binds,
-        sql_types,
+        sql: SqlText::from(sql),
+        binds: SqlList::from(binds),
+        sql_types: SqlList::from(sql_types),
         safe: statement.is_safe_to_cache_prepared(backend),
         id,
     })
 }
 
-/// What is told of a statement that breaks no rule, or the first rule that it breaks.
+/// Compiles a statement that breaks no rule, or answers the first rule that it breaks.
 ///
 /// Statement and schema stay as they are. `NoMemory` may stand in place of any answer.
 pub fn compile<DB: Backend>(
@@ -109,13 +115,12 @@ pub fn compile<DB: Backend>(
     ensures built { IfOk result (λ b. IsBuilt schema.now DB.speaks (statement_tree statement.now)
         b) }
     ensures read { IfOk result (λ b. IsRead DB.speaks (statement_tree statement.now)
-        (string_bytes b.sql) b.binds.items) }
+        b.sql b.binds) }
     ensures refused { IfErr result (λ e. (r : Rule) → rule_of e ≡ Some r
         → IsLeast r schema.now DB.speaks (statement_tree statement.now)) }
 {
-    let broken = broken(alloc, backend, schema, statement)?;
-    match broken.first() {
-        Some(rule) => Err(CompileError::from(*rule)),
+    match first_broken(alloc, backend, schema, statement)? {
+        Some(rule) => Err(CompileError::from(rule)),
         None => build(alloc, backend, statement),
     }
 }

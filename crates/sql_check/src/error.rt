@@ -6,7 +6,7 @@ use sql_rules::Rule;
 use std::alloc::AllocError;
 use thiserror::Error;
 
-/// Why a statement is not compiled: the first rule that it breaks, which is the `Rule` of the variant's name, or want of memory.
+/// Why a statement is not compiled: the first rule that it breaks, which is the `Rule` of the variant's name, or out of memory.
 /// A message is the rule's name.
 #[derive(Debug, Error, Clone, Copy, PartialEq, Eq)]
 pub enum CompileError {
@@ -43,7 +43,7 @@ pub enum CompileError {
 }
 
 impl CompileError {
-    /// The rule that is broken; none where memory was wanted.
+    /// The rule that is broken; none for out of memory.
     pub fn rule(self) -> Option<Rule>
         ensures { result ≡ rule_of self }
     {

@@ -1,42 +1,42 @@
-use Rattle.std.proofs.Common.{◌≡◌, None, Some, rules}
-use Rattle.std.specs.Prelude.{slice_get}
+use Rattle.std.proofs.Common.{◌≡◌, Some, rules, subst, sym}
 use Rattle.std.proofs.lemmas.Result.{IfErr-weaker, IfOk-weaker}
 use Rattle.sql_node.specs.View.{statement_tree}
-use Rattle.sql_rules.specs.declared.rule.Rule.TheVariants.{TooManyBinds}
-use Rattle.sql_check.proofs.Chosen.{first_least, none_accepted}
+use Rattle.sql_rules.specs.Rules.{Broken}
+use Rattle.sql_judge.specs.First.{IsFirst, inner_rules}
+use Rattle.sql_check.specs.Compiled.{IsLeast}
+use Rattle.sql_check.proofs.Chosen.{first_least, last_least}
 use Rattle.sql_check.proofs.built.compile.Goals as goal
-
-pub returns-clause-built : goal.returns-clause-built
-returns-clause-built g c =
-    let s = statement_tree c.args.statement.now in
-    let none : slice_get c.in_ok-broken.broken.items 0 ≡ None = search rules in
-    IfOk-weaker c.build.result _ _
-    (λ b told. told c.args.schema.now
-    (none_accepted c.args.schema.now g.DB.Backend.speaks s c.in_ok-broken.broken.items c.in_ok-broken.ensures
-    none))
-    c.build.ensures.built
-
-pub returns-clause-read : goal.returns-clause-read
-returns-clause-read g c =
-    let s = statement_tree c.args.statement.now in
-    let none : slice_get c.in_ok-broken.broken.items 0 ≡ None = search rules in
-    IfOk-weaker c.build.result _ _
-    (λ b told. told c.args.schema.now
-    (none_accepted c.args.schema.now g.DB.Backend.speaks s c.in_ok-broken.broken.items c.in_ok-broken.ensures
-    none))
-    c.build.ensures.read
-
-pub returns-clause-refused : goal.returns-clause-refused
-returns-clause-refused g c =
-    let s = statement_tree c.args.statement.now in
-    let none : slice_get c.in_ok-broken.broken.items 0 ≡ None = search rules in
-    let accepted =
-    none_accepted c.args.schema.now g.DB.Backend.speaks s c.in_ok-broken.broken.items c.in_ok-broken.ensures none in
-    IfErr-weaker c.build.result _ _ (λ e told r is. absurd (accepted TooManyBinds (told r is).1))
-    c.build.ensures.refused
 
 pub returns-in-Some-clause-refused : goal.returns-in-Some-clause-refused
 returns-in-Some-clause-refused g c = λ r is.
+    let schema = c.args.schema.now in
+    let d = g.DB.Backend.speaks in
     let s = statement_tree c.args.statement.now in
-    let some : slice_get c.in_ok-broken.broken.items 0 ≡ Some r = search rules in
-    first_least c.args.schema.now g.DB.Backend.speaks s c.in_ok-broken.broken.items c.in_ok-broken.ensures r some
+    let some : c.in_ok-rule.field-0 ≡ Some r = search rules in
+    first_least schema d s r (subst (IsFirst (λ q. Broken q schema d s) inner_rules) some c.in_ok-rule.ensures.first)
+
+pub returns-in-None-clause-built : goal.returns-in-None-clause-built
+returns-in-None-clause-built g c =
+    let schema = c.args.schema.now in
+    let s = statement_tree c.args.statement.now in
+    let none =
+    subst (IsFirst (λ q. Broken q schema g.DB.Backend.speaks s) inner_rules) c.in-None.is c.in_ok-rule.ensures.first in
+    IfOk-weaker c.build.result _ _ (λ b gives. gives schema none) c.build.ensures.built
+
+pub returns-in-None-clause-read : goal.returns-in-None-clause-read
+returns-in-None-clause-read g c =
+    let schema = c.args.schema.now in
+    let s = statement_tree c.args.statement.now in
+    let none =
+    subst (IsFirst (λ q. Broken q schema g.DB.Backend.speaks s) inner_rules) c.in-None.is c.in_ok-rule.ensures.first in
+    IfOk-weaker c.build.result _ _ (λ b gives. gives schema none c.in_ok-rule.ensures.counted) c.build.ensures.read
+
+pub returns-in-None-clause-refused : goal.returns-in-None-clause-refused
+returns-in-None-clause-refused g c =
+    let schema = c.args.schema.now in
+    let d = g.DB.Backend.speaks in
+    let s = statement_tree c.args.statement.now in
+    let none = subst (IsFirst (λ q. Broken q schema d s) inner_rules) c.in-None.is c.in_ok-rule.ensures.first in
+    IfErr-weaker c.build.result _ _
+    (λ e gives r is. subst (λ q. IsLeast q schema d s) (sym (gives r is).0) (last_least schema d s none (gives r is).1))
+    c.build.ensures.refused
