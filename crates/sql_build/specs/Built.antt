@@ -1,6 +1,6 @@
 -- The statement that a query stands for: its names looked up in a schema, and its calls made one after the other on what it
 -- begins with. None where the query names a table or a column that the schema lacks, in a join, a subselect or a side of a
--- combination too, or where a call does not stand on the form of the statement that it is made on.
+-- combination too, or where the statement's form lacks the call (diesel, `AsQuery`, `QueryDsl`, `CombineDsl`).
 use Rattle.std.specs.Prelude.{List, [], ◌∷◌, Option, Some, None, option_map, unwrap_or}
 use Rattle.sql_schema.specs.Declarations.{Declarations}
 use Rattle.sql_dialect.specs.declared.backend.Dialect.{Dialect}

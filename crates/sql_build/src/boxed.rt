@@ -1,4 +1,4 @@
-//! Calls on a boxed select statement. None where it lacks the call; it is let go as in `call`.
+//! Calls on a boxed select statement. None where it lacks the call; it is then dropped as in `call`.
 
 ghost use Rattle.std.specs.Prelude.{◌≡◌, IfOk, Some, option_map};
 ghost use Rattle.sql_node.specs.View.{boxed_select_statement_tree, expr_tree};

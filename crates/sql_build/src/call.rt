@@ -1,7 +1,7 @@
 //! Calls on a statement of any form. None where the statement's form lacks the call.
 //!
-//! A statement is let go by a call of `drop`: where it goes out of sight in place, what can be in each of its clauses is proved
-//! with what can be in all others, for minutes.
+//! A statement is dropped by a call of `drop`: where it is dropped in place, the checker takes each form of a clause with each
+//! of all others, which takes minutes.
 #![tactic(auto, using(crate::proofs::Standing::standing))]
 
 ghost use Rattle.std.specs.Prelude.{◌≡◌, IfOk, Some, map, option_map};

@@ -5,7 +5,7 @@ ghost use Rattle.sql_node.specs.View.{boxed_select_statement_tree, expr_tree, se
 ghost use Rattle.sql_select.specs.Changes.{boxed_for};
 ghost use Rattle.sql_build.specs.Made.{clause_made, plain_made};
 
-use sql_dialect::{Dialect, Mysql, Pg, Sqlite};
+use sql_dialect::{Bracket, Dialect, Mysql, Pg, Sqlite};
 use sql_expr::{BoxedSelectStatement, Expr, SelectStatement};
 use sql_schema::NoMemory;
 use sql_select::QueryDsl;
@@ -60,5 +60,6 @@ pub(crate) fn boxed(dialect: Dialect, select: SelectStatement) -> BoxedSelectSta
         Dialect::Pg => select.into_boxed(&Pg),
         Dialect::Mysql => select.into_boxed(&Mysql),
         Dialect::Sqlite => select.into_boxed(&Sqlite),
+        Dialect::Bracket => select.into_boxed(&Bracket),
     }
 }

@@ -185,7 +185,7 @@ start-agrees n f g p q (Some s) (Some e) fg pq ha hb = refl
 
 -- ---- calls
 
--- what stands behind a direction nests less deep
+-- what follows a direction nests less deep
 directed-depth : (e : Data) (n : ℕ) (m : Direction × Data) → depth e < n
     → option_and_then directed (only_member e) ≡ Some m → depth m.1 < n
 directed-depth null n m h is = absurd (let wrong : None ≡ Some m = is in cc)

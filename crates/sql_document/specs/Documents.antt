@@ -1,4 +1,4 @@
--- Which bytes are a document, and which document they are.
+-- Which bytes are a document, and which document they are (RFC 8259, The JavaScript Object Notation).
 use Rattle.std.specs.Prelude.{ℕ, List, codes, Option, Some, None, if◌then◌else◌}
 use Rattle.std.specs.Str.{is_utf8}
 use Rattle.serde_json.specs.Data.{Data}
@@ -24,7 +24,7 @@ pub record Document : Type 0 where
   pub schema : Declarations
   pub requests : List Request
 
--- REQUEST: `{"dialect":"Pg" or "Mysql" or "Sqlite","query":QUERY}`
+-- REQUEST: `{"dialect":"Pg" or "Mysql" or "Sqlite" or "Bracket","query":QUERY}`
 unfoldable pub request_of : Data → Option Request
 request_of d = do
   name ← text_at (codes "dialect") d

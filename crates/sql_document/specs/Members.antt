@@ -1,4 +1,4 @@
--- Members of objects and items of arrays.
+-- Members of objects and items of arrays (RFC 8259, 4 Objects and 5 Arrays).
 use Rattle.std.specs.Prelude.{ℕ, List, [], ◌∷◌, Bool, Option, Some, None, is_some, option_map, if◌then◌else◌}
 use Rattle.serde_json.specs.Data.{Data, Items, no_items, item, Members, no_members, member}
 use Rattle.serde_json.specs.Find.{get, at, as_str, as_array, as_object}

@@ -2,7 +2,7 @@
 use Rattle.std.specs.Prelude.{ℕ, List, [], ◌∷◌, ◌++◌, Bool, true, false, codes, Option, Some, None, find, if◌then◌else◌}
 use Rattle.std.specs.Str.{bytes_eq}
 use Rattle.sql_dialect.specs.declared.backend.Dialect.{Dialect}
-use Rattle.sql_dialect.specs.declared.backend.Dialect.TheVariants.{Pg, Mysql, Sqlite}
+use Rattle.sql_dialect.specs.declared.backend.Dialect.TheVariants.{Pg, Mysql, Sqlite, Bracket}
 use Rattle.sql_dialect.specs.declared.combination.Combinator.{Combinator}
 use Rattle.sql_dialect.specs.declared.combination.Combinator.TheVariants.{Union, Intersect, Except}
 use Rattle.sql_dialect.specs.declared.combination.DuplicateRule.{DuplicateRule}
@@ -33,9 +33,10 @@ abbrev pub dialect_text : Dialect → List ℕ
 dialect_text Pg = codes "Pg"
 dialect_text Mysql = codes "Mysql"
 dialect_text Sqlite = codes "Sqlite"
+dialect_text Bracket = codes "Bracket"
 
 abbrev pub dialects : List Dialect
-dialects = Pg ∷ Mysql ∷ Sqlite ∷ []
+dialects = Pg ∷ Mysql ∷ Sqlite ∷ Bracket ∷ []
 
 -- the dialect of that name
 unfoldable pub dialect_of : List ℕ → Option Dialect
@@ -53,7 +54,7 @@ abbrev pub null_mark : Bool → List ℕ
 null_mark true = codes "?"
 null_mark false = []
 
--- the base's name, with a `?` behind it where NULL may stand
+-- the base's name, with a `?` after it where it may be NULL
 abbrev pub type_text : SqlType → List ℕ
 type_text t = base_text t.base ++ null_mark t.nullable
 

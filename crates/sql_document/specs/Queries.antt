@@ -173,7 +173,7 @@ query_from start calls = if stand form.Select (calls_of calls) then Some (query 
 
 -- ---- calls
 
--- what stands behind a name that says the direction: `{"asc":X}`
+-- what follows a name that says the direction: `{"asc":X}`
 abbrev pub directed : List ℕ × Data → Option (Direction × Data)
 directed m = option_map (λ o. (o, m.1)) (direction_of m.0)
 
@@ -233,7 +233,7 @@ abbrev pub last_call : (Data → Option Expr) → List ℕ → Data → Option C
 last_call expr name d =
     if bytes_eq name (codes "into_boxed") then boxed_call d else argument_of d >>= argument_call expr name
 
--- a call of that name, whose arguments stand behind the name in the array
+-- a call of that name, whose arguments follow the name in the array
 unfoldable pub named_call : (Data → Option Expr) → (Data → Option Source) → (Data → Option Query) → List ℕ → Data
     → Option Call
 named_call expr source subquery name d =

@@ -1,4 +1,4 @@
--- Which JSON is a value of a type.
+-- Which JSON is a value of a type (RFC 8259, 3 Values and 6 Numbers).
 use Rattle.std.specs.Prelude.{ℕ, ◌&&◌, not, ℤ, pos, negsuc, int_lt, nat_lt, nat_le, List, Bool, Option, Some, None, option_map, option_and_then, is_some, if◌then◌else◌}
 use Rattle.std.specs.List.{list_any}
 use Rattle.std.specs.Result.{result_ok}

@@ -88,7 +88,7 @@ fn of_value(alloc: Global, value: Value) -> Result<Document, Refusal>
     whole(alloc, value)
 }
 
-/// The document that the bytes are, else `NotADocument`; `NoMemory` where memory was wanting.
+/// The document that the bytes are, else `NotADocument`; or `NoMemory`.
 #[tactic(auto, unfolding(crate::specs::Documents::document, crate::specs::Documents::of_data))]
 pub fn read_document(alloc: Global, bytes: &[u8]) -> Result<Document, Refusal>
     ensures { Gives document_tree result (document bytes.now) }

@@ -14,6 +14,7 @@ pub fn dialect_name(dialect: Dialect) -> &'static str
         Dialect::Pg => "Pg",
         Dialect::Mysql => "Mysql",
         Dialect::Sqlite => "Sqlite",
+        Dialect::Bracket => "Bracket",
     }
 }
 
@@ -45,6 +46,7 @@ pub(crate) fn dialect(name: &str) -> Option<Dialect>
         "Pg" => Some(Dialect::Pg),
         "Mysql" => Some(Dialect::Mysql),
         "Sqlite" => Some(Dialect::Sqlite),
+        "Bracket" => Some(Dialect::Bracket),
         _ => None,
     }
 }

@@ -18,7 +18,7 @@ use sql_leaf::{Direction, OrderColumn, PositionalItem};
 use sql_syntax::OrderItem;
 use std::alloc::Global;
 
-/// What stands behind a name that says the direction: `{"asc":X}`.
+/// What follows a name that says the direction: `{"asc":X}`.
 fn behind_direction(value: &Value) -> Option<(Direction, &Value)>
     ensures { option_map (λ p. (p.0, view p.1.now)) result
         ≡ option_and_then directed (only_member (view value.now)) }

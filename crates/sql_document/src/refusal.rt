@@ -6,7 +6,7 @@ use std::alloc::{AllocError, AllocFailed};
 /// Why there is no document.
 #[derive(Debug, Clone, Copy, PartialEq, Eq)]
 pub enum Refusal {
-    /// Memory was wanting, whatever the bytes are.
+    /// Out of memory, whatever the bytes are.
     NoMemory,
     /// The bytes are no JSON, no JSON of a document's form, or their declarations can't stand together.
     NotADocument,

@@ -1,4 +1,5 @@
--- Which calls stand on which form of a query.
+-- Which calls each form of a query has (diesel, `QueryDsl` on `SelectStatement`, `BoxedSelectStatement` and
+-- `CombinationClause`).
 use Rattle.std.specs.Prelude.{Bool, true, false, ◌&&◌}
 use Rattle.sql_syntax.specs.Tree.{Call, plain, clause, join_with, find, order, then_order_by, limit, offset, into_boxed, combine, positional_order_by, Calls, no_calls, more_calls}
 use Rattle.sql_syntax.specs.declared.call.ClauseCall.{ClauseCall}
@@ -44,7 +45,7 @@ clause_stands f clause.Filter = selects f
 clause_stands f clause.OrFilter = selects f
 clause_stands f clause.Having = selects f
 
--- whether the call stands on that form
+-- whether that form has the call
 abbrev pub stands : Form → Call → Bool
 stands f (plain c) = plain_stands f c
 stands f (clause c e) = clause_stands f c
@@ -72,7 +73,7 @@ after f (into_boxed d) = Boxed
 after f (combine c r q) = Combination
 after f (positional_order_by is) = f
 
--- whether each call stands on the form that the calls before it give
+-- whether each call is one of the form that the calls before it give
 abbrev pub stand : Form → Calls → Bool
 stand f no_calls = true
 stand f (more_calls c cs) = stands f c && stand (after f c) cs

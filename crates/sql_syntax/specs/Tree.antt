@@ -1,4 +1,4 @@
--- Queries as plain trees: no pointer, no capacity, no allocator. What is said of a query is said of its tree.
+-- Queries as plain trees: no pointer, no capacity, no allocator. All definitions on queries are made over them.
 use Rattle.std.specs.Prelude.{ℤ, List, Option}
 use Rattle.sql_schema.specs.declared.types.SqlType.{SqlType}
 use Rattle.sql_dialect.specs.declared.backend.Dialect.{Dialect}

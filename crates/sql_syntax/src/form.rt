@@ -12,7 +12,7 @@ use crate::{Call, ClauseCall, PlainCall};
 pub enum Form {
     /// A select statement, on which all calls stand but those of combinations alone.
     Select,
-    /// A select statement behind `into_boxed`.
+    /// A select statement after `into_boxed`.
     Boxed,
     /// Two statements as one.
     Combination,
@@ -71,7 +71,7 @@ impl Form {
         }
     }
 
-    /// Whether the call stands on this form.
+    /// Whether this form has the call.
     pub fn takes(self, call: &Call) -> bool
         ensures { result ≡ call_on self (call_tree call.now) }
     {
@@ -110,7 +110,7 @@ impl Form {
     }
 }
 
-/// Whether each call stands on the form that the calls before it give, from a select statement on.
+/// Whether each call is one of the form that the calls before it give, from a select statement on.
 pub fn all_stand(calls: &[Call]) -> bool
     ensures { result ≡ stand form.Select (calls_of (map call_tree calls.now)) }
 {
