@@ -1,126 +1,141 @@
--- Requests of one id are one statement but for their values, and requests of one dialect and shape have one id.
-use Rattle.std.proofs.Common.{◌≡◌, ℕ, zero, suc, ◌+◌, Bool, true, false, cond, Option, Some, None, option_map, List, [], ◌∷◌, ◌++◌, length, map, refl, sym, ap, ◌∙◌, arith, append_assoc}
-use Rattle.std.proofs.lemmas.Bool.{false≢true}
-use Rattle.std.specs.List.{slice_get}
-use Rattle.std.specs.Option.{option_or}
+-- The id that the program finds is the line's id. Lines of one id are of statements of one shape, and the other way round.
+use Rattle.std.proofs.Common.{◌≡◌, ◌↔◌, ◌+◌, ℕ, Bool, true, false, cond, Option, Some, None, option_map, List, [], ◌∷◌, ◌++◌, length, map, refl, sym, ap, subst, ◌∙◌, append_assoc, inl, inr, arith}
+use Rattle.std.proofs.lemmas.List.{length-map, map-append}
+use Rattle.std.specs.Option.{unwrap_or}
+use Rattle.sql_schema.specs.Declarations.{Declarations}
+use Rattle.sql_schema.specs.declared.types.SqlType.{SqlType}
 use Rattle.sql_dialect.specs.declared.backend.Dialect.{Dialect}
 use Rattle.sql_node.specs.Tree.{Statement}
-use Rattle.sql_key.specs.Keys.{key, id_of}
-use Rattle.sql_key.specs.Shape.{has_id, shape}
-use Rattle.sql_key.specs.declared.kind.KeyNode.{KeyNode}
-use Rattle.sql_key.proofs.Shapes.{same-shape, same-id}
+use Rattle.sql_key.specs.Keys.{key}
+use Rattle.sql_key.specs.Ids.{has_id}
+use Rattle.sql_key.specs.Shape.{shape}
+use Rattle.sql_key.proofs.IdLaws.{same-id}
+use Rattle.sql_key.proofs.Shapes.{same-shape}
 use Rattle.sql_law.specs.Blank.{blank_bound}
-use Rattle.sql_shape_law.proofs.OneText as one
-use Rattle.sql_shape_law.proofs.TypeLaws as columns
+use Rattle.sql_rules.specs.Lists.{AnyOf}
+use Rattle.sql_law.proofs.OneText as one
+use Rattle.sql_law.proofs.SafeLaws.{safe_alike}
+use Rattle.sql_law.proofs.TypeLaws as columns
 use Rattle.sql_check.specs.Compiled.{sql_of, binds_of, is_safe_in}
-use Rattle.sql_output.specs.Known.{keyed, place, place_behind, request_key, same_key}
-use Rattle.sql_output.specs.Shared.{Serves}
+use Rattle.sql_output.proofs.First.{none_some, first-found, one-id, one-own, id-longer}
+use Rattle.sql_output.proofs.Keys.{Tells, index-told}
+use Rattle.sql_output.specs.Ids.{RequestShape, request_shape, IsFirst, IsId}
+use Rattle.sql_output.specs.Judgement.{Judgement, refuses, accepts}
+use Rattle.sql_output.specs.Output.{Line, StatementRequest, AreLines, line_shape}
+use Rattle.sql_output.specs.Shared.{Serves, HasAccepted, OneIdServes, OneShapeOneId}
 use Rattle.sql_output.specs.declared.known.RequestKey.{RequestKey}
-use Rattle.sql_output.specs.contracts.known.RequestKeyEq.TheImpl.Laws.{laws-law}
-use Rattle.sql_output.proofs.Places.{exact-key, place-append}
+use Rattle.sql_output.specs.inside.Keys.{id_found, index_from, keyed, request_key}
 
-none_some : {X : Type 0} (x : X) → Prim.Path (Option X) None (Some x) → ⊥
-none_some x h = cc
+abbrev pub line_key : Line → Option RequestKey
+line_key l = request_key l.dialect l.judgement
 
--- where a key is found, it stands
-found-stands : (m : ℕ) (xs : List (Option RequestKey)) (q : RequestKey) (n : ℕ) → place m xs q ≡ Some n
-    → (i : ℕ) × (n ≡ m + i) × (slice_get xs i ≡ Some (Some q))
-found-stands m [] q n h = absurd (none_some n h)
-found-stands m (None ∷ xs) q n h =
-    let (i, at, is) = found-stands (m + 1) xs q n h in
-    (suc i, let next : n ≡ m + suc i = omega (arith, at) in next, is)
-found-stands m (Some k ∷ xs) q n h = here (same_key k q) (exact-key k q) (found-stands (m + 1) xs q n) h
-  where
-    here : (b : Bool) → (b ≡ true → k ≡ q)
-        → (place (m + 1) xs q ≡ Some n → (i : ℕ) × (n ≡ (m + 1) + i) × (slice_get xs i ≡ Some (Some q)))
-        → cond b (Some m) (place (m + 1) xs q) ≡ Some n
-        → (i : ℕ) × (n ≡ m + i) × (slice_get (Some k ∷ xs) i ≡ Some (Some q))
-    here true is later e =
-        (0, let same : m ≡ n = cc in let at : n ≡ m + 0 = omega (arith, same) in at, ap (λ x. Some (Some x)) (is refl))
-    here false is later e =
-        let (i, at, stands) = later e in
-        (suc i, let next : n ≡ m + suc i = omega (arith, at) in next, stands)
+abbrev shaped : Dialect → Statement → RequestShape
+shaped d s = record { dialect = d; shape = shape s }
 
--- what stands in a list stands in a longer one
-longer : {X : Type 0} (xs ys : List X) (i : ℕ) (x : X) → slice_get xs i ≡ Some x → slice_get (xs ++ ys) i ≡ Some x
-longer [] ys i x h = absurd (none_some x h)
-longer (y ∷ xs) ys zero x h = h
-longer (y ∷ xs) ys (suc i) x h = longer xs ys i x h
+-- ---- keys are equal where shapes are
 
--- two keys that are found at one place are one
-one-key : (earlier between : List (Option RequestKey)) (a b : RequestKey) (n : ℕ)
-    → place 1 (earlier ++ Some a ∷ []) a ≡ Some n → place 1 ((earlier ++ Some a ∷ between) ++ Some b ∷ []) b ≡ Some n
-    → a ≡ b
-one-key earlier between a b n h k =
-    let (i, at, first) = found-stands 1 (earlier ++ Some a ∷ []) a n h in
-    let (j, also, second) = found-stands 1 ((earlier ++ Some a ∷ between) ++ Some b ∷ []) b n k in
-    let same : i ≡ j = omega (arith, at, also) in
-    let cut =
-    append_assoc earlier (Some a ∷ between) (Some b ∷ [])
-    ∙ sym (append_assoc earlier (Some a ∷ []) (between ++ Some b ∷ [])) in
-    let there =
-    ap (λ l. slice_get l i) cut ∙ longer (earlier ++ Some a ∷ []) (between ++ Some b ∷ []) i (Some a) first in
-    let both : Some (Some a) ≡ Some (Some b) =
-    sym there ∙ ap (slice_get ((earlier ++ Some a ∷ between) ++ Some b ∷ [])) same ∙ second in
-    cc
+key-shape : (d e : Dialect) (s t : Statement) → keyed e (key t) ≡ keyed d (key s) → shaped e t ≡ shaped d s
+key-shape d e s t h =
+    let shapes = (same-shape t s).0 (ap (λ k. k.key) h) in
+    λ i. record { dialect = (h i).dialect; shape = shapes i }
 
--- of one id are those of one dialect and key alone
-one-request : (earlier between : List (Option RequestKey)) (d e : Dialect) (o p : Option (List KeyNode)) (n : ℕ)
-    → place_behind earlier (option_map (keyed d) o) ≡ Some n
-    → place_behind (earlier ++ option_map (keyed d) o ∷ between) (option_map (keyed e) p) ≡ Some n
-    → (k : List KeyNode) × (d ≡ e) × (o ≡ Some k) × (p ≡ Some k)
-one-request earlier between d e None p n h k = absurd (none_some n h)
-one-request earlier between d e (Some a) None n h k = absurd (none_some n k)
-one-request earlier between d e (Some a) (Some b) n h k =
-    let same = one-key earlier between (keyed d a) (keyed e b) n h k in
-    (a, ap (λ q. q.dialect) same, refl, ap Some (sym (ap (λ q. q.key) same)))
+shape-key : (d e : Dialect) (s t : Statement) → shaped e t ≡ shaped d s → keyed e (key t) ≡ keyed d (key s)
+shape-key d e s t h =
+    let keys = (same-shape t s).1 (ap (λ k. k.shape) h) in
+    λ i. keyed (h i).dialect (keys i)
 
--- a statement that has this key has an id, and the key is its own
-own-key : (s : Statement) (k : List KeyNode) → id_of s ≡ Some k → (has_id s ≡ true) × (key s ≡ k)
-own-key s k h = here (has_id s) h
-  where
-    here : (b : Bool) → cond b (Some (key s)) None ≡ Some k → (b ≡ true) × (key s ≡ k)
-    here true e = (refl, cc)
-    here false e = absurd (none_some k e)
+alike-by : (d e : Dialect) (s t : Statement) (b : Bool)
+    → (option_map (keyed e) (cond b (Some (key t)) None) ≡ Some (keyed d (key s)))
+    ↔ (cond b (Some (shaped e t)) None ≡ Some (shaped d s))
+alike-by d e s t true =
+    (λ h. let k : keyed e (key t) ≡ keyed d (key s) = cc in ap Some (key-shape d e s t k), λ h. let k : shaped e t ≡ shaped d s = cc in ap Some (shape-key d e s t k))
+alike-by d e s t false = (λ h. absurd (none_some _ h), λ h. absurd (none_some _ h))
 
-pub one-id : (earlier between : List (Option RequestKey)) (d e : Dialect) (s t : Statement) (n : ℕ)
-    → place_behind earlier (request_key d s) ≡ Some n
-    → place_behind (earlier ++ request_key d s ∷ between) (request_key e t) ≡ Some n → Serves d s e t
-one-id earlier between d e s t n h k =
-    let (found, dialects, first, second) = one-request earlier between d e (id_of s) (id_of t) n h k in
-    let mine = own-key s found first in
-    let shapes = (same-shape s t).0 (mine.1 ∙ sym (own-key t found second).1) in
-    record {
-      dialect = dialects;
-      shapes = shapes;
-      text = one.text d s t shapes ∙ ap (λ x. sql_of x t) dialects;
-      safe = one.safe d s t shapes ∙ ap (λ x. is_safe_in x t) dialects;
-      values = one.values d s t shapes ∙ ap (λ x. map blank_bound (binds_of x t)) dialects;
-      types = columns.types s t shapes mine.0;
-    }
+alike : (d e : Dialect) (s : Statement) (j : Judgement)
+    → (request_key e j ≡ Some (keyed d (key s))) ↔ (request_shape e j ≡ Some (shaped d s))
+alike d e s (refuses name) = (λ h. absurd (none_some _ h), λ h. absurd (none_some _ h))
+alike d e s (accepts t ts) = alike-by d e s t (has_id t)
 
--- the first place of a key that stands among others
-first-place : (earlier between : List (Option RequestKey)) (a : RequestKey)
-    → place 1 ((earlier ++ Some a ∷ between) ++ Some a ∷ []) a ≡ place 1 (earlier ++ Some a ∷ []) a
-first-place earlier between a =
-    ap (λ l. place 1 l a) (append_assoc earlier (Some a ∷ between) (Some a ∷ []))
-    ∙ place-append 1 earlier (Some a ∷ (between ++ Some a ∷ [])) a
-    ∙ ap (option_or (place 1 earlier a)) (here (same_key a a) (laws-law.refl a))
-    ∙ sym (place-append 1 earlier (Some a ∷ []) a)
-  where
-    here : (b : Bool) → b ≡ true
-        → cond b (Some (1 + length earlier)) (place (1 + length earlier + 1) (between ++ Some a ∷ []) a)
-        ≡ cond b (Some (1 + length earlier)) None
-    here true e = refl
-    here false e = absurd (false≢true e)
+-- ---- the id that is found
 
-pub one-shape : (earlier between : List (Option RequestKey)) (d : Dialect) (s t : Statement) → shape s ≡ shape t
-    → place_behind (earlier ++ request_key d s ∷ between) (request_key d t) ≡ place_behind earlier (request_key d s)
-one-shape earlier between d s t h =
-    let ids : id_of s ≡ id_of t = λ i. cond (same-id s t h i) (Some ((same-shape s t).1 h i)) None in
-    ap (λ o. place_behind (earlier ++ request_key d s ∷ between) (option_map (keyed d) o)) (sym ids)
-    ∙ here (request_key d s)
-  where
-    here : (o : Option RequestKey) → place_behind (earlier ++ o ∷ between) o ≡ place_behind earlier o
-    here None = refl
-    here (Some a) = first-place earlier between a
+module _ (f : RequestKey → Option ℕ) (ls : List Line) (n : ℕ) (number : n ≡ 1 + length ls) (tells : Tells f (map line_key ls)) where
+  found-first : (d : Dialect) (s : Statement) (ts : List SqlType) → has_id s ≡ true
+      → IsFirst (unwrap_or (f (keyed d (key s))) n) (map line_shape ls ++ Some (shaped d s) ∷ []) (shaped d s)
+  found-first d s ts has =
+      let k = keyed d (key s) in
+      let own : Line = record { dialect = d; judgement = accepts s ts; id = None } in
+      let one_key : line_key own ≡ Some k = ap (λ b. option_map (keyed d) (cond b (Some (key s)) None)) has in
+      let one_shape : line_shape own ≡ Some (shaped d s) = ap (λ b. cond b (Some (shaped d s)) None) has in
+      let keys : map line_key (ls ++ own ∷ []) ≡ map line_key ls ++ Some k ∷ [] =
+      map-append line_key ls (own ∷ []) ∙ ap (λ o. map line_key ls ++ o ∷ []) one_key in
+      let shapes : map line_shape (ls ++ own ∷ []) ≡ map line_shape ls ++ Some (shaped d s) ∷ [] =
+      map-append line_shape ls (own ∷ []) ∙ ap (λ o. map line_shape ls ++ o ∷ []) one_shape in
+      let told = index-told f (map line_key ls) [] k n tells (number ∙ ap (λ m. 1 + m) (sym (length-map ls line_key))) in
+      let (i, at, stands) =
+      first-found line_key line_shape k (shaped d s) (λ l. alike d l.dialect s l.judgement) 1 (ls ++ own ∷ []) _
+      (ap (λ xs. index_from 1 xs k) keys ∙ sym told) in
+      subst (λ xs. IsFirst (unwrap_or (f k) n) xs (shaped d s)) shapes
+      (i, let next : unwrap_or (f k) n ≡ i + 1 = at ∙ add-one i in next, stands.0, stands.1)
+    where
+      add-one : (i : ℕ) → 1 + i ≡ i + 1
+      add-one i = omega arith
+
+  found-by : (d : Dialect) (s : Statement) (ts : List SqlType) (b : Bool) → has_id s ≡ b
+      → IsId (map line_shape ls ++ cond b (Some (shaped d s)) None ∷ []) (cond b (Some (shaped d s)) None)
+      (id_found f n (option_map (keyed d) (cond b (Some (key s)) None)))
+  found-by d s ts true has = found-first d s ts has
+  found-by d s ts false has = refl
+
+  -- the id that a look-up of the lines so far gives to one more
+  pub found-id : (d : Dialect) (j : Judgement)
+      → IsId (map line_shape ls ++ request_shape d j ∷ []) (request_shape d j) (id_found f n (request_key d j))
+  found-id d (refuses name) = refl
+  found-id d (accepts s ts) = found-by d s ts (has_id s) refl
+
+-- ---- the ids of lines, all in one list of shapes
+
+line-first : (schema : Declarations) (earlier : List (Option RequestShape)) (rs : List StatementRequest) (ls : List Line)
+    (l : Line)
+    → AreLines schema earlier rs ls → AnyOf (λ x. x ≡ l) ls
+    → IsId (earlier ++ map line_shape ls) (line_shape l) l.id
+line-first schema earlier rs [] l h there = absurd there
+line-first schema earlier [] (x ∷ ls) l h there = absurd h
+line-first schema earlier (r ∷ rs) (x ∷ ls) l h (inl same) =
+    subst (λ y. IsId (earlier ++ line_shape x ∷ map line_shape ls) (line_shape y) y.id) same
+    (subst (λ xs. IsId xs (line_shape x) x.id) (append_assoc earlier (line_shape x ∷ []) (map line_shape ls))
+    (id-longer (earlier ++ line_shape x ∷ []) (map line_shape ls) (line_shape x) x.id h.0.id))
+line-first schema earlier (r ∷ rs) (x ∷ ls) l h (inr later) =
+    subst (λ xs. IsId xs (line_shape l) l.id) (append_assoc earlier (line_shape x ∷ []) (map line_shape ls))
+    (line-first schema (earlier ++ line_shape x ∷ []) rs ls l h.1 later)
+
+-- an accepted line with an id is of a statement that has one
+own-shape : (xs : List (Option RequestShape)) (d : Dialect) (s : Statement) (n : ℕ) (b : Bool)
+    → IsId xs (cond b (Some (shaped d s)) None) (Some n) → (b ≡ true) × IsFirst n xs (shaped d s)
+own-shape xs d s n true h = (refl, h)
+own-shape xs d s n false h = absurd (none_some n (sym h))
+
+module _ (schema : Declarations) (rs : List StatementRequest) (ls : List Line) (lines : AreLines schema [] rs ls) where
+  pub one-id-serves : OneIdServes ls
+  one-id-serves d e s t ts us n first second =
+      let xs = map line_shape ls in
+      let (has, mine) = own-shape xs d s n (has_id s) (line-first schema [] rs ls _ lines first) in
+      let (also, other) = own-shape xs e t n (has_id t) (line-first schema [] rs ls _ lines second) in
+      let same = one-own xs (shaped d s) (shaped e t) n mine other in
+      let dialects = ap (λ k. k.dialect) same in
+      let shapes = ap (λ k. k.shape) same in
+      record {
+        dialect = dialects;
+        shapes = shapes;
+        text = one.text d s t shapes ∙ ap (λ x. sql_of x t) dialects;
+        safe = safe_alike d s t shapes ∙ ap (λ x. is_safe_in x t) dialects;
+        values = one.values d s t shapes ∙ ap (λ x. map blank_bound (binds_of x t)) dialects;
+        types = columns.types s t shapes has;
+      }
+
+  pub one-shape-one-id : OneShapeOneId ls
+  one-shape-one-id d s t ts us m n first second h =
+      let xs = map line_shape ls in
+      let same : request_shape d (accepts s ts) ≡ request_shape d (accepts t us) =
+      λ i. cond (same-id s t h i) (Some (record { dialect = d; shape = h i })) None in
+      one-id xs (request_shape d (accepts s ts)) m n (line-first schema [] rs ls _ lines first)
+      (subst (λ o. IsId xs o n) (sym same) (line-first schema [] rs ls _ lines second))

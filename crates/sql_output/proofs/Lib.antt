@@ -1,5 +1,6 @@
+pub mod First
 pub mod Ids
 pub mod Judging
+pub mod Keys
 pub mod Lines
 pub mod Once
-pub mod Places

@@ -1,20 +1,20 @@
--- What answers a document is one text, and what answers its first requests is a front of it.
-use Rattle.std.proofs.Common.{◌≡◌, List, [], ◌∷◌, ◌++◌, Option, None, Some, refl, sym, ap, subst, ◌∙◌, append_assoc}
-use Rattle.std.specs.Prelude.{ℕ, MatchOption}
+-- A document has at most one output, and what is written for its first requests is a prefix of it.
+use Rattle.std.proofs.Common.{◌≡◌, ℕ, List, [], ◌∷◌, ◌++◌, map, Option, None, Some, refl, sym, ap, subst, ◌∙◌, append_assoc, append-nil}
 use Rattle.sql_schema.specs.Declarations.{Declarations}
+use Rattle.sql_schema.specs.declared.types.SqlType.{SqlType}
 use Rattle.sql_dialect.specs.declared.backend.Dialect.{Dialect}
 use Rattle.sql_node.specs.Tree.{Statement}
 use Rattle.sql_rules.specs.Lists.{Each}
 use Rattle.sql_rules.specs.Rules.{Broken, all_rules}
+use Rattle.sql_rules.specs.Texts.{rule_text}
+use Rattle.sql_rules.specs.Types.{columns}
 use Rattle.sql_rules.specs.declared.rule.Rule.{Rule}
-use Rattle.sql_rules.specs.declared.rule.Rule.TheVariants.{UnknownName}
 use Rattle.sql_check.specs.Compiled.{IsLeast}
-use Rattle.sql_build.specs.Built.{statement_in}
-use Rattle.sql_document.specs.Documents.{Request, Document}
-use Rattle.sql_output.specs.Judgement.{Judgement, refuses, accepts, Judges, JudgesEach}
-use Rattle.sql_output.specs.Known.{place_behind}
-use Rattle.sql_output.specs.Output.{Answers, AnswersFront, key_seen, line, lines}
-use Rattle.sql_output.specs.declared.known.RequestKey.{RequestKey}
+use Rattle.sql_document.specs.Documents.{Document}
+use Rattle.sql_output.proofs.First.{one-id}
+use Rattle.sql_output.specs.Ids.{RequestShape, request_shape, IsId}
+use Rattle.sql_output.specs.Judgement.{Judgement, refuses, accepts, Judges}
+use Rattle.sql_output.specs.Output.{Line, StatementRequest, IsLine, AreLines, IsOutput, IsOutputPrefix, line_shape, line_text, lines_text, statement_requests}
 
 -- of two elements of a list for which P holds, and for none before them, both are the first
 first-is-one : (P : Rule → Type 0) (f g : List Rule) (a b : Rule) (r s : List Rule) → f ++ a ∷ r ≡ g ++ b ∷ s
@@ -32,60 +32,91 @@ least-is-one schema d s a b first second =
     let (g, t, cut-again, none-again) = second.before in
     first-is-one (λ q. Broken q schema d s) f g a b r t (sym cut ∙ cut-again) none none-again first.broken second.broken
 
-module _ (schema : Declarations) (r : Request) where
-  abbrev Made : Option Statement → Rule → Type 0
-  Made o rule = MatchOption o (rule ≡ UnknownName) (λ s. IsLeast rule schema r.dialect s)
-
-  refused-once : (o : Option Statement) (a b : Rule) → Made o a → Made o b → a ≡ b
-  refused-once None a b first second = first ∙ sym second
-  refused-once (Some s) a b first second = least-is-one schema r.dialect s a b first second
-
-  one-judgement : (a b : Judgement) → Judges schema r a → Judges schema r b → a ≡ b
-  one-judgement (refuses a) (refuses b) first second =
-      ap refuses (refused-once (statement_in schema r.dialect r.query) a b first second)
-  one-judgement (refuses a) (accepts s) first second =
-      absurd (second.accepted a (subst (λ o. Made o a) second.made first).broken)
-  one-judgement (accepts s) (refuses b) first second =
-      absurd (first.accepted b (subst (λ o. Made o b) first.made second).broken)
-  one-judgement (accepts s) (accepts t) first second =
-      let same : Some s ≡ Some t = sym first.made ∙ second.made in ap accepts cc
-
--- the lines of the first requests are a front of the lines of all
-front-of-all : (schema : Declarations) (earlier : List (Option RequestKey)) (rs later : List Request)
-    (js all : List Judgement)
-    → JudgesEach schema rs js → JudgesEach schema (rs ++ later) all
-    → (rest : List ℕ) × (lines earlier (rs ++ later) all ≡ lines earlier rs js ++ rest)
-front-of-all schema earlier [] later js all some whole = (lines earlier later all, refl)
-front-of-all schema earlier (r ∷ rs) later [] all some whole = absurd some
-front-of-all schema earlier (r ∷ rs) later (j ∷ js) [] some whole = absurd whole
-front-of-all schema earlier (r ∷ rs) later (j ∷ js) (k ∷ all) some whole =
-    let (rest, is) = front-of-all schema (earlier ++ key_seen r.dialect k ∷ []) rs later js all some.1 whole.1 in
-    let same = one-judgement schema r k j whole.0 some.0 in (
-      rest,
-      ap (λ t. line earlier r.dialect k ++ t) is
-          ∙ ap (λ i. line earlier r.dialect i ++ (lines (earlier ++ key_seen r.dialect i ∷ []) rs js ++ rest)) same
-          ∙ sym (append_assoc (line earlier r.dialect j) (lines (earlier ++ key_seen r.dialect j ∷ []) rs js) rest),
-    )
-
-judged-once : (schema : Declarations) (rs : List Request) (js ks : List Judgement) → JudgesEach schema rs js
-    → JudgesEach schema rs ks → js ≡ ks
-judged-once schema [] [] [] first second = refl
-judged-once schema [] [] (k ∷ ks) first second = absurd second
-judged-once schema [] (j ∷ js) ks first second = absurd first
-judged-once schema (r ∷ rs) [] ks first second = absurd first
-judged-once schema (r ∷ rs) (j ∷ js) [] first second = absurd second
-judged-once schema (r ∷ rs) (j ∷ js) (k ∷ ks) first second =
-    let head = one-judgement schema r j k first.0 second.0 in
-    let tail = judged-once schema rs js ks first.1 second.1 in
+one-list : {X : Type 0} (xs ys : List X) → map Some xs ≡ map Some ys → xs ≡ ys
+one-list [] [] h = refl
+one-list [] (y ∷ ys) h = absurd (let e : map Some (y ∷ ys) ≡ [] = sym h in cc)
+one-list (x ∷ xs) [] h = absurd (let e : map Some (x ∷ xs) ≡ [] = h in cc)
+one-list (x ∷ xs) (y ∷ ys) h =
+    let head : x ≡ y = cc in
+    let rest : map Some xs ≡ map Some ys = cc in
+    let tail = one-list xs ys rest in
     λ i. head i ∷ tail i
 
-pub one-answer : (d : Document) (a b : List ℕ) → Answers d a → Answers d b → a ≡ b
-one-answer d a b (js, first, is) (ks, second, it) =
-    is ∙ ap (lines [] d.requests) (judged-once d.schema d.requests js ks first second) ∙ sym it
+module _ (schema : Declarations) (d : Dialect) where
+  one-judgement : (o : Option Statement) (a b : Judgement) → Judges schema d o a → Judges schema d o b → a ≡ b
+  one-judgement None (refuses m) (refuses n) first second = ap refuses (first ∙ sym second)
+  one-judgement None (refuses m) (accepts t ts) first second = absurd second
+  one-judgement None (accepts t ts) b first second = absurd first
+  one-judgement (Some s) (refuses m) (refuses n) (a, least, is) (b, also, it) =
+      ap refuses (is ∙ ap rule_text (least-is-one schema d s a b least also) ∙ sym it)
+  one-judgement (Some s) (refuses m) (accepts t ts) (a, least, is) (same, accepted) =
+      absurd (accepted.accepted a (subst (λ x. Broken a schema d x) same least.broken))
+  one-judgement (Some s) (accepts t ts) (refuses n) (same, accepted) (b, also, it) =
+      absurd (accepted.accepted b (subst (λ x. Broken b schema d x) same also.broken))
+  one-judgement (Some s) (accepts t ts) (accepts u us) (same, accepted) (also, again) =
+      let statements : t ≡ u = sym same ∙ also in
+      let types = one-list ts us (accepted.types ∙ ap columns statements ∙ sym again.types) in
+      λ i. accepts (statements i) (types i)
 
-pub front-of-answer : (d : Document) (front whole : List ℕ) → AnswersFront d front → Answers d whole
-    → (rest : List ℕ) × (whole ≡ front ++ rest)
-front-of-answer d front whole (rs, later, cut, (js, judged, (more, is))) (all, each, it) =
-    let (rest, goes) =
-    front-of-all d.schema [] rs later js all judged (subst (λ q. JudgesEach d.schema q all) cut each) in
-    (more ++ rest, it ∙ ap (λ q. lines [] q all) cut ∙ goes ∙ ap (λ t. t ++ rest) is ∙ append_assoc front more rest)
+  one-line : (earlier : List (Option RequestShape)) (r : StatementRequest) (a b : Line) → IsLine schema earlier r a
+      → IsLine schema earlier r b → r.dialect ≡ d → a ≡ b
+  one-line earlier r a b first second at =
+      let dialects = first.dialect ∙ sym second.dialect in
+      let judgements =
+      one-judgement r.statement a.judgement b.judgement
+      (subst (λ e. Judges schema e r.statement a.judgement) at first.judged)
+      (subst (λ e. Judges schema e r.statement b.judgement) at second.judged) in
+      let shapes : line_shape a ≡ line_shape b = λ i. request_shape (dialects i) (judgements i) in
+      let ids =
+      one-id (earlier ++ line_shape b ∷ []) (line_shape b) a.id b.id
+      (subst (λ o. IsId (earlier ++ o ∷ []) o a.id) shapes first.id) second.id in
+      λ i. record { dialect = dialects i; judgement = judgements i; id = ids i }
+
+-- the lines of the first requests are the first lines of all
+first-lines : (schema : Declarations) (earlier : List (Option RequestShape)) (rs later : List StatementRequest)
+    (ls all : List Line)
+    → AreLines schema earlier rs ls → AreLines schema earlier (rs ++ later) all → (rest : List Line) × (all ≡ ls ++ rest)
+first-lines schema earlier [] later [] all some whole = (all, refl)
+first-lines schema earlier [] later (l ∷ ls) all some whole = absurd some
+first-lines schema earlier (r ∷ rs) later [] all some whole = absurd some
+first-lines schema earlier (r ∷ rs) later (l ∷ ls) [] some whole = absurd whole
+first-lines schema earlier (r ∷ rs) later (l ∷ ls) (k ∷ all) some whole =
+    let same = one-line schema r.dialect earlier r k l whole.0 some.0 refl in
+    let (rest, is) =
+    first-lines schema (earlier ++ line_shape l ∷ []) rs later ls all some.1
+    (subst (λ x. AreLines schema (earlier ++ line_shape x ∷ []) (rs ++ later) all) same whole.1) in
+    (rest, λ i. same i ∷ is i)
+
+text-append : (ls ks : List Line) → lines_text (ls ++ ks) ≡ lines_text ls ++ lines_text ks
+text-append [] ks = refl
+text-append (l ∷ ls) ks =
+    ap (λ t. line_text l ++ t) (text-append ls ks) ∙ sym (append_assoc (line_text l) (lines_text ls) (lines_text ks))
+
+pub prefix-of-output : (d : Document) (prefix whole : List ℕ) → IsOutputPrefix d prefix → IsOutput d whole
+    → (rest : List ℕ) × (whole ≡ prefix ++ rest)
+prefix-of-output d prefix whole (rs, later, cut, (ls, lines, (more, is))) (all, each, it) =
+    let (rest, split) =
+    first-lines d.schema [] rs later ls all lines (subst (λ q. AreLines d.schema [] q all) cut each) in (
+      more ++ lines_text rest,
+      it ∙ ap lines_text split ∙ text-append ls rest ∙ ap (λ t. t ++ lines_text rest) is
+          ∙ append_assoc prefix more (lines_text rest),
+    )
+
+same-lines : (schema : Declarations) (earlier : List (Option RequestShape)) (rs : List StatementRequest)
+    (ls ks : List Line)
+    → AreLines schema earlier rs ls → AreLines schema earlier rs ks → ls ≡ ks
+same-lines schema earlier [] [] [] first second = refl
+same-lines schema earlier [] [] (k ∷ ks) first second = absurd second
+same-lines schema earlier [] (l ∷ ls) ks first second = absurd first
+same-lines schema earlier (r ∷ rs) [] ks first second = absurd first
+same-lines schema earlier (r ∷ rs) (l ∷ ls) [] first second = absurd second
+same-lines schema earlier (r ∷ rs) (l ∷ ls) (k ∷ ks) first second =
+    let head = one-line schema r.dialect earlier r k l second.0 first.0 refl in
+    let tail =
+    same-lines schema (earlier ++ line_shape l ∷ []) rs ls ks first.1
+    (subst (λ x. AreLines schema (earlier ++ line_shape x ∷ []) rs ks) head second.1) in
+    λ i. sym head i ∷ tail i
+
+pub one-output : (d : Document) (a b : List ℕ) → IsOutput d a → IsOutput d b → a ≡ b
+one-output d a b (ls, first, is) (ks, second, it) =
+    is ∙ ap lines_text (same-lines d.schema [] (statement_requests d) ls ks first second) ∙ sym it

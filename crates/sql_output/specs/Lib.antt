@@ -1,8 +1,8 @@
 -- What is written for a document.
 pub mod Output
 pub mod Judgement
-pub mod Answer
-pub mod Known
+pub mod Objects
+pub mod Ids
 pub mod Shared
--- A device of proofs: what the functions inside `request_line` say.
-pub mod Inner
+-- A device of proofs: the program's own keys. Nothing under `inside` has to be believed.
+pub mod inside

@@ -1,39 +1,65 @@
--- What is written for requests of which it is known what becomes of each: a line of JSON for each.
-use Rattle.std.specs.Prelude.{◌≡◌, ℕ, List, [], ◌∷◌, ◌++◌, Option, None}
+-- What is written: a line of JSON for each request.
+use Rattle.std.specs.Prelude.{◌≡◌, ℕ, List, [], ◌∷◌, ◌++◌, map, Option}
 use Rattle.serde_json.specs.Written.{compact_text}
+use Rattle.sql_schema.specs.Declarations.{Declarations}
 use Rattle.sql_dialect.specs.declared.backend.Dialect.{Dialect}
+use Rattle.sql_node.specs.Tree.{Statement}
+use Rattle.sql_build.specs.Built.{statement_in}
 use Rattle.sql_document.specs.Documents.{Request, Document}
-use Rattle.sql_output.specs.Answer.{answer_to}
-use Rattle.sql_output.specs.Judgement.{Judgement, refuses, accepts, JudgesEach}
-use Rattle.sql_output.specs.Known.{request_key, place_behind}
-use Rattle.sql_output.specs.declared.known.RequestKey.{RequestKey}
+use Rattle.sql_output.specs.Objects.{line_object}
+use Rattle.sql_output.specs.Ids.{RequestShape, request_shape, IsId}
+use Rattle.sql_output.specs.Judgement.{Judgement, Judges}
 
--- by what a cache knows a request, none where it is refused or its statement has no id
-abbrev pub key_seen : Dialect → Judgement → Option RequestKey
-key_seen d (refuses rule) = None
-key_seen d (accepts s) = request_key d s
+-- a dialect, and a statement; none where the query names what the schema lacks
+pub record StatementRequest : Type 0 where
+  pub dialect : Dialect
+  pub statement : Option Statement
 
--- an answer as compact JSON, and a newline
-unfoldable pub answer_line : Dialect → Option ℕ → Judgement → List ℕ
-answer_line d place j = compact_text (answer_to d place j) ++ 10 ∷ []
+-- the statement that a request's query makes over the schema
+abbrev pub statement_request : Declarations → Request → StatementRequest
+statement_request schema r = record { dialect = r.dialect; statement = statement_in schema r.dialect r.query }
 
--- The line of a request behind requests of these keys. Its id is the place, from 1, of the first accepted request that has its
--- dialect and its statement's key.
-abbrev pub line : List (Option RequestKey) → Dialect → Judgement → List ℕ
-line earlier d j = answer_line d (place_behind earlier (key_seen d j)) j
+abbrev pub statement_requests : Document → List StatementRequest
+statement_requests d = map (statement_request d.schema) d.requests
 
--- a line for each request, in order, behind requests of these keys
-abbrev pub lines : List (Option RequestKey) → List Request → List Judgement → List ℕ
-lines earlier [] js = []
-lines earlier (r ∷ rs) [] = []
-lines earlier (r ∷ rs) (j ∷ js) = line earlier r.dialect j ++ lines (earlier ++ key_seen r.dialect j ∷ []) rs js
+-- what a line says of a request
+pub record Line : Type 0 where
+  pub dialect : Dialect
+  pub judgement : Judgement
+  pub id : Option ℕ
 
--- The text answers each request of the document, in order: with the first rule that its statement breaks, or with the text and
--- the values of its statement, which are read as that.
-abbrev pub Answers : Document → List ℕ → Type 0
-Answers d text = (js : List Judgement) × JudgesEach d.schema d.requests js × (text ≡ lines [] d.requests js)
+abbrev pub line_shape : Line → Option RequestShape
+line_shape l = request_shape l.dialect l.judgement
 
--- The text is a front of what answers the first of the requests.
-abbrev pub AnswersFront : Document → List ℕ → Type 0
-AnswersFront d text = (rs later : List Request) × (d.requests ≡ rs ++ later)
-    × ((js : List Judgement) × JudgesEach d.schema rs js × ((rest : List ℕ) × (lines [] rs js ≡ text ++ rest)))
+-- the line of a request after requests of these shapes
+pub record IsLine (schema : Declarations) (earlier : List (Option RequestShape)) (r : StatementRequest) (l : Line) : Type 0 where
+  pub dialect : l.dialect ≡ r.dialect
+  pub judged : Judges schema r.dialect r.statement l.judgement
+  pub id : IsId (earlier ++ line_shape l ∷ []) (line_shape l) l.id
+
+-- a line for each request, in order, after requests of these shapes
+abbrev pub AreLines : Declarations → List (Option RequestShape) → List StatementRequest → List Line → Type 0
+AreLines schema earlier [] [] = Unit {0}
+AreLines schema earlier [] (l ∷ ls) = ⊥
+AreLines schema earlier (r ∷ rs) [] = ⊥
+AreLines schema earlier (r ∷ rs) (l ∷ ls) =
+    IsLine schema earlier r l × AreLines schema (earlier ++ line_shape l ∷ []) rs ls
+
+-- compact JSON, and a newline
+unfoldable pub line_text : Line → List ℕ
+line_text l = compact_text (line_object l.dialect l.id l.judgement) ++ 10 ∷ []
+
+abbrev pub lines_text : List Line → List ℕ
+lines_text [] = []
+lines_text (l ∷ ls) = line_text l ++ lines_text ls
+
+-- The text is a line for each request of the document, in order: with the name of its refusal, or with the text and the values
+-- of its statement, which are read as that.
+abbrev pub IsOutput : Document → List ℕ → Type 0
+IsOutput d text = (ls : List Line) × AreLines d.schema [] (statement_requests d) ls × (text ≡ lines_text ls)
+
+-- The text is a prefix of the lines of the document's first requests.
+abbrev pub IsOutputPrefix : Document → List ℕ → Type 0
+IsOutputPrefix d text =
+    (rs later : List StatementRequest) × (statement_requests d ≡ rs ++ later)
+    × ((ls : List Line) × AreLines d.schema [] rs ls × ((rest : List ℕ) × (lines_text ls ≡ text ++ rest)))

@@ -1,14 +1,13 @@
-ghost use Rattle.std.specs.Prelude.{◌≡◌, [], ◌∷◌, Some, IfOk, OnOk, option_map};
-ghost use Rattle.std.specs.Option.{option_or, unwrap_or};
-ghost use Rattle.std.specs.BTreeMap as tree;
-ghost use Rattle.sql_output.specs.Known.{keyed, place};
+ghost use Rattle.std.specs.Prelude.{◌≡◌, Some, IfOk, OnOk, option_map};
+ghost use Rattle.std.specs.Option.{unwrap_or};
+ghost use Rattle.sql_output.specs.inside.Keys.{keyed, id_found, seen_at, IsKept};
 
 use sql_dialect::Dialect;
 use sql_key::QueryKey;
 use std::alloc::AllocError;
 use std::collections::BTreeMap;
 
-/// By what a cache knows a request: its dialect, and the key of its statement.
+/// The cache key of a request: its dialect, and the key of its statement.
 #[derive(Debug, Drop, PartialEq, Eq, PartialOrd, Ord)]
 pub struct RequestKey {
     pub dialect: Dialect,
@@ -20,13 +19,9 @@ fn id_of_key(
     key: RequestKey,
     number: u64,
 ) -> Result<u64, AllocError>
-    ensures found { IfOk result (λ id. id
-        ≡ unwrap_or (tree.get ⟦<RequestKey as Ord>⟧.cmp seen.old key) number) }
+    ensures found { IfOk result (λ id. id ≡ unwrap_or (seen_at seen.old key) number) }
     ensures kept { OnOk result
-        ((q : RequestKey)
-        → tree.get ⟦<RequestKey as Ord>⟧.cmp seen.new q
-        ≡ option_or (tree.get ⟦<RequestKey as Ord>⟧.cmp seen.old q)
-        (place number (Some key ∷ []) q)) }
+        (IsKept (seen_at seen.old) (seen_at seen.new) number (Some key)) }
 {
     match seen.get(&key).copied() {
         Some(first) => Ok(first),
@@ -37,8 +32,8 @@ fn id_of_key(
     }
 }
 
-/// The number of the first request that is known by this key, where `number` is this request's own, and keeps it in mind. A
-/// statement without a key has none.
+/// The number of the first request that has this key, where `number` is this request's own. A new key is added to the map. A
+/// statement without a key has no id.
 pub fn id(
     seen: &mut BTreeMap<RequestKey, u64>,
     dialect: Dialect,
@@ -46,14 +41,9 @@ pub fn id(
     number: u64,
 ) -> Result<Option<u64>, AllocError>
     ensures found { IfOk result (λ id. id
-        ≡ option_map
-        (λ k. unwrap_or (tree.get ⟦<RequestKey as Ord>⟧.cmp seen.old (keyed dialect k)) number)
-        key) }
+        ≡ id_found (seen_at seen.old) number (option_map (keyed dialect) key)) }
     ensures kept { OnOk result
-        ((q : RequestKey)
-        → tree.get ⟦<RequestKey as Ord>⟧.cmp seen.new q
-        ≡ option_or (tree.get ⟦<RequestKey as Ord>⟧.cmp seen.old q)
-        (place number (option_map (keyed dialect) key ∷ []) q)) }
+        (IsKept (seen_at seen.old) (seen_at seen.new) number (option_map (keyed dialect) key)) }
 {
     match key {
         None => Ok(None),

@@ -1,9 +1,9 @@
 //! The lines that are written for a document: what becomes of each request, as JSON, with ids of shapes.
 #![tactic(auto)]
 
-mod answer;
 mod known;
 mod line;
+mod object;
 
 pub use known::RequestKey;
 pub use line::request_line;

@@ -1,24 +1,21 @@
-ghost use Rattle.std.specs.Prelude.{◌≡◌, [], ◌∷◌, IfOk, IfErr, OnOk, Some, option_map, string_bytes};
-ghost use Rattle.std.specs.Option.{option_or, unwrap_or};
-ghost use Rattle.std.specs.BTreeMap as tree;
+ghost use Rattle.std.specs.Prelude.{◌≡◌, IfOk, IfErr, OnOk, Some, option_map, string_bytes};
 ghost use Rattle.serde_json.specs.View.{view};
 ghost use Rattle.sql_check.specs.Compiled.{IsBuilt, IsLeast, IsRead};
 ghost use Rattle.sql_check.specs.Errors.{rule_of};
 ghost use Rattle.sql_document.specs.Trees.{request_tree};
 ghost use Rattle.sql_node.specs.View.{statement_tree};
+ghost use Rattle.sql_rules.specs.Texts.{rule_text};
 ghost use Rattle.sql_rules.specs.declared.rule.Rule.{Rule};
-ghost use Rattle.sql_output.specs.Answer.{answer_to, refused as refused_data, statement_data};
-ghost use Rattle.sql_output.specs.Judgement.{Judgement, Judges};
-ghost use Rattle.sql_output.specs.Inner.{place_found};
-ghost use Rattle.sql_output.specs.Known.{keyed, place};
-ghost use Rattle.sql_output.specs.Output.{key_seen, answer_line};
+ghost use Rattle.sql_output.specs.Objects.{line_object, refused as refused_data, statement_data};
+ghost use Rattle.sql_output.specs.Output.{line_text, statement_request};
+ghost use Rattle.sql_output.specs.inside.Keys.{keyed, id_found, seen_at, IsKept, HasLine};
 
-use crate::answer::{accepted, refused};
 use crate::known::{RequestKey, id};
+use crate::object::{accepted, refused};
 use serde_json::Value as Json;
 use sql_build::statement;
 use sql_check::{Built, CompileError, Rule, compile};
-use sql_dialect::{Dialect, Mysql, Pg, Sqlite};
+use sql_dialect::{Bracket, Dialect, Mysql, Pg, Sqlite};
 use sql_document::Request;
 use sql_node::Statement;
 use sql_schema::Schema;
@@ -34,7 +31,7 @@ fn compile_for(
 ) -> Result<Built, CompileError>
     ensures built { IfOk result (λ b. IsBuilt schema.now dialect (statement_tree statement.now) b) }
     ensures read { IfOk result (λ b. IsRead dialect (statement_tree statement.now)
-        (string_bytes b.sql) b.binds.items) }
+        b.sql b.binds) }
     ensures refused { IfErr result (λ e. (r : Rule) → rule_of e ≡ Some r
         → IsLeast r schema.now dialect (statement_tree statement.now)) }
 {
@@ -42,10 +39,11 @@ fn compile_for(
         Dialect::Pg => compile(alloc, &Pg, schema, statement),
         Dialect::Mysql => compile(alloc, &Mysql, schema, statement),
         Dialect::Sqlite => compile(alloc, &Sqlite, schema, statement),
+        Dialect::Bracket => compile(alloc, &Bracket, schema, statement),
     }
 }
 
-/// The answer to a request whose statement is accepted.
+/// The object of a request whose statement is accepted.
 fn accept(
     alloc: Global,
     dialect: Dialect,
@@ -53,18 +51,12 @@ fn accept(
     number: u64,
     built: Built,
 ) -> Result<Json, AllocError>
-    ensures answer { IfOk result (λ v. view v
-        ≡ statement_data built.binds.items built.sql_types.items
-        (option_map
-        (λ k. unwrap_or (tree.get ⟦<RequestKey as Ord>⟧.cmp seen.old (keyed dialect k))
-        number)
-        built.id)
-        built.safe (string_bytes built.sql)) }
-    ensures kept { OnOk result
-        ((q : RequestKey)
-        → tree.get ⟦<RequestKey as Ord>⟧.cmp seen.new q
-        ≡ option_or (tree.get ⟦<RequestKey as Ord>⟧.cmp seen.old q)
-        (place number (option_map (keyed dialect) built.id ∷ []) q)) }
+    ensures object { IfOk result (λ v. view v
+        ≡ statement_data built.binds built.sql_types
+        (id_found (seen_at seen.old) number (option_map (keyed dialect) built.id))
+        built.safe built.sql) }
+    ensures kept { OnOk result (IsKept (seen_at seen.old) (seen_at seen.new) number
+        (option_map (keyed dialect) built.id)) }
 {
     let Built {
         sql,
@@ -74,13 +66,20 @@ fn accept(
         id: key,
     } = built;
     let id = id(seen, dialect, key, number)?;
-    accepted(alloc, &binds, &sql_types, id, safe, sql.as_str())
+    accepted(
+        alloc,
+        binds.as_slice(),
+        sql_types.as_slice(),
+        id,
+        safe,
+        sql.as_str(),
+    )
 }
 
-/// The answer to a request whose statement is not compiled.
+/// The object of a request whose statement is not compiled.
 fn refuse(alloc: Global, error: CompileError) -> Result<Json, AllocError>
     ensures { IfOk result (λ v. (rule : Rule) × (rule_of error ≡ Some rule)
-        × (view v ≡ refused_data rule)) }
+        × (view v ≡ refused_data (rule_text rule))) }
 {
     match error.rule() {
         Some(rule) => refused(alloc, rule),
@@ -88,24 +87,18 @@ fn refuse(alloc: Global, error: CompileError) -> Result<Json, AllocError>
     }
 }
 
-/// The answer to a request, where `seen` has the keys of those before it.
-fn answer(
+/// The object of the request with this number, where `seen` has the keys of those before it.
+fn request_object(
     alloc: Global,
     schema: &Schema,
     seen: &mut BTreeMap<RequestKey, u64>,
     number: u64,
     request: &Request,
 ) -> Result<Json, AllocError>
-    ensures { IfOk result (λ v. (j : Judgement) × Judges schema.now (request_tree request.now) j
-        × (view v
-        ≡ answer_to request.now.dialect
-        (place_found (tree.get ⟦<RequestKey as Ord>⟧.cmp seen.old) number
-        (key_seen request.now.dialect j))
-        j)
-        × ((q : RequestKey)
-        → tree.get ⟦<RequestKey as Ord>⟧.cmp seen.new q
-        ≡ option_or (tree.get ⟦<RequestKey as Ord>⟧.cmp seen.old q)
-        (place number (key_seen request.now.dialect j ∷ []) q))) }
+    ensures { IfOk result (λ v. HasLine schema.now
+        (statement_request schema.now (request_tree request.now))
+        number (seen_at seen.old) (seen_at seen.new)
+        (λ l. view v ≡ line_object l.dialect l.id l.judgement)) }
 {
     match statement(alloc, schema, request.dialect, &request.query)? {
         None => refused(alloc, Rule::UnknownName),
@@ -116,7 +109,7 @@ fn answer(
     }
 }
 
-/// The line that answers the request with this number, where `seen` has the keys of those before it.
+/// The line of the request with this number, where `seen` has the keys of those before it.
 pub fn request_line(
     alloc: Global,
     schema: &Schema,
@@ -124,18 +117,12 @@ pub fn request_line(
     number: u64,
     request: &Request,
 ) -> Result<String, AllocError>
-    ensures { IfOk result (λ text. (j : Judgement) × Judges schema.now (request_tree request.now) j
-        × (string_bytes text
-        ≡ answer_line request.now.dialect
-        (place_found (tree.get ⟦<RequestKey as Ord>⟧.cmp seen.old) number
-        (key_seen request.now.dialect j))
-        j)
-        × ((q : RequestKey)
-        → tree.get ⟦<RequestKey as Ord>⟧.cmp seen.new q
-        ≡ option_or (tree.get ⟦<RequestKey as Ord>⟧.cmp seen.old q)
-        (place number (key_seen request.now.dialect j ∷ []) q))) }
+    ensures { IfOk result (λ text. HasLine schema.now
+        (statement_request schema.now (request_tree request.now))
+        number (seen_at seen.old) (seen_at seen.new)
+        (λ l. string_bytes text ≡ line_text l)) }
 {
-    let value = answer(alloc, schema, seen, number, request)?;
+    let value = request_object(alloc, schema, seen, number, request)?;
     let mut text = value.to_string(alloc)?;
     text.push_str("\n")?;
     Ok(text)

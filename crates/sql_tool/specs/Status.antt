@@ -1,4 +1,4 @@
--- The numbers and the words by which a run's end is told.
+-- The exit statuses and the words that say how a run ended.
 use Rattle.std.specs.Prelude.{ℕ, List, codes}
 use Rattle.sql_tool.specs.declared.status.Status.{Status}
 use Rattle.sql_tool.specs.declared.status.Status.TheVariants.{Done, Usage, BadDocument, ReadFault, WriteFault, NoMemory, TooLarge}

@@ -13,7 +13,7 @@ use std::test::Fail;
 const DOCUMENT: &str =
     "{\"schema\":{\"tables\":[{\"name\":\"foo\",\"columns\":[{\"name\":\"id\",\"type\":\"Integer\"}]}]},\"requests\":[{\"dialect\":\"Pg\",\"query\":{\"from\":{\"table\":\"foo\"}}}]}";
 
-const ANSWER: &str =
+const LINE: &str =
     "{\"binds\":[],\"columns\":[\"Integer\"],\"id\":1,\"safe\":true,\"sql\":\"SELECT \\\"foo\\\".\\\"id\\\" FROM \\\"foo\\\"\"}\n";
 
 fn source(alloc: Global) -> Result<SureSource, Fail> {
@@ -40,7 +40,7 @@ fn the_program(alloc: Global) -> Result<(), Fail> {
     let mut from = source(alloc)?;
     let mut to = MemorySink::new(alloc, 1000, NonZeroUsize::MAX, Vec::new(alloc))?;
     let status = run(alloc, words.as_slice(), &mut from, &mut to);
-    if status == Status::Done && to.bytes() == ANSWER.as_bytes() {
+    if status == Status::Done && to.bytes() == LINE.as_bytes() {
         Ok(())
     } else {
         Err(status.name())?

@@ -1,6 +1,7 @@
 //! Reads a document on standard input, and writes a line for each of its requests.
 #![tactic(auto)]
 
+mod command;
 mod run;
 mod status;
 
@@ -40,5 +41,7 @@ fn run_over_standard_streams(rt: &HostRuntime) -> Status {
 
 #[cfg(test)]
 mod every_call;
+#[cfg(test)]
+mod hostile;
 #[cfg(test)]
 mod tests;

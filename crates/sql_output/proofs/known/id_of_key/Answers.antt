@@ -1,17 +1,16 @@
 use Rattle.std.proofs.Common.{◌≡◌, ◌∙◌, Some, None, rules}
-use Rattle.std.specs.BTreeMap as tree
-use Rattle.sql_output.specs.contracts.known.RequestKeyOrd.TheImpl as key_ord
-use Rattle.sql_output.proofs.Places.{kept-seen, kept-new}
+use Rattle.sql_output.specs.inside.Keys.{seen_at}
+use Rattle.sql_output.proofs.Keys.{kept-seen, kept-new}
 use Rattle.sql_output.proofs.known.id_of_key.Goals as goal
 
 pub returns-in-Some-clause-kept : goal.returns-in-Some-clause-kept
 returns-in-Some-clause-kept c =
-    let f = tree.get (key_ord.ghosts).cmp c.args.seen.now in
+    let f = seen_at c.args.seen.now in
     let h : f c.args.key ≡ Some c.in-Some.first = search rules in
     kept-seen f c.args.key c.in-Some.first c.args.number h
 
 pub returns-in_ok-insert-in-None-clause-kept : goal.returns-in_ok-insert-in-None-clause-kept
 returns-in_ok-insert-in-None-clause-kept c =
-    let f = tree.get (key_ord.ghosts).cmp c.args.seen.now in
+    let f = seen_at c.args.seen.now in
     let h : f c.args.key ≡ None = search rules in
     λ q. c.in_ok-insert-in-None.ensures.updates.0 q ∙ kept-new f c.args.key c.args.number h q

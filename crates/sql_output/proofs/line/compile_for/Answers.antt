@@ -8,3 +8,6 @@ returns-in-Mysql-clause-refused c = rw c.in-Mysql.is c.compile-in-Mysql.ensures.
 
 pub returns-in-Sqlite-clause-refused : goal.returns-in-Sqlite-clause-refused
 returns-in-Sqlite-clause-refused c = rw c.in-Sqlite.is c.compile-in-Sqlite.ensures.refused
+
+pub returns-in-Bracket-clause-refused : goal.returns-in-Bracket-clause-refused
+returns-in-Bracket-clause-refused c = rw c.in-Bracket.is c.compile-in-Bracket.ensures.refused

@@ -1,4 +1,4 @@
--- The JSON object that answers a request.
+-- The JSON object (RFC 8259) of a request's line.
 use Rattle.std.specs.Prelude.{ℕ, List, Bool, map, codes, Option, Some, None}
 use Rattle.serde_json.specs.Data.{Data, null, boolean, number, string, array, object, unsigned, no_items, item, no_members, member}
 use Rattle.serde_json.specs.View.{items_of}
@@ -12,11 +12,7 @@ use Rattle.sql_pass.specs.declared.value.Bound.{Bound}
 use Rattle.sql_pass.specs.declared.value.Bound.TheVariants as B
 use Rattle.sql_document.specs.Names.{type_text}
 use Rattle.sql_node.specs.Tree.{Statement}
-use Rattle.sql_rules.specs.Texts.{rule_text}
-use Rattle.sql_rules.specs.Types.{columns}
-use Rattle.sql_rules.specs.declared.rule.Rule.{Rule}
 use Rattle.sql_check.specs.Compiled.{sql_of, binds_of, is_safe_in}
-use Rattle.sql_check.specs.Typed.{known}
 use Rattle.sql_output.specs.Judgement.{Judgement, refuses, accepts}
 
 abbrev pub value_data : Value → Data
@@ -36,26 +32,26 @@ abbrev pub bound_data : Bound → Data
 bound_data (B.Value t v) = array (item (type_data t) (item (value_data v) no_items))
 bound_data (B.List t vs) = array (item (type_data t) (item (array (items_of (map value_data vs))) no_items))
 
-abbrev pub place_data : Option ℕ → Data
-place_data None = null
-place_data (Some n) = number (unsigned n)
+abbrev pub id_data : Option ℕ → Data
+id_data None = null
+id_data (Some n) = number (unsigned n)
 
 abbrev pub statement_data : List Bound → List SqlType → Option ℕ → Bool → List ℕ → Data
-statement_data binds columns place safe text =
+statement_data binds columns id safe text =
     object (member (codes "binds") (array (items_of (map bound_data binds)))
     (member (codes "columns") (array (items_of (map type_data columns)))
-    (member (codes "id") (place_data place)
+    (member (codes "id") (id_data id)
     (member (codes "safe") (boolean safe)
     (member (codes "sql") (string text) no_members)))))
 
--- the text of a statement, its values in the order of their placeholders, and what else is told of it
-abbrev pub accepted : Dialect → Option ℕ → Statement → Data
-accepted d place s = statement_data (binds_of d s) (known (columns s)) place (is_safe_in d s) (sql_of d s)
+-- the values of a statement in the order of their placeholders, the types of its columns, its id, whether it is safe to prepare
+-- for other values, and its text
+abbrev pub accepted : Dialect → Option ℕ → Statement → List SqlType → Data
+accepted d id s ts = statement_data (binds_of d s) ts id (is_safe_in d s) (sql_of d s)
 
-abbrev pub refused : Rule → Data
-refused rule = object (member (codes "refused") (string (rule_text rule)) no_members)
+abbrev pub refused : List ℕ → Data
+refused name = object (member (codes "refused") (string name) no_members)
 
--- the answer to a request, where a statement's place is this
-abbrev pub answer_to : Dialect → Option ℕ → Judgement → Data
-answer_to d place (refuses rule) = refused rule
-answer_to d place (accepts s) = accepted d place s
+abbrev pub line_object : Dialect → Option ℕ → Judgement → Data
+line_object d id (refuses name) = refused name
+line_object d id (accepts s ts) = accepted d id s ts

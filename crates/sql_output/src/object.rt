@@ -1,6 +1,7 @@
 ghost use Rattle.std.specs.Prelude.{◌≡◌, map, IfOk};
 ghost use Rattle.serde_json.specs.View.{view};
-ghost use Rattle.sql_output.specs.Answer.{value_data, type_data, bound_data, statement_data, refused as refused_data};
+ghost use Rattle.sql_rules.specs.Texts.{rule_text};
+ghost use Rattle.sql_output.specs.Objects.{value_data, type_data, bound_data, statement_data, refused as refused_data};
 
 use serde_json::{Value as Json, json};
 use sql_check::Rule;
@@ -77,7 +78,7 @@ fn types_json(alloc: Global, types: &[SqlType]) -> Result<Vec<Json>, AllocError>
     Ok(all)
 }
 
-/// The answer to a request that is accepted:
+/// The line of an accepted request:
 /// `{"binds":[["Integer",1]],"columns":["Integer"],"id":1,"safe":true,"sql":"SELECT .."}`.
 pub fn accepted(
     alloc: Global,
@@ -100,9 +101,9 @@ pub fn accepted(
     })
 }
 
-/// The answer to a request that is refused: `{"refused":"NotInScope"}`.
+/// The line of a refused request: `{"refused":"NotInScope"}`.
 pub fn refused(alloc: Global, rule: Rule) -> Result<Json, AllocError>
-    ensures { IfOk result (λ v. view v ≡ refused_data rule) }
+    ensures { IfOk result (λ v. view v ≡ refused_data (rule_text rule)) }
 {
     json!(in alloc; {"refused": rule.name()})
 }
