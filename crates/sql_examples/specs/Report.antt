@@ -1,17 +1,17 @@
 -- The statement of the report: the first ten users of a name. None where the schema has no table `users`, or that no column `name`.
 use Rattle.std.specs.Prelude.{ℕ, List, Option, None, Some, false, codes, option_map, option_and_then, pos}
-use Rattle.sql_schema.specs.Columns.{DeclaredColumn, column_in, table_named}
-use Rattle.sql_schema.specs.Declarations.{Declarations}
-use Rattle.sql_schema.specs.declared.declaration.TableDecl.{TableDecl}
-use Rattle.sql_schema.specs.declared.types.Base.TheVariants.{Text}
-use Rattle.sql_pass.specs.declared.value.Value.TheVariants as V
-use Rattle.sql_node.specs.Tree.{Expr, Statement, compared, of_table, value}
-use Rattle.sql_node.specs.Words.{And, Eq}
-use Rattle.sql_source.specs.Origins.{column_under}
-use Rattle.sql_select.specs.Changes.{filtered, limited}
-use Rattle.sql_select.specs.Simple.{simple}
-use Rattle.sql_rules.specs.declared.rule.Rule.{Rule}
-use Rattle.sql_check.specs.Errors.{rule_of}
+use Rattle.hardieflax.specs.Columns.{DeclaredColumn, column_in, table_named}
+use Rattle.hardieflax.specs.Declarations.{Declarations}
+use Rattle.hardieflax.specs.TableDecl.{TableDecl}
+use Rattle.hardieflax.specs.Base.TheVariants.{Text}
+use Rattle.hardieflax.specs.Value.TheVariants as V
+use Rattle.hardieflax.specs.Tree.{Expr, Statement, compared, of_table, value}
+use Rattle.hardieflax.specs.Words.{And, Eq}
+use Rattle.hardieflax.specs.Origins.{column_under}
+use Rattle.hardieflax.specs.Changes.{filtered, limited}
+use Rattle.hardieflax.specs.Simple.{simple}
+use Rattle.hardieflax.specs.Rule.{Rule}
+use Rattle.hardieflax.specs.Errors.{rule_of}
 use Rattle.sql_examples.specs.declared.report.ReportError.{ReportError}
 use Rattle.sql_examples.specs.declared.report.ReportError.TheVariants as E
 

@@ -1,15 +1,14 @@
 #![tactic(auto, using(sql_pass::proofs::Walking::walking))]
 
 ghost use Rattle.std.specs.Prelude.{◌++◌, codes, refl};
-ghost use Rattle.sql_dialect.specs.declared.backend.Dialect.TheVariants as D;
-ghost use Rattle.sql_pass.specs.Pieces.{one, Text};
+ghost use Rattle.hardieflax.specs.Dialect.TheVariants as D;
+ghost use Rattle.hardieflax.specs.Pieces.{one, Text};
 
-use sql_dialect::{
-    AliasSyntax, ArrayComparison, Backend, Combinator, Dialect, DuplicateRule,
-    EmptyFromClauseSyntax, ExistsSyntax, Mysql, MysqlQueryBuilder, SelectStatementSyntax,
-    SqlDialect,
+use hardieflax::{
+    AliasSyntax, ArrayComparison, AstPass, Backend, Combinator, Dialect, DuplicateRule,
+    EmptyFromClauseSyntax, ExistsSyntax, Mysql, MysqlQueryBuilder, PassError, QueryFragment,
+    SelectStatementSyntax, SqlDialect,
 };
-use sql_pass::{AstPass, PassError, QueryFragment};
 use std::alloc::Global;
 
 /// MariaDB, which speaks as MySQL does. What is proved of every backend holds of it.

@@ -1,18 +1,17 @@
-ghost use Rattle.std.specs.Prelude.{◌≡◌, IfErr, IfOk, IsErrOf, None, Some, string_bytes};
-ghost use Rattle.sql_node.specs.Tree as tree;
-ghost use Rattle.sql_node.specs.View.{expr_tree, statement_tree};
-ghost use Rattle.sql_dialect.specs.declared.backend.Dialect.TheVariants.{Pg as PgDialect};
-ghost use Rattle.sql_rules.specs.declared.rule.Rule.{Rule};
-ghost use Rattle.sql_check.specs.Compiled.{IsBuilt, IsLeast, IsRead};
-ghost use Rattle.sql_check.specs.declared.error.CompileError.TheVariants.{NoMemory as WantOfMemory};
+ghost use Rattle.std.specs.Prelude.{◌≡◌, IfErr, IfOk, IsErrOf, None, Some};
+ghost use Rattle.hardieflax.specs.Tree as tree;
+ghost use Rattle.hardieflax.specs.View.{expr_tree, statement_tree};
+ghost use Rattle.hardieflax.specs.Dialect.TheVariants.{Pg as PgDialect};
+ghost use Rattle.hardieflax.specs.Rule.{Rule};
+ghost use Rattle.hardieflax.specs.Compiled.{IsBuilt, IsLeast, IsRead};
+ghost use Rattle.hardieflax.specs.CompileError.TheVariants.{NoMemory as OutOfMemory};
 ghost use Rattle.sql_examples.specs.Report.{first_ten, is_text, refusal, report};
 ghost use Rattle.sql_examples.specs.declared.report.ReportError.TheVariants.{Refused};
 
-use sql_check::{Built, CompileError, compile};
-use sql_dialect::Pg;
-use sql_expr::{Expr, ExpressionMethods, Statement, value};
-use sql_schema::{Column, NoMemory, Schema, Table};
-use sql_select::{AsQuery, Query, QueryDsl};
+use hardieflax::{
+    AsQuery, Built, Column, CompileError, Expr, ExpressionMethods, NoMemory, Pg, Query, QueryDsl,
+    Schema, Statement, Table, compile, value,
+};
 use std::alloc::{AllocError, Global};
 use thiserror::Error;
 
@@ -26,7 +25,7 @@ pub enum ReportError {
 }
 
 impl From<AllocError> for ReportError {
-    ghost from_gives = { λ _ e. e ≡ Refused WantOfMemory };
+    ghost from_gives = { λ _ e. e ≡ Refused OutOfMemory };
 
     fn from(_: AllocError) -> ReportError {
         ReportError::Refused(CompileError::NoMemory)
@@ -36,12 +35,12 @@ impl From<AllocError> for ReportError {
 /// The first ten users of a name, as PostgreSQL reads them:
 /// `SELECT "users"."id", "users"."name" FROM "users" WHERE ("users"."name" = $1) LIMIT $2`.
 pub fn users_named(alloc: Global, schema: &Schema, name: &str) -> Result<Built, ReportError>
-    // What is told is told of the report's statement, which breaks no rule, and the text is read as that and as nothing else.
+    // The answer is about the report's statement, which breaks no rule, and the text is read as that and as nothing else.
     ensures built { IfOk result (λ b. (s : tree.Statement) × (report schema.now name.now ≡ Some s)
         × IsBuilt schema.now PgDialect s b
-        × IsRead PgDialect s (string_bytes b.sql) b.binds.items) }
+        × IsRead PgDialect s b.sql b.binds) }
     ensures no_users { IsErrOf result ReportError.NoUsers → report schema.now name.now ≡ None }
-    // An error that names a rule names the first that the statement breaks. Any other is want of memory.
+    // An error that names a rule names the first that the statement breaks. Any other says that memory ran out.
     ensures refused { IfErr result (λ e. (r : Rule) → refusal e ≡ Some r
         → (s : tree.Statement) × (report schema.now name.now ≡ Some s)
         × IsLeast r schema.now PgDialect s) }

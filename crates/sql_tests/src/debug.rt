@@ -1,6 +1,6 @@
 //! The lines that show statements to those who debug.
 
-use super::every_call::fixture::{beside, column, table};
+use super::every_call::fixture::{beside, column, id, one, table};
 use sql_dialect::{Backend, Mysql, Pg};
 use sql_expr::{Expr, ExpressionMethods, InValues, SelectStatement, value};
 use sql_pass::Value;
@@ -56,6 +56,23 @@ fn lines_of_statements(rt: HostRuntime) -> Result<(), Fail> {
     assert_eq!(rt;
         shown(alloc, &Pg, query)?.as_str(),
         r#"SELECT "users"."id" FROM "users" WHERE ("users"."name" = $1) LIMIT $2 -- binds: ["x", 3]"#
+    );
+    Ok(())
+}
+
+/// `"users"."id" = 1`.
+fn is_one(alloc: Global) -> Result<Expr, Fail> {
+    let (left, right) = beside(id(alloc)?, one(alloc))?;
+    Ok(left.eq(alloc, right)?)
+}
+
+#[test]
+fn a_line_of_one_number(rt: HostRuntime) -> Result<(), Fail> {
+    let alloc = rt.alloc();
+    let (users, is_one) = beside(table(alloc, "users")?.as_query(alloc)?, is_one(alloc))?;
+    assert_eq!(rt;
+        shown(alloc, &Pg, users.filter(alloc, is_one)?)?.as_str(),
+        r#"SELECT "users"."id", "users"."name" FROM "users" WHERE ("users"."id" = $1) -- binds: [1]"#
     );
     Ok(())
 }

@@ -2,7 +2,7 @@ use sql_dialect::*;
 use std::alloc::Global;
 use std::test::Fail;
 
-/// A name, a placeholder, a value behind the text and a placeholder.
+/// A name, a placeholder, a value without a placeholder, and a placeholder.
 fn written<DB: Backend>(alloc: Global, backend: &DB, name: &str) -> Result<String, BindError> {
     let mut builder = backend.query_builder(alloc);
     builder
@@ -18,11 +18,23 @@ fn written<DB: Backend>(alloc: Global, backend: &DB, name: &str) -> Result<Strin
 #[test]
 fn names_and_placeholders(rt: HostRuntime) -> Result<(), Fail> {
     quoted_names_differ();
-    for (name, pg, others) in [
-        ("users", "\"users\" = $1$3", "`users` = ??"),
-        ("a\"b", "\"a\"\"b\" = $1$3", "`a\"b` = ??"),
-        ("`", "\"`\" = $1$3", "```` = ??"),
-        ("", "\"\" = $1$3", "`` = ??"),
+    for (name, pg, others, bracket) in [
+        (
+            "users",
+            "\"users\" = $1$3",
+            "`users` = ??",
+            "[users] = @p1@p3",
+        ),
+        (
+            "a\"b",
+            "\"a\"\"b\" = $1$3",
+            "`a\"b` = ??",
+            "[a\"b] = @p1@p3",
+        ),
+        ("`", "\"`\" = $1$3", "```` = ??", "[`] = @p1@p3"),
+        ("a]b", "\"a]b\" = $1$3", "`a]b` = ??", "[a]]b] = @p1@p3"),
+        ("[", "\"[\" = $1$3", "`[` = ??", "[[] = @p1@p3"),
+        ("", "\"\" = $1$3", "`` = ??", "[] = @p1@p3"),
     ] {
         assert_eq!(rt; written(rt.alloc(), &Pg, name)?.as_str(), pg, "{name}");
         assert_eq!(rt;
@@ -33,6 +45,11 @@ fn names_and_placeholders(rt: HostRuntime) -> Result<(), Fail> {
         assert_eq!(rt;
             written(rt.alloc(), &Sqlite, name)?.as_str(),
             others,
+            "{name}"
+        );
+        assert_eq!(rt;
+            written(rt.alloc(), &Bracket, name)?.as_str(),
+            bracket,
             "{name}"
         );
     }
@@ -53,6 +70,18 @@ fn last_placeholder(rt: HostRuntime) -> Result<(), Fail> {
     last.push_bind_param()?;
     assert_eq!(rt; last.bind_idx(), 4294967295);
     assert_eq!(rt; last.finish().as_str(), "$4294967295");
+    Ok(())
+}
+
+#[test]
+fn last_placeholder_in_brackets(rt: HostRuntime) -> Result<(), Fail> {
+    let mut full = BracketQueryBuilder::with_bind_idx(rt.alloc(), 4294967295);
+    assert_eq!(rt; full.push_bind_param(), Err(BindError::TooManyBinds));
+    assert_eq!(rt; full.finish().as_str(), "");
+    let mut last = BracketQueryBuilder::with_bind_idx(rt.alloc(), 4294967294);
+    last.push_bind_param()?;
+    assert_eq!(rt; last.bind_idx(), 4294967295);
+    assert_eq!(rt; last.finish().as_str(), "@p4294967295");
     Ok(())
 }
 
@@ -79,9 +108,11 @@ fn shares_forms<DB: Backend>(backend: &DB) -> bool {
 #[test]
 fn dialects(rt: HostRuntime) {
     assert_eq!(rt; supported(&Pg), [true, true, true, true, true, true]);
-    assert_eq!(rt; supported(&Mysql), [true, true, false, false, false, false]);
+    assert_eq!(rt; supported(&Mysql), [true, true, true, true, true, true]);
     assert_eq!(rt; supported(&Sqlite), [true, true, true, false, true, false]);
-    assert!(rt; shares_forms(&Pg) && shares_forms(&Mysql) && shares_forms(&Sqlite));
+    assert_eq!(rt; supported(&Bracket), [true, true, true, false, true, false]);
+    assert!(rt; shares_forms(&Pg) && shares_forms(&Mysql));
+    assert!(rt; shares_forms(&Sqlite) && shares_forms(&Bracket));
     assert_eq!(rt;
         Pg.array_comparison(),
         ArrayComparison::PgStyleArrayComparison
@@ -94,9 +125,14 @@ fn dialects(rt: HostRuntime) {
         Sqlite.array_comparison(),
         ArrayComparison::AnsiSqlArrayComparison
     );
+    assert_eq!(rt;
+        Bracket.array_comparison(),
+        ArrayComparison::AnsiSqlArrayComparison
+    );
     assert_eq!(rt; Pg.dialect(), Dialect::Pg);
     assert_eq!(rt; Mysql.dialect(), Dialect::Mysql);
     assert_eq!(rt; Sqlite.dialect(), Dialect::Sqlite);
+    assert_eq!(rt; Bracket.dialect(), Dialect::Bracket);
 }
 
 #[test]

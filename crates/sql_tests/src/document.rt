@@ -6,7 +6,7 @@ use sql_syntax::{Call, ClauseCall, Expr, PlainCall, Source};
 use std::alloc::Global;
 use std::test::Fail;
 
-/// A document of one request, before its query and behind it.
+/// A document of one request, before its query and after it.
 const HEAD: &str =
     r#"{"schema":{"tables":[{"name":"users","columns":[{"name":"id","type":"Integer"}]}]},"requests":[{"dialect":"Pg","query":"#;
 
@@ -289,6 +289,7 @@ fn calls_on_forms(rt: HostRuntime) -> Result<(), Fail> {
         (r#"["no_wait"]"#, true, false, false),
         (r#"["into_boxed"]"#, true, false, false),
         (r#"["into_boxed","Mysql"]"#, true, false, false),
+        (r#"["into_boxed","Bracket"]"#, true, false, false),
         (r#"["union",{"select":[]}]"#, true, true, true),
         (r#"["union_all",{"select":[]}]"#, true, true, true),
         (r#"["intersect",{"select":[]}]"#, true, true, true),
@@ -422,4 +423,5 @@ fn names_of_dialects(rt: HostRuntime) {
     assert_eq!(rt; dialect_name(Dialect::Pg), "Pg");
     assert_eq!(rt; dialect_name(Dialect::Mysql), "Mysql");
     assert_eq!(rt; dialect_name(Dialect::Sqlite), "Sqlite");
+    assert_eq!(rt; dialect_name(Dialect::Bracket), "Bracket");
 }

@@ -1,7 +1,7 @@
 //! Tests of what the crates give to others, a module for each crate: worked texts, bytes, refusals, messages.
 //!
-//! A crate with tests of its own is proved twice, once with them; so they stand here. Those of the program stand in `sql_tool`.
-//! Requests and their lines are no tests: they stand in the program's stored run, `crates/sql_tool/stdin` and `stdout`.
+//! A crate with tests of its own is proved twice, once with them, so all tests of libraries are here; those of the program are in
+//! `sql_tool`. Requests and their lines are no tests: they are the program's stored run, `crates/sql_tool/stdin` and `stdout`.
 #![tactic(auto)]
 
 #[cfg(test)]
@@ -15,15 +15,13 @@ mod document;
 #[cfg(test)]
 mod every_call;
 #[cfg(test)]
-mod examples;
+mod expr;
 #[cfg(test)]
 mod fixture;
 #[cfg(test)]
 mod pass;
 #[cfg(test)]
 mod raw;
-#[cfg(test)]
-mod readme;
 #[cfg(test)]
 mod rules;
 #[cfg(test)]

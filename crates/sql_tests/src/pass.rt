@@ -5,7 +5,6 @@ ghost use Rattle.sql_pass.specs.Bounds.{bound_of};
 ghost use Rattle.sql_pass.specs.Pieces.{one, Text, Bind, ValueOnly, Unsafe};
 
 use sql_dialect::*;
-use sql_examples::Maria;
 use sql_pass::*;
 use sql_schema::{Base, SqlList, SqlText, SqlType};
 use std::alloc::Global;
@@ -43,8 +42,8 @@ fn texts_of_parts(rt: HostRuntime) -> Result<(), Fail> {
     let path = InfixNode::new(Identifier("a"), Identifier("b"), ".");
     assert_eq!(rt; text(alloc, &Pg, &path)?.as_str(), "\"a\".\"b\"");
     assert_eq!(rt;
-        text(alloc, &Maria, &Box::new(alloc, path)?)?.as_str(),
-        "`a`.`b`"
+        text(alloc, &Bracket, &Box::new(alloc, path)?)?.as_str(),
+        "[a].[b]"
     );
     let joined = InfixNode::new(Some(Identifier("a")), (), OnKeyword);
     assert_eq!(rt; text(alloc, &Sqlite, &joined)?.as_str(), "`a` ON ");
@@ -53,6 +52,7 @@ fn texts_of_parts(rt: HostRuntime) -> Result<(), Fail> {
     };
     assert_eq!(rt; text(alloc, &Pg, &side)?.as_str(), "(\"a\")");
     assert_eq!(rt; text(alloc, &Mysql, &side)?.as_str(), "(`a`)");
+    assert_eq!(rt; text(alloc, &Bracket, &side)?.as_str(), "([a])");
     assert_eq!(rt;
         text(alloc, &Sqlite, &side)?.as_str(),
         "SELECT * FROM (`a`)"
@@ -69,11 +69,12 @@ fn five_passes_of_a_fragment(rt: HostRuntime) -> Result<(), Fail> {
     let value = true.bound(alloc)?;
     let placed = Among(value.view());
     assert_eq!(rt; text(alloc, &Pg, &placed)?.as_str(), "$2");
-    assert_eq!(rt; text(alloc, &Maria, &placed)?.as_str(), "?");
+    assert_eq!(rt; text(alloc, &Mysql, &placed)?.as_str(), "?");
+    assert_eq!(rt; text(alloc, &Bracket, &placed)?.as_str(), "@p2");
     let last = PgQueryBuilder::with_bind_idx(alloc, 4294967294);
     assert!(rt; matches!(placed.to_sql(last, &Pg), Err(PassError::TooManyBinds)));
-    assert!(rt; !placed.is_safe_to_cache_prepared(&Maria) && !placed.is_noop(&Maria));
-    let shown = debug_binds(alloc, &Maria, &placed)?;
+    assert!(rt; !placed.is_safe_to_cache_prepared(&Mysql) && !placed.is_noop(&Mysql));
+    let shown = debug_binds(alloc, &Mysql, &placed)?;
     assert_eq!(rt; shown.len(), 2);
     assert!(rt; shown[0] == value && shown[1] == value);
     let mut pass = AstPass::is_noop(Pg);
@@ -116,7 +117,7 @@ fn binds_as<T: ToSql>(
         collects(alloc, Pg, &value, pg)?
             && collects(alloc, Mysql, &value, others)?
             && collects(alloc, Sqlite, &value, others)?
-            && collects(alloc, Maria, &value, others)?,
+            && collects(alloc, Bracket, &value, others)?,
     )
 }
 

@@ -59,14 +59,14 @@ fn boxed_takes_text_and_values(rt: HostRuntime) -> Result<(), Fail> {
     Ok(())
 }
 
-/// A raw query behind a bound one: `SELECT ?` with a value, then ` + ?` and ` + 1`.
+/// A raw query after a bound one: `SELECT ?` with a value, then ` + ?` and ` + 1`.
 fn more_text(alloc: Global) -> Result<SqlQuery<UncheckedBind<SqlQuery>>, AllocError> {
     let value = 5i32.bound(alloc)?;
     let query = UncheckedBind::new(raw(alloc, "SELECT ?")?, value);
     query.sql(String::from_str(alloc, " + ?")?).sql(" + 1")
 }
 
-/// The same boxed behind its values.
+/// The same boxed after its values.
 fn more_boxed(alloc: Global) -> Result<BoxedSqlQuery<Sqlite, UncheckedBind<SqlQuery>>, AllocError> {
     let value = 5i32.bound(alloc)?;
     let query = raw(alloc, "SELECT ?")?
@@ -76,7 +76,7 @@ fn more_boxed(alloc: Global) -> Result<BoxedSqlQuery<Sqlite, UncheckedBind<SqlQu
 }
 
 #[test]
-fn text_goes_behind_values(rt: HostRuntime) -> Result<(), Fail> {
+fn text_goes_after_values(rt: HostRuntime) -> Result<(), Fail> {
     let alloc = rt.alloc();
     let query = more_text(alloc)?;
     assert!(rt; text_is(alloc, &Mysql, &query, "SELECT ? + ? + 1")?);
@@ -172,7 +172,7 @@ fn list_value(alloc: Global) -> Result<Bound, AllocError> {
     Ok(Bound::List(ty, SqlList::from(values)))
 }
 
-/// Whether this is how the value is shown, behind no text.
+/// Whether this is how the value is shown, after no text.
 fn shown_as(alloc: Global, value: Bound, want: &str) -> Result<bool, PassError> {
     let query = UncheckedBind::new(Empty, value);
     let shown = debug_query(alloc, &Pg, &query)?;

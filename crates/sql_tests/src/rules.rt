@@ -3,10 +3,11 @@
 use super::every_call::fixture::{beside, column, schema, table};
 use sql_check::broken;
 use sql_dialect::Pg;
-use sql_expr::{Expr, SelectStatement, Statement};
+use sql_expr::{Expr, JoinRhs, SelectStatement, Source, Statement, TableSource};
 use sql_rules::Rule;
 use sql_schema::{Schema, SchemaBuilder};
 use sql_select::{AsQuery, Query, QueryDsl};
+use sql_source::NewTableSource;
 use std::alloc::Global;
 use std::test::Fail;
 
@@ -35,6 +36,27 @@ fn each_rule_in_order(rt: HostRuntime) -> Result<(), Fail> {
     assert!(rt;
         rules.as_slice() == [Rule::Incompatible, Rule::NotInScope, Rule::TypeMismatch].as_slice()
     );
+    Ok(())
+}
+
+/// `SELECT DISTINCT "posts"."user_id" FROM ("users" LEFT OUTER JOIN "posts" ON ..) FOR UPDATE`.
+fn broken_twice(alloc: Global, schema: &Schema) -> Result<Statement, Fail> {
+    let (users, posts) = beside(users(alloc)?, table(alloc, "posts"))?;
+    let posts = JoinRhs::Source(Source::Table(TableSource::new(posts)));
+    let (joined, id) = beside(
+        users.left_join(alloc, schema, posts)?,
+        column(alloc, "posts", "user_id"),
+    )?;
+    let selected = joined.select(Expr::Column(id));
+    Ok(selected.distinct().for_update().into_statement())
+}
+
+#[test]
+fn a_lock_and_a_padded_column(rt: HostRuntime) -> Result<(), Fail> {
+    let alloc = rt.alloc();
+    let schema = schema(alloc)?;
+    let rules = rules_of(alloc, &schema, broken_twice(alloc, &schema)?)?;
+    assert!(rt; rules.as_slice() == [Rule::Incompatible, Rule::NeedsNullable].as_slice());
     Ok(())
 }
 

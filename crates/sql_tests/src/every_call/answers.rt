@@ -5,11 +5,12 @@ use super::queries::ids;
 use sql_check::{broken, compile};
 use sql_dialect::Pg;
 use sql_expr::{Expr, ExpressionMethods, FromClause, LockingClause, SelectStatement, Statement};
+use sql_judge::first_broken;
 use sql_key::{QueryId, QueryKey, expression_key};
-use sql_places::{Form, Part, clauses, nodes, own_view, parts, widest_view};
+use sql_places::{Form, Inner, clauses, nodes, own_view, parts, widest_view};
 use sql_schema::Schema;
 use sql_select::{Query, QueryDsl};
-use sql_types::{columns, type_of};
+use sql_types::{columns, has_too_many_binds, type_of};
 use std::alloc::Global;
 use std::test::Fail;
 
@@ -56,7 +57,7 @@ fn places_in(alloc: Global, statement: &Statement) -> Result<(), Fail> {
     let all = parts(alloc, statement)?;
     is(all.len() == 1, "one statement")?;
     match all.first() {
-        Some(Part::Select(_, select)) => is(
+        Some(Inner::Select(_, select)) => is(
             clauses(alloc, &[], &[], *select)?.len() == 2,
             "two clauses",
         ),
@@ -96,6 +97,14 @@ fn verdicts_of(alloc: Global, schema: &Schema, statement: &Statement) -> Result<
     is(
         broken(alloc, &Pg, schema, statement)?.is_empty(),
         "no rule broken",
+    )?;
+    is(
+        first_broken(alloc, &Pg, schema, statement)?.is_none(),
+        "no first rule",
+    )?;
+    is(
+        !has_too_many_binds(alloc, &Pg, statement)?,
+        "placeholders enough",
     )?;
     let built = compile(alloc, &Pg, schema, statement)?;
     is(

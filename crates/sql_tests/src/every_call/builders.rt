@@ -1,7 +1,7 @@
 //! Query builders, collectors, values and the parts of `sql_pass`.
 
 use super::fixture::{INTEGER, column, is, reads, table, text, text_in, writes};
-use sql_dialect::{Backend, Mysql, Pg, QueryBuilder, Sqlite};
+use sql_dialect::{Backend, Bracket, Dialect, Mysql, Pg, QueryBuilder, Sqlite, quote_name};
 use sql_pass::{
     AstPass, BindCollector, Bound, BoundRef, Identifier, InfixNode, OnKeyword, ParenthesisWrapper,
     QueryFragment, RawBytesBindCollector, ToSql, Value, debug_binds, push_dotted, push_side_open,
@@ -13,6 +13,8 @@ pub fn every_call(alloc: Global) -> Result<(), Fail> {
     pushes(alloc, &Pg, "a \"b\"$1$3")?;
     pushes(alloc, &Mysql, "a `b`??")?;
     pushes(alloc, &Sqlite, "a `b`??")?;
+    pushes(alloc, &Bracket, "a [b]@p1@p3")?;
+    reads(quote_name(alloc, Dialect::Bracket, "a]b")?, "[a]]b]")?;
     walked(alloc)?;
     numbers(alloc)?;
     texts(alloc)?;

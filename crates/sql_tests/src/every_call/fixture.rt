@@ -36,8 +36,8 @@ pub fn writes<T: QueryFragment<Pg> + Drop>(
 
 /// A part and what is made beside it, which may be refused.
 ///
-/// Where a `?` stands over a part, each enum in it is taken apart there, and with each other part that stands. A generic one is let
-/// go by one call.
+/// Where a part is alive at a `?`, each enum in it is taken apart there, and with each other part that is alive. A generic one is
+/// dropped by one call.
 pub fn beside<P: Drop, M, E>(part: P, made: Result<M, E>) -> Result<(P, M), Fail>
 where
     Fail: From<E>,

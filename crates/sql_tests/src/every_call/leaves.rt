@@ -1,9 +1,10 @@
 //! The nodes that hold no expression.
 
-use super::fixture::{column, table, text, writes};
+use super::fixture::{column, is, table, text, writes};
 use sql_leaf::{
-    Alias, AliasedField, BoxedLimitOffset, Direction, LimitOffsetClause, LockMode, LockingClause,
-    Marks, Modifier, OrderColumn, PositionalItem, TableSource, Tablesample, TablesampleMethod,
+    Alias, AliasedField, BoxedLimitOffset, Direction, JoinKind, LimitOffsetClause, LockMode,
+    LockingClause, Marks, Modifier, OrderColumn, PositionalItem, TableSource, Tablesample,
+    TablesampleMethod,
 };
 use std::alloc::Global;
 use std::test::Fail;
@@ -34,28 +35,27 @@ fn rows(alloc: Global) -> Result<(), Fail> {
         limit_clause: Some(1),
         offset_clause: Some(2),
     };
-    writes(alloc, rows, " LIMIT $1 OFFSET $2")?;
-    writes(alloc, BoxedLimitOffset(rows), " LIMIT $1 OFFSET $2")
+    writes(alloc, rows.try_clone(alloc)?, " LIMIT $1 OFFSET $2")?;
+    let boxed = BoxedLimitOffset(rows);
+    writes(alloc, boxed.try_clone(alloc)?, " LIMIT $1 OFFSET $2")
 }
 
 fn locks(alloc: Global) -> Result<(), Fail> {
-    writes(alloc, Modifier::NoWait, " NOWAIT")?;
-    writes(
-        alloc,
-        LockingClause::LockingClause(LockMode::ForShare, Modifier::SkipLocked),
-        " FOR SHARE SKIP LOCKED",
-    )?;
-    writes(alloc, Marks::none(), "")
+    writes(alloc, LockMode::ForShare.try_clone(alloc)?, " FOR SHARE")?;
+    writes(alloc, Modifier::NoWait.try_clone(alloc)?, " NOWAIT")?;
+    let lock = LockingClause::LockingClause(LockMode::ForShare, Modifier::SkipLocked);
+    writes(alloc, lock.try_clone(alloc)?, " FOR SHARE SKIP LOCKED")?;
+    writes(alloc, Marks::none().try_clone(alloc)?, "")
 }
 
 fn places(alloc: Global) -> Result<(), Fail> {
-    writes(alloc, Direction::Desc, " DESC")?;
-    writes(alloc, OrderColumn(2), "2")?;
+    writes(alloc, Direction::Desc.try_clone(alloc)?, " DESC")?;
+    writes(alloc, OrderColumn(2).try_clone(alloc)?, "2")?;
     let item = PositionalItem {
         column: OrderColumn(2),
         direction: Direction::Asc,
     };
-    writes(alloc, item, "2 ASC")
+    writes(alloc, item.try_clone(alloc)?, "2 ASC")
 }
 
 fn tables(alloc: Global) -> Result<(), Fail> {
@@ -64,7 +64,15 @@ fn tables(alloc: Global) -> Result<(), Fail> {
         portion: 10,
         seed: Some(3),
     };
-    writes(alloc, sample, " TABLESAMPLE SYSTEM($1) REPEATABLE($2)")?;
+    writes(
+        alloc,
+        sample.try_clone(alloc)?,
+        " TABLESAMPLE SYSTEM($1) REPEATABLE($2)",
+    )?;
+    let method = sample.method.try_clone(alloc)?;
+    is(method == TablesampleMethod::SystemMethod, "the method")?;
+    writes(alloc, JoinKind::Inner.try_clone(alloc)?, " INNER")?;
+    writes(alloc, JoinKind::LeftOuter, " LEFT OUTER")?;
     let source = TableSource {
         table: table(alloc, "users")?,
         only: true,

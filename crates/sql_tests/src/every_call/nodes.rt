@@ -129,14 +129,14 @@ fn orders(alloc: Global) -> Result<(), Fail> {
     )
 }
 
-/// A copy of the statement, which is let go.
+/// A copy of the statement, which is dropped.
 fn copied(alloc: Global, statement: SelectStatement) -> Result<SelectStatement, NoMemory> {
     let copy = statement.try_clone(alloc);
     drop(statement);
     copy
 }
 
-/// A copy of the boxed statement, which is let go.
+/// A copy of the boxed statement, which is dropped.
 fn boxed_copied(
     alloc: Global,
     boxed: BoxedSelectStatement,

@@ -1,6 +1,6 @@
 //! Combinations, statements that are written boxed, and rows that a Rust type is read from.
 //!
-//! No statement stands under a `?`, and each is let go by a call: what can be in each of its clauses would be proved together.
+//! No statement is alive at a `?`, and each is dropped by a call: else what can be in each of its clauses would be proved together.
 
 ghost use Rattle.sql_node.specs.View.{expr_tree, select_statement_tree};
 

@@ -1,4 +1,4 @@
-use Rattle.sql_node.specs.View.{statement_tree}
+use Rattle.hardieflax.specs.View.{statement_tree}
 use Rattle.sql_examples.proofs.report.users_named.Goals as goal
 
 pub returns-clause-refused : goal.returns-clause-refused

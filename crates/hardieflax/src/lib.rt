@@ -1,0 +1,79 @@
+//! SELECT statements as values: built by diesel's calls, checked by fourteen rules, written for each dialect.
+//!
+//! This crate has no code of its own. It re-exports what users of the library crates name, so that a program names one crate;
+//! `specs/Lib.antt` does the same for the words of their contracts. A schema is declared by `SchemaBuilder`, a statement built by
+//! the calls of `QueryDsl`, and `compile` gives its text and values, or the first rule that it breaks.
+#![tactic(auto)]
+
+// Schemas, types, texts and lists.
+pub use sql_schema::{
+    Base, Column, ColumnDecl, JoinableDecl, NoMemory, Schema, SchemaBuilder, SchemaError,
+    SizeRestrictedColumn, SqlBytes, SqlList, SqlText, SqlType, Table, TableDecl, TableNotEqual,
+    equality_is_equality,
+};
+
+// Dialects, backends and builders.
+pub use sql_dialect::{
+    AggregateFunctionExpressions, AliasSyntax, ArrayComparison, Backend, BatchInsertSupport,
+    BindError, Bracket, BracketQueryBuilder, BuiltInWindowFunctionRequireOrder, Combinator,
+    ConcatClause, DefaultValueClauseForInsert, Dialect, DuplicateRule, EmptyFromClauseSyntax,
+    ExistsSyntax, InsertWithDefaultKeyword, Mysql, MysqlQueryBuilder, OnConflictClause, Pg,
+    PgQueryBuilder, QueryBuilder, ReturningClause, SelectStatementSyntax, SqlDialect, Sqlite,
+    SqliteQueryBuilder, WindowFrameClauseGroupSupport, WindowFrameExclusionSupport,
+    quoted_names_differ,
+};
+
+// Values, fragments, passes and the collector of bytes.
+pub use sql_pass::{
+    AstPass, BindCollector, BindType, Binds, Bound, BoundRef, CollectError, Identifier, InfixNode,
+    MiddleFragment, OnKeyword, ParenthesisWrapper, PassError, QueryFragment, RawBytesBindCollector,
+    ToSql, Value, debug_binds,
+};
+
+// Expressions, sources, clauses and statements.
+pub use sql_expr::{
+    Alias, AliasedField, BoxedLimitOffset, BoxedSelectStatement, CombinationClause, Direction,
+    DistinctClause, Expr, ExpressionMethods, FromClause, GroupByClause, HavingClause, InValues,
+    Join, JoinKind, JoinOn, JoinRhs, LimitOffsetClause, LockMode, LockingClause, Marks, Modifier,
+    OnClauseWrapper, OrderClause, OrderColumn, OrderDecorator, OrderItem, PositionalItem,
+    SelectClause, SelectStatement, Source, Statement, TableSource, Tablesample, TablesampleMethod,
+    WhereAnd, WhereClause, WhereOr, count, count_star, exists, not, value,
+};
+
+// Aliases, joins and default selections.
+pub use sql_source::{
+    AliasFields, AliasSource, AppearsInFromClause, AppendSelection, Count, InternalJoinDsl,
+    JoinDsl, JoinOnDsl, JoinTo, NewAlias, NewOnClauseWrapper, NewTableSource, OnlyDsl, Origin,
+    Plus, QuerySource, Side, TablesampleDsl, ToInnerJoin, counts_add_up, fields_of_the_table_alone,
+    fields_twice_as_once, inner_joins_pad_nothing, pick, related_tables_have_a_condition,
+    same_origins_are_equal,
+};
+
+// The calls on statements.
+pub use sql_select::{
+    AsQuery, BoxedQueryHelper, CombineDsl, HasQuery, IntoPositionalOrderExpr, OrderColumnMethods,
+    PositionalOrderDsl, Query, QueryDsl, SelectStatementAccessor, SimpleSelect,
+    filter_and_then_order_by_append, methods, or_filter_is_filter_with_or, select,
+    the_later_call_stands,
+};
+
+// Raw queries, and the line that shows a part for debugging.
+pub use sql_raw::{
+    BoxedSqlQuery, DebugQuery, Empty, SqlQuery, UncheckedBind, debug_query, sql_query,
+};
+
+// Keys: by what a cache knows a statement.
+pub use sql_key::{
+    QueryId, QueryKey, compared_keys_are_equal_keys, equal_keys_are_equal_shapes,
+    equal_keys_hash_alike, equal_shapes_have_ids_alike,
+};
+
+// The rules, and `compile`.
+pub use sql_check::{Built, CompileError, RULES, Rule, boxing_takes_the_id_alone, broken, compile};
+
+// The laws: what holds of a statement that breaks no rule, of statements of one shape, and of the grammar.
+pub use sql_grammar::{joined_texts, one_reading, quoted_name, token_rules, written};
+pub use sql_law::{
+    a_statement_is_accepted, accepted_are_read, accepted_have_text, names_one_leaf,
+    one_shape_one_text, safe_without_value_lists,
+};
