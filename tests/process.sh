@@ -60,11 +60,29 @@ if [ -e /dev/full ]; then
     got=$?
     check 'full output' ended 5 WriteFault
 fi
+# One table and one filter, and the same without the last byte.
+cat >"$work/first" <<'TXT'
+{"schema":{"tables":[{"name":"foo","columns":[{"name":"id","type":"Integer"},{"name":"mytype","sql_name":"type","type":"Integer"},{"name":"hey","sql_name":"bleh","type":"Integer"}]}]},"requests":[{"dialect":"Pg","query":{"from":{"table":"foo"},"calls":[["filter",{"eq":[{"col":["foo","mytype"]},{"bind":["Integer",1]}]}]]}}]}
+TXT
+cat >"$work/line" <<'TXT'
+{"binds":[["Integer",1]],"columns":["Integer","Integer","Integer"],"id":1,"safe":true,"sql":"SELECT \"foo\".\"id\", \"foo\".\"type\", \"foo\".\"bleh\" FROM \"foo\" WHERE (\"foo\".\"type\" = $1)"}
+TXT
+run build <"$work/first"
+check 'one request' writes "$work/line"
+head -c -2 "$work/first" >"$work/cut"
+run build <"$work/cut"
+check 'a document without its last byte' is_empty 3 BadDocument
+printf '{"schema":{"tables":[]},"requests":[]}' >"$work/none"
+run build <"$work/none"
+check 'no requests' is_empty 0 ''
 run build <"$top/README.md"
 check 'no document' is_empty 3 BadDocument
 head -c 16777217 /dev/zero | tr '\0' ' ' >"$work/large"
 run build <"$work/large"
 check 'a large input' is_empty 7 TooLarge
+head -c 16777216 "$work/large" >"$work/full"
+run build <"$work/full"
+check 'the largest input' is_empty 3 BadDocument
 for words in '' 'Build' 'build x'; do
     # shellcheck disable=SC2086
     run $words </dev/null

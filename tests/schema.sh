@@ -140,7 +140,7 @@ DOCUMENTS = [
     ("a relation and two pairs", related(
         '"joinable":[{"child":"u","key":"t_id","parent":"t","x":1}],"together":[["t","u"],["t","t"]]')),
     ("no relations and no pairs", related('"joinable":[],"together":[]')),
-    *[("the dialect " + d, request(f'{{"dialect":"{d}","query":{T}}}')) for d in ("Pg", "Mysql", "Sqlite")],
+    *[("the dialect " + d, request(f'{{"dialect":"{d}","query":{T}}}')) for d in ("Pg", "Mysql", "Sqlite", "Bracket")],
     ("an ignored member of a request", request(f'{{"dialect":"Pg","query":{T},"x":1}}')),
     ("a table that the schema lacks", source('{"table":"nobody"}')),
     ("a query without a source", query('{"select":[]}')),
@@ -177,6 +177,7 @@ DOCUMENTS = [
     ("items of an order", calls(f'["order",[{{"asc":{ID}}},{{"desc":[{ID}]}},[]]]')),
     *[(n, calls(f'["{n}",-9223372036854775808],["{n}",9223372036854775807]')) for n in WITH_NUMBER],
     ("boxed for another dialect", calls('["into_boxed","Sqlite"]')),
+    ("boxed for Bracket", calls('["into_boxed","Bracket"]')),
     ("calls on a boxed statement", calls(f'["for_update"],["into_boxed"],["filter",{ID}],["distinct"],["order",[]],["limit",1]')),
     *[(n, calls(f'["{n}",{T}],["limit",1],["positional_order_by",[]],["{n}",{T}]')) for n in WITH_QUERY],
     ("places", calls(f'["into_boxed"],["union",{T}],["positional_order_by",[0,4294967295,{{"asc":1}},{{"desc":1}}]]')),
