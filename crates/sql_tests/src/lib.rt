@@ -1,13 +1,11 @@
-//! Tests of what the crates give to others, a module for each crate: worked texts, bytes, refusals, messages.
+//! Tests of what the crates below the nodes give to others, and of documents, a module for each crate: worked texts, bytes, refusals,
+//! messages.
 //!
-//! A crate with tests of its own is proved twice, once with them, so all tests of libraries are here; those of the program are in
+//! A crate with tests of its own is proved twice, once with them, so all tests of libraries are in crates of their own: here, in
+//! `sql_call_tests` (nodes and the calls on them) and in `sql_check_tests` (what is told of a statement). Those of the program are in
 //! `sql_tool`. Requests and their lines are no tests: they are the program's stored run, `crates/sql_tool/stdin` and `stdout`.
 #![tactic(auto)]
 
-#[cfg(test)]
-mod check;
-#[cfg(test)]
-mod debug;
 #[cfg(test)]
 mod dialect;
 #[cfg(test)]
@@ -15,16 +13,10 @@ mod document;
 #[cfg(test)]
 mod every_call;
 #[cfg(test)]
-mod expr;
-#[cfg(test)]
 mod fixture;
 #[cfg(test)]
 mod pass;
 #[cfg(test)]
 mod raw;
 #[cfg(test)]
-mod rules;
-#[cfg(test)]
 mod schema;
-#[cfg(test)]
-mod source;

@@ -1,7 +1,7 @@
 //! Query builders, collectors, values and the parts of `sql_pass`.
 
-use super::fixture::{INTEGER, column, is, reads, table, text, text_in, writes};
 use sql_dialect::{Backend, Bracket, Dialect, Mysql, Pg, QueryBuilder, Sqlite, quote_name};
+use sql_fixture::{INTEGER, column, is, reads, table, text, text_in, writes};
 use sql_pass::{
     AstPass, BindCollector, Bound, BoundRef, Identifier, InfixNode, OnKeyword, ParenthesisWrapper,
     QueryFragment, RawBytesBindCollector, ToSql, Value, debug_binds, push_dotted, push_side_open,

@@ -1,6 +1,6 @@
 //! Declarations, schemas, tables, columns and thin types.
 
-use super::fixture::{column, column_decl, is, schema, table, table_decl, text};
+use sql_fixture::{column, column_decl, is, schema, table, table_decl, text};
 use sql_schema::{SchemaBuilder, SqlBytes};
 use std::alloc::Global;
 use std::test::Fail;

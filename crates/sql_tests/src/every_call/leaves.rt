@@ -1,6 +1,6 @@
 //! The nodes that hold no expression.
 
-use super::fixture::{column, is, table, text, writes};
+use sql_fixture::{column, is, table, text, writes};
 use sql_leaf::{
     Alias, AliasedField, BoxedLimitOffset, Direction, JoinKind, LimitOffsetClause, LockMode,
     LockingClause, Marks, Modifier, OrderColumn, PositionalItem, TableSource, Tablesample,

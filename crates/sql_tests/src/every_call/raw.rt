@@ -1,7 +1,7 @@
 //! Raw queries and the line that shows a part.
 
-use super::fixture::{reads, writes};
 use sql_dialect::{Backend, Pg, QueryBuilder};
+use sql_fixture::{reads, writes};
 use sql_pass::ToSql;
 use sql_raw::{Empty, SqlQuery, debug_query, sql_query};
 use std::alloc::{AllocError, Global};

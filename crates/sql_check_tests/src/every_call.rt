@@ -1,10 +1,11 @@
-//! What the crates say of statements: keys, views, places, types, rules, and what `compile` gives.
+//! Each public call that tells something of a statement, made once with memory to spare: keys, views, places, types, rules, and what
+//! `compile` gives.
 
-use super::fixture::{INTEGER, beside, id, is, one, schema};
-use super::queries::ids;
+use sql_call_tests::fixture::{id, ids, one};
 use sql_check::{broken, compile};
 use sql_dialect::Pg;
 use sql_expr::{Expr, ExpressionMethods, FromClause, LockingClause, SelectStatement, Statement};
+use sql_fixture::{INTEGER, beside, is, schema};
 use sql_judge::first_broken;
 use sql_key::{QueryId, QueryKey, expression_key};
 use sql_places::{Form, Inner, clauses, nodes, own_view, parts, widest_view};
@@ -14,7 +15,9 @@ use sql_types::{columns, has_too_many_binds, type_of};
 use std::alloc::Global;
 use std::test::Fail;
 
-pub fn every_call(alloc: Global) -> Result<(), Fail> {
+#[test]
+fn every_call_once(rt: HostRuntime) -> Result<(), Fail> {
+    let alloc = rt.alloc();
     keys(alloc)?;
     views(alloc)?;
     places(alloc)?;

@@ -1,8 +1,9 @@
 //! The calls that make statements of sources, and change them.
 
-use super::fixture::{beside, id, one, schema, table, text, writes};
+use crate::fixture::{all, id, ids, one};
 use sql_dialect::Pg;
 use sql_expr::{Alias, ExpressionMethods, JoinKind, JoinRhs, SelectStatement, Source, TableSource};
+use sql_fixture::{beside, gives, schema, table, text, writes};
 use sql_select::{AsQuery, QueryDsl, SimpleSelect};
 use sql_source::NewTableSource;
 use std::alloc::Global;
@@ -27,36 +28,26 @@ fn source(alloc: Global, name: &str) -> Result<TableSource, Fail> {
     Ok(TableSource::new(table(alloc, name)?))
 }
 
-fn all(alloc: Global) -> Result<SelectStatement, Fail> {
-    Ok(table(alloc, "users")?.as_query(alloc)?)
-}
-
-/// `SELECT "users"."id" FROM "users"`.
-pub fn ids(alloc: Global) -> Result<SelectStatement, Fail> {
-    let (all, id) = beside(all(alloc)?, id(alloc))?;
-    Ok(all.select(id))
-}
-
 fn beginnings(alloc: Global) -> Result<(), Fail> {
-    writes(alloc, all(alloc)?, ALL)?;
-    writes(alloc, source(alloc, "users")?.as_query(alloc)?, ALL)?;
-    writes(
+    gives(alloc, all(alloc), ALL)?;
+    gives(alloc, source(alloc, "users")?.as_query(alloc), ALL)?;
+    gives(
         alloc,
-        Source::Table(source(alloc, "users")?).as_query(alloc)?,
+        Source::Table(source(alloc, "users")?).as_query(alloc),
         ALL,
     )?;
-    writes(
+    gives(
         alloc,
-        SelectStatement::simple(alloc, Source::Table(source(alloc, "users")?))?,
+        SelectStatement::simple(alloc, Source::Table(source(alloc, "users")?)),
         ALL,
     )?;
     let alias = Alias {
         name: text(alloc, "u")?,
         table: table(alloc, "users")?,
     };
-    writes(
+    gives(
         alloc,
-        alias.as_query(alloc)?,
+        alias.as_query(alloc),
         "SELECT \"u\".\"id\", \"u\".\"name\" FROM \"users\" AS \"u\"",
     )
 }
@@ -64,9 +55,9 @@ fn beginnings(alloc: Global) -> Result<(), Fail> {
 fn conditions(alloc: Global) -> Result<(), Fail> {
     let (users, one) = beside(ids(alloc)?, one(alloc))?;
     let (users, id) = beside(users.filter(alloc, one)?, id(alloc))?;
-    writes(
+    gives(
         alloc,
-        users.or_filter(alloc, id)?,
+        users.or_filter(alloc, id),
         "SELECT \"users\".\"id\" FROM \"users\" WHERE ($1 OR \"users\".\"id\")",
     )
 }
@@ -75,34 +66,34 @@ fn conditions_of_boxed(alloc: Global) -> Result<(), Fail> {
     let (users, one) = beside(ids(alloc)?, one(alloc))?;
     let boxed = users.into_boxed(&Pg);
     let (boxed, id) = beside(boxed.filter(alloc, one)?, id(alloc))?;
-    writes(
+    gives(
         alloc,
-        boxed.or_filter(alloc, id)?,
+        boxed.or_filter(alloc, id),
         "SELECT \"users\".\"id\" FROM \"users\" WHERE ($1 OR \"users\".\"id\")",
     )
 }
 
 fn keys(alloc: Global) -> Result<(), Fail> {
     let key = vec![in alloc; one(alloc)?]?;
-    writes(
+    gives(
         alloc,
-        ids(alloc)?.find(alloc, key)?,
+        ids(alloc)?.find(alloc, key),
         "SELECT \"users\".\"id\" FROM \"users\" WHERE (\"users\".\"id\" = $1)",
     )
 }
 
 fn orders(alloc: Global) -> Result<(), Fail> {
     let items = vec![in alloc; id(alloc)?.asc()]?;
-    writes(
+    gives(
         alloc,
-        ids(alloc)?.then_order_by(alloc, items)?,
+        ids(alloc)?.then_order_by(alloc, items),
         "SELECT \"users\".\"id\" FROM \"users\" ORDER BY \"users\".\"id\" ASC",
     )?;
     let items = vec![in alloc; id(alloc)?.desc()]?;
     let boxed = ids(alloc)?.into_boxed(&Pg);
-    writes(
+    gives(
         alloc,
-        boxed.then_order_by(alloc, items)?,
+        boxed.then_order_by(alloc, items),
         "SELECT \"users\".\"id\" FROM \"users\" ORDER BY \"users\".\"id\" DESC",
     )
 }
@@ -122,11 +113,11 @@ const JOINED: &str =
 fn joins(alloc: Global) -> Result<(), Fail> {
     let schema = schema(alloc)?;
     let (users, rhs) = sides(alloc)?;
-    writes(alloc, users.inner_join(alloc, &schema, rhs)?, JOINED)?;
+    gives(alloc, users.inner_join(alloc, &schema, rhs), JOINED)?;
     let (users, rhs) = sides(alloc)?;
-    writes(
+    gives(
         alloc,
-        users.join_with_implicit_on_clause(alloc, &schema, rhs, JoinKind::Inner)?,
+        users.join_with_implicit_on_clause(alloc, &schema, rhs, JoinKind::Inner),
         JOINED,
     )
 }
@@ -137,20 +128,20 @@ const LEFT_JOINED: &str =
 fn left_joins(alloc: Global) -> Result<(), Fail> {
     let schema = schema(alloc)?;
     let (users, rhs) = sides(alloc)?;
-    writes(
+    gives(
         alloc,
-        users.left_outer_join(alloc, &schema, rhs)?,
+        users.left_outer_join(alloc, &schema, rhs),
         LEFT_JOINED,
     )?;
     let (users, rhs) = sides(alloc)?;
-    writes(alloc, users.left_join(alloc, &schema, rhs)?, LEFT_JOINED)
+    gives(alloc, users.left_join(alloc, &schema, rhs), LEFT_JOINED)
 }
 
 fn joins_on_a_condition(alloc: Global) -> Result<(), Fail> {
     let ((users, posts), on) = beside(beside(ids(alloc)?, posts(alloc))?, one(alloc))?;
-    writes(
+    gives(
         alloc,
-        users.join(alloc, posts, JoinKind::LeftOuter, Some(on))?,
+        users.join(alloc, posts, JoinKind::LeftOuter, Some(on)),
         "SELECT \"users\".\"id\" FROM (\"users\" LEFT OUTER JOIN \"posts\" ON $1)",
     )
 }
@@ -159,39 +150,39 @@ fn joins_of_boxed(alloc: Global) -> Result<(), Fail> {
     let schema = schema(alloc)?;
     let (users, rhs) = sides(alloc)?;
     let boxed = users.into_boxed(&Pg);
-    writes(
+    gives(
         alloc,
-        boxed.join_with_implicit_on_clause(alloc, &schema, rhs, JoinKind::Inner)?,
+        boxed.join_with_implicit_on_clause(alloc, &schema, rhs, JoinKind::Inner),
         JOINED,
     )?;
     let ((users, posts), on) = beside(beside(ids(alloc)?, posts(alloc))?, one(alloc))?;
     let boxed = users.into_boxed(&Pg);
-    writes(
+    gives(
         alloc,
-        boxed.join(alloc, posts, JoinKind::LeftOuter, Some(on))?,
+        boxed.join(alloc, posts, JoinKind::LeftOuter, Some(on)),
         "SELECT \"users\".\"id\" FROM (\"users\" LEFT OUTER JOIN \"posts\" ON $1)",
     )
 }
 
 fn selections(alloc: Global) -> Result<(), Fail> {
-    writes(
+    gives(
         alloc,
-        ids(alloc)?.nullable(alloc)?,
+        ids(alloc)?.nullable(alloc),
         "SELECT \"users\".\"id\" FROM \"users\"",
     )?;
-    writes(
+    gives(
         alloc,
-        ids(alloc)?.into_boxed(&Pg).nullable(alloc)?,
+        ids(alloc)?.into_boxed(&Pg).nullable(alloc),
         "SELECT \"users\".\"id\" FROM \"users\"",
     )?;
-    writes(
+    gives(
         alloc,
-        ids(alloc)?.single_value(alloc)?,
+        ids(alloc)?.single_value(alloc),
         "(SELECT \"users\".\"id\" FROM \"users\" LIMIT $1)",
     )?;
-    writes(
+    gives(
         alloc,
-        ids(alloc)?.into_boxed(&Pg).single_value(alloc)?,
+        ids(alloc)?.into_boxed(&Pg).single_value(alloc),
         "(SELECT \"users\".\"id\" FROM \"users\" LIMIT $1)",
     )
 }

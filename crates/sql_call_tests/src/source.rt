@@ -1,7 +1,7 @@
 //! Counts, and the texts of sources that stand alone.
 
-use super::every_call::fixture::{beside, schema, table, table_decl, writes};
 use sql_expr::{Alias, JoinRhs, Source, TableSource};
+use sql_fixture::{beside, gives, schema, table, table_decl, text, writes};
 use sql_schema::{Schema, SchemaBuilder};
 use sql_source::{Count, JoinDsl, NewAlias, NewTableSource, Plus, Side, TablesampleDsl, pick};
 use std::alloc::Global;
@@ -19,7 +19,7 @@ fn counts(rt: HostRuntime) -> Result<(), Fail> {
 /// `users` and `bar`, which is written `mod`; the two are not related.
 fn unrelated(alloc: Global) -> Result<Schema, Fail> {
     let mut bar = table_decl(alloc, "bar", "x")?;
-    bar.sql_name = super::fixture::text(alloc, "mod")?;
+    bar.sql_name = text(alloc, "mod")?;
     let mut builder = SchemaBuilder::new(alloc);
     builder.table(table_decl(alloc, "users", "name")?)?;
     builder.table(bar)?;
@@ -48,9 +48,9 @@ fn an_alias_joins_by_its_table(rt: HostRuntime) -> Result<(), Fail> {
     let schema = schema(alloc)?;
     let u2 = Alias::new(String::from_str(alloc, "u2")?, table(alloc, "users")?);
     let (u2, posts) = beside(Source::Alias(u2), plain(alloc, &schema, "posts"))?;
-    writes(
+    gives(
         alloc,
-        u2.inner_join(alloc, &schema, JoinRhs::Source(posts))?,
+        u2.inner_join(alloc, &schema, JoinRhs::Source(posts)),
         r#"("users" AS "u2" INNER JOIN "posts" ON ("posts"."user_id" = "u2"."id"))"#,
     )
 }
@@ -63,9 +63,9 @@ fn a_join_without_relation(rt: HostRuntime) -> Result<(), Fail> {
         plain(alloc, &schema, "users")?,
         plain(alloc, &schema, "bar"),
     )?;
-    writes(
+    gives(
         alloc,
-        users.inner_join(alloc, &schema, JoinRhs::Source(bar))?,
+        users.inner_join(alloc, &schema, JoinRhs::Source(bar)),
         r#""users" INNER JOIN "mod""#,
     )
 }

@@ -1,10 +1,10 @@
 //! The calls that make expressions.
 
-use super::fixture::{INTEGER, beside, id, one, writes};
-use super::queries::ids;
+use crate::fixture::{id, ids, one};
 use sql_expr::{
     Expr, ExpressionMethods, InValues, WhereAnd, WhereClause, WhereOr, count, exists, not, value,
 };
+use sql_fixture::{INTEGER, beside, gives, writes};
 use sql_pass::Value;
 use sql_schema::SqlList;
 use sql_select::Query;
@@ -25,35 +25,35 @@ fn operands(alloc: Global) -> Result<(Expr, Expr), Fail> {
 
 fn comparisons(alloc: Global) -> Result<(), Fail> {
     let (left, right) = operands(alloc)?;
-    writes(alloc, left.eq(alloc, right)?, "(\"users\".\"id\" = $1)")?;
+    gives(alloc, left.eq(alloc, right), "(\"users\".\"id\" = $1)")?;
     let (left, right) = operands(alloc)?;
-    writes(alloc, left.ne(alloc, right)?, "(\"users\".\"id\" != $1)")?;
+    gives(alloc, left.ne(alloc, right), "(\"users\".\"id\" != $1)")?;
     let (left, right) = operands(alloc)?;
-    writes(alloc, left.gt(alloc, right)?, "(\"users\".\"id\" > $1)")?;
+    gives(alloc, left.gt(alloc, right), "(\"users\".\"id\" > $1)")?;
     let (left, right) = operands(alloc)?;
-    writes(alloc, left.ge(alloc, right)?, "(\"users\".\"id\" >= $1)")?;
+    gives(alloc, left.ge(alloc, right), "(\"users\".\"id\" >= $1)")?;
     let (left, right) = operands(alloc)?;
-    writes(alloc, left.lt(alloc, right)?, "(\"users\".\"id\" < $1)")?;
+    gives(alloc, left.lt(alloc, right), "(\"users\".\"id\" < $1)")?;
     let (left, right) = operands(alloc)?;
-    writes(alloc, left.le(alloc, right)?, "(\"users\".\"id\" <= $1)")
+    gives(alloc, left.le(alloc, right), "(\"users\".\"id\" <= $1)")
 }
 
 fn tests(alloc: Global) -> Result<(), Fail> {
     let (left, right) = operands(alloc)?;
-    writes(alloc, left.and(alloc, right)?, "(\"users\".\"id\" AND $1)")?;
+    gives(alloc, left.and(alloc, right), "(\"users\".\"id\" AND $1)")?;
     let (left, right) = operands(alloc)?;
-    writes(alloc, left.or(alloc, right)?, "(\"users\".\"id\" OR $1)")?;
-    writes(
+    gives(alloc, left.or(alloc, right), "(\"users\".\"id\" OR $1)")?;
+    gives(
         alloc,
-        id(alloc)?.is_null(alloc)?,
+        id(alloc)?.is_null(alloc),
         "(\"users\".\"id\" IS NULL)",
     )?;
-    writes(
+    gives(
         alloc,
-        id(alloc)?.is_not_null(alloc)?,
+        id(alloc)?.is_not_null(alloc),
         "(\"users\".\"id\" IS NOT NULL)",
     )?;
-    writes(alloc, id(alloc)?.nullable(alloc)?, "\"users\".\"id\"")
+    gives(alloc, id(alloc)?.nullable(alloc), "\"users\".\"id\"")
 }
 
 /// The list of the value 1.
@@ -64,27 +64,27 @@ fn among(alloc: Global) -> Result<InValues, Fail> {
 
 fn memberships(alloc: Global) -> Result<(), Fail> {
     let (sought, values) = beside(id(alloc)?, among(alloc))?;
-    writes(
+    gives(
         alloc,
-        sought.eq_any(alloc, values)?,
+        sought.eq_any(alloc, values),
         "(\"users\".\"id\" = ANY($1))",
     )?;
     let (sought, values) = beside(id(alloc)?, among(alloc))?;
-    writes(
+    gives(
         alloc,
-        sought.ne_all(alloc, values)?,
+        sought.ne_all(alloc, values),
         "(\"users\".\"id\" != ALL($1))",
     )
 }
 
 fn calls(alloc: Global) -> Result<(), Fail> {
-    writes(alloc, not(alloc, id(alloc)?)?, "NOT (\"users\".\"id\")")?;
-    writes(alloc, count(alloc, id(alloc)?)?, "COUNT(\"users\".\"id\")")?;
+    gives(alloc, not(alloc, id(alloc)?), "NOT (\"users\".\"id\")")?;
+    gives(alloc, count(alloc, id(alloc)?), "COUNT(\"users\".\"id\")")?;
     let of_value: Option<Expr> = value(alloc, &"a")?;
     writes(alloc, of_value, "$1")?;
-    writes(
+    gives(
         alloc,
-        exists(alloc, ids(alloc)?.into_statement())?,
+        exists(alloc, ids(alloc)?.into_statement()),
         "EXISTS (SELECT \"users\".\"id\" FROM \"users\")",
     )
 }

@@ -4,10 +4,10 @@
 
 ghost use Rattle.sql_node.specs.View.{expr_tree, select_statement_tree};
 
-use super::fixture::{one, reads, text_in, writes};
-use super::queries::ids;
+use crate::fixture::{ids, one};
 use sql_dialect::{Backend, Pg};
 use sql_expr::{CombinationClause, Expr, SelectStatement, Statement};
+use sql_fixture::{gives, reads, text_in};
 use sql_pass::AstPass;
 use sql_schema::NoMemory;
 use sql_select::{BoxedQueryHelper, CombineDsl, HasQuery, Query, QueryDsl};
@@ -30,42 +30,42 @@ fn all(alloc: Global) -> Result<Statement, Fail> {
 
 fn unions(alloc: Global) -> Result<(), Fail> {
     let rhs = all(alloc)?;
-    writes(
+    gives(
         alloc,
-        ids(alloc)?.union(alloc, rhs)?,
+        ids(alloc)?.union(alloc, rhs),
         "(SELECT \"users\".\"id\" FROM \"users\") UNION (SELECT \"users\".\"id\" FROM \"users\")",
     )?;
     let rhs = all(alloc)?;
-    writes(
+    gives(
         alloc,
-        ids(alloc)?.union_all(alloc, rhs)?,
+        ids(alloc)?.union_all(alloc, rhs),
         "(SELECT \"users\".\"id\" FROM \"users\") UNION ALL (SELECT \"users\".\"id\" FROM \"users\")",
     )?;
     let rhs = all(alloc)?;
-    writes(
+    gives(
         alloc,
-        ids(alloc)?.except(alloc, rhs)?,
+        ids(alloc)?.except(alloc, rhs),
         "(SELECT \"users\".\"id\" FROM \"users\") EXCEPT (SELECT \"users\".\"id\" FROM \"users\")",
     )
 }
 
 fn intersections(alloc: Global) -> Result<(), Fail> {
     let rhs = all(alloc)?;
-    writes(
+    gives(
         alloc,
-        ids(alloc)?.intersect(alloc, rhs)?,
+        ids(alloc)?.intersect(alloc, rhs),
         "(SELECT \"users\".\"id\" FROM \"users\") INTERSECT (SELECT \"users\".\"id\" FROM \"users\")",
     )?;
     let rhs = all(alloc)?;
-    writes(
+    gives(
         alloc,
-        ids(alloc)?.intersect_all(alloc, rhs)?,
+        ids(alloc)?.intersect_all(alloc, rhs),
         "(SELECT \"users\".\"id\" FROM \"users\") INTERSECT ALL (SELECT \"users\".\"id\" FROM \"users\")",
     )?;
     let rhs = all(alloc)?;
-    writes(
+    gives(
         alloc,
-        ids(alloc)?.except_all(alloc, rhs)?,
+        ids(alloc)?.except_all(alloc, rhs),
         "(SELECT \"users\".\"id\" FROM \"users\") EXCEPT ALL (SELECT \"users\".\"id\" FROM \"users\")",
     )
 }
@@ -73,9 +73,9 @@ fn intersections(alloc: Global) -> Result<(), Fail> {
 fn of_boxed(alloc: Global) -> Result<(), Fail> {
     let rhs = all(alloc)?;
     let boxed = ids(alloc)?.into_boxed(&Pg);
-    writes(
+    gives(
         alloc,
-        boxed.union(alloc, rhs)?,
+        boxed.union(alloc, rhs),
         "(SELECT \"users\".\"id\" FROM \"users\") UNION (SELECT \"users\".\"id\" FROM \"users\")",
     )
 }
@@ -88,14 +88,14 @@ fn both(alloc: Global) -> Result<CombinationClause, Fail> {
 
 fn of_combinations(alloc: Global) -> Result<(), Fail> {
     let rhs = all(alloc)?;
-    writes(
+    gives(
         alloc,
-        both(alloc)?.except(alloc, rhs)?,
+        both(alloc)?.except(alloc, rhs),
         "((SELECT \"users\".\"id\" FROM \"users\") UNION (SELECT \"users\".\"id\" FROM \"users\")) EXCEPT (SELECT \"users\".\"id\" FROM \"users\")",
     )?;
-    writes(
+    gives(
         alloc,
-        both(alloc)?.single_value(alloc)?,
+        both(alloc)?.single_value(alloc),
         "((SELECT \"users\".\"id\" FROM \"users\") UNION (SELECT \"users\".\"id\" FROM \"users\") LIMIT $1)",
     )
 }
@@ -130,13 +130,13 @@ impl HasQuery for Kept {
 }
 
 fn read_from(alloc: Global, kept: &Kept) -> Result<(), Fail> {
-    writes(
+    gives(
         alloc,
-        kept.base_query(alloc)?,
+        kept.base_query(alloc),
         "SELECT \"users\".\"id\" FROM \"users\"",
     )?;
-    writes(alloc, kept.as_select(alloc)?, "$1")?;
-    writes(alloc, kept.query(alloc)?, "SELECT $1 FROM \"users\"")
+    gives(alloc, kept.as_select(alloc), "$1")?;
+    gives(alloc, kept.query(alloc), "SELECT $1 FROM \"users\"")
 }
 
 fn of_one_type(alloc: Global) -> Result<(), Fail> {

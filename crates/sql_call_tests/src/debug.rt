@@ -1,8 +1,9 @@
 //! The lines that show statements to those who debug.
 
-use super::every_call::fixture::{beside, column, id, one, table};
+use super::fixture::{id, one};
 use sql_dialect::{Backend, Mysql, Pg};
 use sql_expr::{Expr, ExpressionMethods, InValues, SelectStatement, value};
+use sql_fixture::{beside, column, table};
 use sql_pass::Value;
 use sql_raw::debug_query;
 use sql_schema::{Base, NoMemory, SqlList, SqlType};

@@ -1,7 +1,8 @@
 //! The text of an expression that stands alone.
 
-use super::every_call::fixture::{beside, column, id, one, writes};
+use super::fixture::{id, one};
 use sql_expr::{Expr, ExpressionMethods, not};
+use sql_fixture::{beside, column, gives};
 use std::alloc::Global;
 use std::test::Fail;
 
@@ -16,9 +17,9 @@ fn brackets_around_each_operation(rt: HostRuntime) -> Result<(), Fail> {
     let alloc = rt.alloc();
     let (left, right) = beside(id(alloc)?, one(alloc))?;
     let (is_one, has_name) = beside(left.eq(alloc, right)?, has_name(alloc))?;
-    writes(
+    gives(
         alloc,
-        is_one.and(alloc, has_name)?,
+        is_one.and(alloc, has_name),
         r#"(("users"."id" = $1) AND NOT (("users"."name" IS NULL)))"#,
     )
 }

@@ -1,7 +1,8 @@
 //! Aliases' fields, joins, default selections.
 
-use super::fixture::{beside, column, id, is, schema, table, writes};
+use crate::fixture::id;
 use sql_expr::{Alias, Expr, JoinKind, JoinRhs, OnClauseWrapper, Source, TableSource};
+use sql_fixture::{beside, column, gives, schema, table, writes};
 use sql_source::{
     AliasFields, AppendSelection, InternalJoinDsl, JoinDsl, JoinOnDsl, JoinTo, NewAlias,
     NewTableSource, Origin, QuerySource,
@@ -20,15 +21,15 @@ pub fn every_call(alloc: Global) -> Result<(), Fail> {
 
 fn aliases(alloc: Global) -> Result<(), Fail> {
     let alias = Alias::new(String::from_str(alloc, "u")?, table(alloc, "users")?);
-    writes(
+    gives(
         alloc,
-        alias.field(alloc, &column(alloc, "users", "id")?)?,
+        alias.field(alloc, &column(alloc, "users", "id")?),
         "\"u\".\"id\"",
     )?;
-    writes(alloc, alias.fields(alloc, id(alloc)?)?, "\"u\".\"id\"")?;
-    writes(
+    gives(alloc, alias.fields(alloc, id(alloc)?), "\"u\".\"id\"")?;
+    gives(
         alloc,
-        Origin::of_alias(&alias).column(alloc, column(alloc, "users", "id")?)?,
+        Origin::of_alias(&alias).column(alloc, column(alloc, "users", "id")?),
         "\"u\".\"id\"",
     )
 }
@@ -48,27 +49,27 @@ fn sides(alloc: Global) -> Result<(Source, JoinRhs), Fail> {
 fn joins(alloc: Global) -> Result<(), Fail> {
     let schema = schema(alloc)?;
     let (users, rhs) = sides(alloc)?;
-    writes(
+    gives(
         alloc,
-        users.inner_join(alloc, &schema, rhs)?,
+        users.inner_join(alloc, &schema, rhs),
         "(\"users\" INNER JOIN \"posts\" ON (\"posts\".\"user_id\" = \"users\".\"id\"))",
     )?;
     let (users, rhs) = sides(alloc)?;
-    writes(
+    gives(
         alloc,
-        users.left_outer_join(alloc, &schema, rhs)?,
+        users.left_outer_join(alloc, &schema, rhs),
         "(\"users\" LEFT OUTER JOIN \"posts\" ON (\"posts\".\"user_id\" = \"users\".\"id\"))",
     )?;
     let (users, rhs) = sides(alloc)?;
-    writes(
+    gives(
         alloc,
-        users.left_join(alloc, &schema, rhs)?,
+        users.left_join(alloc, &schema, rhs),
         "(\"users\" LEFT OUTER JOIN \"posts\" ON (\"posts\".\"user_id\" = \"users\".\"id\"))",
     )?;
     let (users, rhs) = beside(plain(alloc, "users")?, plain(alloc, "posts"))?;
-    writes(
+    gives(
         alloc,
-        users.join(alloc, rhs, JoinKind::Inner, None)?,
+        users.join(alloc, rhs, JoinKind::Inner, None),
         "\"users\" INNER JOIN \"posts\"",
     )
 }
@@ -82,15 +83,15 @@ fn users_on(alloc: Global) -> Result<OnClauseWrapper, Fail> {
 fn conditions(alloc: Global) -> Result<(), Fail> {
     let schema = schema(alloc)?;
     let (users, rhs) = beside(users_on(alloc)?, posts(alloc))?;
-    writes(
+    gives(
         alloc,
-        users.inner_join(alloc, &schema, rhs)?,
+        users.inner_join(alloc, &schema, rhs),
         "(\"users\" INNER JOIN \"posts\" ON (\"posts\".\"user_id\" = \"users\".\"id\")) ON \"users\".\"id\"",
     )?;
     let (users, rhs) = beside(users_on(alloc)?, plain(alloc, "posts"))?;
-    writes(
+    gives(
         alloc,
-        users.join(alloc, rhs, JoinKind::Inner, None)?,
+        users.join(alloc, rhs, JoinKind::Inner, None),
         "\"users\" INNER JOIN \"posts\" ON \"users\".\"id\"",
     )
 }
@@ -101,13 +102,13 @@ const LEFT_JOINED_ON: &str =
 fn left_conditions(alloc: Global) -> Result<(), Fail> {
     let schema = schema(alloc)?;
     let (users, rhs) = beside(users_on(alloc)?, posts(alloc))?;
-    writes(
+    gives(
         alloc,
-        users.left_outer_join(alloc, &schema, rhs)?,
+        users.left_outer_join(alloc, &schema, rhs),
         LEFT_JOINED_ON,
     )?;
     let (users, rhs) = beside(users_on(alloc)?, posts(alloc))?;
-    writes(alloc, users.left_join(alloc, &schema, rhs)?, LEFT_JOINED_ON)
+    gives(alloc, users.left_join(alloc, &schema, rhs), LEFT_JOINED_ON)
 }
 
 fn targets(alloc: Global) -> Result<(), Fail> {
@@ -123,14 +124,14 @@ fn targets(alloc: Global) -> Result<(), Fail> {
 
 fn selections(alloc: Global) -> Result<(), Fail> {
     let users = plain(alloc, "users")?;
-    writes(
+    gives(
         alloc,
-        users.default_selection(alloc)?,
+        users.default_selection(alloc),
         "\"users\".\"id\", \"users\".\"name\"",
     )?;
-    writes(
+    gives(
         alloc,
-        users.append_selection(alloc, id(alloc)?)?,
+        users.append_selection(alloc, id(alloc)?),
         "\"users\".\"id\", \"users\".\"name\", \"users\".\"id\"",
     )
 }

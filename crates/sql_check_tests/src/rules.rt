@@ -1,9 +1,10 @@
 //! All rules that a statement breaks. The first alone is what a line of the program tells.
 
-use super::every_call::fixture::{beside, column, schema, table};
+use sql_call_tests::fixture::all;
 use sql_check::broken;
 use sql_dialect::Pg;
 use sql_expr::{Expr, JoinRhs, SelectStatement, Source, Statement, TableSource};
+use sql_fixture::{beside, column, schema, table};
 use sql_rules::Rule;
 use sql_schema::{Schema, SchemaBuilder};
 use sql_select::{AsQuery, Query, QueryDsl};
@@ -11,13 +12,9 @@ use sql_source::NewTableSource;
 use std::alloc::Global;
 use std::test::Fail;
 
-fn users(alloc: Global) -> Result<SelectStatement, Fail> {
-    Ok(table(alloc, "users")?.as_query(alloc)?)
-}
-
 /// `SELECT DISTINCT .. FROM "users" WHERE "posts"."id" FOR UPDATE`.
 fn broken_three_times(alloc: Global) -> Result<Statement, Fail> {
-    let (users, id) = beside(users(alloc)?, column(alloc, "posts", "id"))?;
+    let (users, id) = beside(all(alloc)?, column(alloc, "posts", "id"))?;
     let filtered = users.distinct().filter(alloc, Expr::Column(id))?;
     Ok(filtered.for_update().into_statement())
 }
@@ -41,7 +38,7 @@ fn each_rule_in_order(rt: HostRuntime) -> Result<(), Fail> {
 
 /// `SELECT DISTINCT "posts"."user_id" FROM ("users" LEFT OUTER JOIN "posts" ON ..) FOR UPDATE`.
 fn broken_twice(alloc: Global, schema: &Schema) -> Result<Statement, Fail> {
-    let (users, posts) = beside(users(alloc)?, table(alloc, "posts"))?;
+    let (users, posts) = beside(all(alloc)?, table(alloc, "posts"))?;
     let posts = JoinRhs::Source(Source::Table(TableSource::new(posts)));
     let (joined, id) = beside(
         users.left_join(alloc, schema, posts)?,
@@ -64,10 +61,10 @@ fn a_lock_and_a_padded_column(rt: HostRuntime) -> Result<(), Fail> {
 fn a_table_that_another_schema_has(rt: HostRuntime) -> Result<(), Fail> {
     let alloc = rt.alloc();
     let none = SchemaBuilder::new(alloc).build()?;
-    let rules = rules_of(alloc, &none, users(alloc)?.into_statement())?;
+    let rules = rules_of(alloc, &none, all(alloc)?.into_statement())?;
     assert!(rt; rules.as_slice() == [Rule::UnknownName].as_slice());
     let schema = schema(alloc)?;
-    let rules = rules_of(alloc, &schema, users(alloc)?.into_statement())?;
+    let rules = rules_of(alloc, &schema, all(alloc)?.into_statement())?;
     assert!(rt; rules.is_empty());
     Ok(())
 }

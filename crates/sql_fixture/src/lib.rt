@@ -1,7 +1,10 @@
-//! A schema of two related tables, parts over it, and what is asked of an answer.
+//! What tests of the libraries share: a schema of two related tables, parts over it, and what is asked of an answer.
+//!
+//! Where a part is alive at a `?`, a check takes each enum in it apart there, and with each other part that is alive. Functions over any
+//! part drop it by one call, so the tests hand parts and answers to these.
+#![tactic(auto)]
 
 use sql_dialect::{Backend, Pg, QueryBuilder};
-use sql_expr::{Expr, value};
 use sql_pass::{AstPass, QueryFragment};
 use sql_schema::{
     Base, Column, ColumnDecl, NoMemory, Schema, SchemaBuilder, SqlList, SqlText, SqlType, Table,
@@ -34,10 +37,34 @@ pub fn writes<T: QueryFragment<Pg> + Drop>(
     reads(builder.finish(), wanted)
 }
 
+/// Fails where the part isn't made, or has another text for PostgreSQL.
+pub fn gives<T: QueryFragment<Pg> + Drop, E>(
+    alloc: Global,
+    made: Result<T, E>,
+    wanted: &str,
+) -> Result<(), Fail>
+where
+    Fail: From<E>,
+{
+    match made {
+        Ok(part) => writes(alloc, part, wanted),
+        Err(error) => Err(error)?,
+    }
+}
+
+/// Fails where the part isn't copied, or its copy has another text for PostgreSQL.
+pub fn copies<T: QueryFragment<Pg> + Drop, F: FnOnce(&T, Global) -> Result<T, NoMemory>>(
+    alloc: Global,
+    part: T,
+    try_clone: F,
+    wanted: &str,
+) -> Result<(), Fail>
+    requires { F.IsAlwaysCallable try_clone }
+{
+    gives(alloc, try_clone(&part, alloc), wanted)
+}
+
 /// A part and what is made beside it, which may be refused.
-///
-/// Where a part is alive at a `?`, each enum in it is taken apart there, and with each other part that is alive. A generic one is
-/// dropped by one call.
 pub fn beside<P: Drop, M, E>(part: P, made: Result<M, E>) -> Result<(P, M), Fail>
 where
     Fail: From<E>,
@@ -68,6 +95,7 @@ pub fn text(alloc: Global, text: &str) -> Result<SqlText, NoMemory> {
     Ok(SqlText::from(String::from_str(alloc, text)?))
 }
 
+/// A column of integers.
 pub fn column_decl(alloc: Global, name: &str) -> Result<ColumnDecl, NoMemory> {
     Ok(ColumnDecl {
         name: text(alloc, name)?,
@@ -101,23 +129,15 @@ pub fn schema(alloc: Global) -> Result<Schema, Fail> {
     Ok(builder.build()?)
 }
 
+/// A table of that schema.
 pub fn table(alloc: Global, name: &str) -> Result<Table, Fail> {
     let schema = schema(alloc)?;
     let table = schema.table(name).ok_or("no table")?;
     Ok(table.try_clone(alloc)?)
 }
 
+/// A column of a table of that schema.
 pub fn column(alloc: Global, of: &str, name: &str) -> Result<Column, Fail> {
     let column = table(alloc, of)?.column(alloc, name)?;
     Ok(column.ok_or("no column")?)
-}
-
-/// `"users"."id"`.
-pub fn id(alloc: Global) -> Result<Expr, Fail> {
-    Ok(Expr::Column(column(alloc, "users", "id")?))
-}
-
-/// `$1`.
-pub fn one(alloc: Global) -> Result<Expr, Fail> {
-    Ok(value(alloc, &1i32)?.ok_or("a list")?)
 }
