@@ -1,7 +1,7 @@
 #!/bin/sh
 # Fails each allocation of a run in turn, and then each from there on. The run has to end as it does when none fails, or with NoMemory
 # (the program: status 6) and a prefix of that output. By hand, with a C compiler; it takes minutes.
-#   tests/faults.sh crates/sql_tool/out/sql_tool [crates/sql_tool/out/sql_tool_tests crates/sql_tests/out/sql_tests_tests]
+#   tests/faults.sh crates/sql_tool/out/sql_tool [crates/sql_tool/out/sql_tool_tests crates/sql_tests/out/sql_tests_tests ..]
 # The program answers three documents of `examples/`; of the tests, as `rt test` builds them, `every_call_once` is run.
 [ $# -ge 1 ] || { sed -n '2,5s/^# *//p' "$0"; exit 2; }
 command -v cc >/dev/null || { echo "skipped: no C compiler"; exit 0; }

@@ -1,5 +1,5 @@
 //! The program's public calls that can answer NoMemory, made once with memory to spare: each gives what it would give, and not
-//! that answer. Those of the libraries stand in `sql_tests`.
+//! that answer. Those of the libraries are in the crates of tests.
 
 use crate::run::run;
 use crate::status::Status;
