@@ -12,3 +12,10 @@ pub mod OneText
 pub mod SafeLaws
 pub mod TypeLaws
 pub mod FlatLaws
+pub mod FitLaws
+pub mod Change
+pub mod Blind
+pub mod RulesLaws
+pub mod Exchange
+pub mod EqualIds
+pub mod Needed

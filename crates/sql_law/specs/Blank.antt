@@ -1,21 +1,26 @@
 -- A statement's pieces without its values.
 use Rattle.std.specs.Prelude.{List, map}
-use Rattle.sql_pass.specs.Pieces.{Piece, Text, Ident, Bind, ValueOnly, Unsafe}
+use Rattle.sql_pass.specs.Pieces.{Piece, Bind, ValueOnly}
 use Rattle.sql_pass.specs.declared.value.Bound.{Bound}
 use Rattle.sql_pass.specs.declared.value.Bound.TheVariants.{Value as OneValue, List as ManyValues}
+use Rattle.sql_pass.specs.declared.value.Value.{Value}
 use Rattle.sql_pass.specs.declared.value.Value.TheVariants.{Null}
+use Rattle.sql_key.specs.Shape.{nulls}
+
+-- without values, where `many` says what stands for a list of them
+module _ (many : List Value → List Value) where
+  abbrev pub erased_bound : Bound → Bound
+  erased_bound (OneValue t v) = OneValue t Null
+  erased_bound (ManyValues t vs) = ManyValues t (many vs)
+
+  abbrev pub erased_piece : Piece → Piece
+  erased_piece (Bind b) = Bind (erased_bound b)
+  erased_piece (ValueOnly b) = ValueOnly (erased_bound b)
+  erased_piece p = p
+
+  abbrev pub erased_pieces : List Piece → List Piece
+  erased_pieces ps = map erased_piece ps
 
 -- NULL for the value, and for each value of a list
 abbrev pub blank_bound : Bound → Bound
-blank_bound (OneValue t v) = OneValue t Null
-blank_bound (ManyValues t vs) = ManyValues t (map (λ v. Null) vs)
-
-abbrev pub blank_piece : Piece → Piece
-blank_piece (Text t) = Text t
-blank_piece (Ident t) = Ident t
-blank_piece (Bind b) = Bind (blank_bound b)
-blank_piece (ValueOnly b) = ValueOnly (blank_bound b)
-blank_piece Unsafe = Unsafe
-
-abbrev pub blank_pieces : List Piece → List Piece
-blank_pieces ps = map blank_piece ps
+blank_bound = erased_bound nulls

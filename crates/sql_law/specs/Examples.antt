@@ -1,12 +1,15 @@
--- Declarations that make a schema, and a statement that breaks no rule.
-use Rattle.std.specs.Prelude.{pos, [], ◌∷◌, Some, None, true, false, codes}
+-- Declarations that make a schema, and statements over it.
+use Rattle.std.specs.Prelude.{pos, List, [], ◌∷◌, Some, None, true, false, codes}
 use Rattle.sql_schema.specs.Declarations.{Declarations}
 use Rattle.sql_schema.specs.declared.declaration.ColumnDecl.{ColumnDecl}
 use Rattle.sql_schema.specs.declared.declaration.TableDecl.{TableDecl}
+use Rattle.sql_pass.specs.declared.value.Value.{Value}
+use Rattle.sql_pass.specs.declared.value.Value.TheVariants.{Integer}
 use Rattle.sql_leaf.specs.Marking.{unmarked}
 use Rattle.sql_leaf.specs.declared.locking.LockingClause.TheVariants.{NoLockingClause}
-use Rattle.sql_node.specs.Tree.{unboxed, Expr, column, list, null_test, no_exprs, more_exprs, no_expr, an_expr, of_table, from, every, no_order, Statement, select}
-use Rattle.sql_reading.specs.Examples.{decl, rows, table}
+use Rattle.sql_node.specs.Tree.{unboxed, Expr, column, value, list, null_test, compared, among_values, no_exprs, more_exprs, no_expr, an_expr, of_table, from, every, no_order, Statement, select}
+use Rattle.sql_node.specs.Words.{Eq}
+use Rattle.sql_reading.specs.Examples.{decl, rows, table, whole_number}
 
 abbrev pub id : ColumnDecl
 id = decl (codes "id")
@@ -26,3 +29,21 @@ first_users =
     select false (list (more_exprs user_id no_exprs)) (from (of_table users false None)) every
     (an_expr (null_test true user_id)) no_order (rows (Some (pos 5)) None) no_expr no_expr
     (unboxed NoLockingClause) unmarked
+
+-- `SELECT "users"."id" FROM "users" WHERE` a condition
+abbrev pub users_where : Expr → Statement
+users_where e =
+    select false (list (more_exprs user_id no_exprs)) (from (of_table users false None)) every (an_expr e) no_order
+    (rows None None) no_expr no_expr (unboxed NoLockingClause) unmarked
+
+-- `("users"."id" = $1)`
+abbrev pub users_where_id : Value → Statement
+users_where_id x = users_where (compared Eq user_id (value whole_number x))
+
+-- `("users"."id" = ANY($1))`
+abbrev pub users_among : List Value → Statement
+users_among xs = users_where (among_values false user_id whole_number xs)
+
+-- a list of one value
+abbrev pub ones : List Value
+ones = Integer (pos 1) ∷ []

@@ -3,20 +3,25 @@
 //! Each function carries laws about the definitions in `specs/` of the crates below. None does anything when it runs.
 #![tactic(auto)]
 
-ghost use Rattle.std.specs.Prelude.{◌≡◌, ◌↔◌, Bool, None, IsTrue, length, map};
+ghost use Rattle.std.specs.Prelude.{◌≡◌, ◌≢◌, ◌↔◌, Bool, None, Some, IsTrue, List, ◌∷◌, length, map, pos};
 ghost use Rattle.sql_schema.specs.Declarations.{Declarations};
 ghost use Rattle.sql_schema.specs.Refusals.{least_refusal};
 ghost use Rattle.sql_dialect.specs.declared.backend.Dialect.{Dialect};
+ghost use Rattle.sql_dialect.specs.declared.backend.Dialect.TheVariants.{Mysql};
 ghost use Rattle.sql_grammar.specs.Numbering.{Fills};
 ghost use Rattle.sql_grammar.specs.Reading.{OnlyReading};
 ghost use Rattle.sql_grammar.specs.Values.{values_query};
+ghost use Rattle.sql_pass.specs.Bounds.{type_of as bind_type};
 ghost use Rattle.sql_pass.specs.Pieces.{is_safe, text_of, values_of};
+ghost use Rattle.sql_pass.specs.declared.value.Value.TheVariants.{Integer, Null};
 ghost use Rattle.sql_leaf.specs.declared.limit_offset.LimitOffsetClause.{LimitOffsetClause};
 ghost use Rattle.sql_leaf.specs.declared.marks.Marks.{Marks};
 ghost use Rattle.sql_node.specs.Pieces.{pieces};
 ghost use Rattle.sql_node.specs.Tree.{Distinct, Expr, Form, From, MaybeExpr, Order, Statement, select};
 ghost use Rattle.sql_key.specs.Ids.{has_id};
+ghost use Rattle.sql_key.specs.Keys.{id_of};
 ghost use Rattle.sql_key.specs.Shape.{shape};
+ghost use Rattle.sql_key.specs.declared.kind.KeyNode.{KeyNode};
 ghost use Rattle.sql_reading.specs.Filled.{filled, lead, normal, trees};
 ghost use Rattle.sql_reading.specs.inside.HasText.{HasNumbers, HasText};
 ghost use Rattle.sql_rules.specs.Names.{IsNamed};
@@ -24,10 +29,13 @@ ghost use Rattle.sql_rules.specs.Rules.{Accepted, Broken};
 ghost use Rattle.sql_rules.specs.Safety.{IsSafeIn, is_safe_in};
 ghost use Rattle.sql_rules.specs.Scope.{EachNode, flat};
 ghost use Rattle.sql_rules.specs.Types.{columns, form_columns, type_of};
+ghost use Rattle.sql_rules.specs.declared.rule.Rule.{Rule};
 ghost use Rattle.sql_rules.specs.declared.rule.Rule.TheVariants.{Ambiguous, EmptyList, NameClash, NoRelation, NotInScope, TooManyBinds, TypeMismatch, UnknownName, Unsupported};
 ghost use Rattle.sql_law.specs.Blank.{blank_bound};
 ghost use Rattle.sql_rules.specs.Counted.{PlacesAreCounted};
-ghost use Rattle.sql_law.specs.Examples.{first_users, one_table};
+ghost use Rattle.sql_law.specs.Examples.{first_users, one_table, ones, users_among, users_where_id};
+ghost use Rattle.sql_law.specs.Fitting.{ValuesFit, values_fit};
+ghost use Rattle.sql_law.specs.Lengths.{shape_without_lengths};
 
 /// What rules keep a statement from having no text: lists without an element, joins without a condition, lists and other
 /// things without a type as operands, and what the dialect lacks. One more keeps placeholders from having no number.
@@ -84,18 +92,114 @@ pub fn lists_are_flat()
     ensures trees { (d : Dialect) (e : Expr) → trees d e ≡ map (λ x. lead (trees d x)) (flat e) }
 {}
 
-/// Statements of one shape have one text in each dialect, are safe to prepare both or neither, and bind values of the same
-/// types in the same order, lists of the same lengths. So a text that was prepared for one serves for the other. Where the
-/// shape leaves them an id, their columns have the same types too.
-pub fn one_shape_one_text()
-    ensures text { (d : Dialect) (a b : Statement) → shape a ≡ shape b →
-        text_of d 0 (pieces d a) ≡ text_of d 0 (pieces d b) }
-    ensures safe { (d : Dialect) (a b : Statement) → shape a ≡ shape b →
-        is_safe (pieces d a) ≡ is_safe (pieces d b) }
-    ensures values { (d : Dialect) (a b : Statement) → shape a ≡ shape b →
-        map blank_bound (values_of (pieces d a)) ≡ map blank_bound (values_of (pieces d b)) }
-    ensures types { (a b : Statement) → shape a ≡ shape b → IsTrue (has_id a) →
-        columns a ≡ columns b }
+/// Values may be exchanged for others that fit their types, and a list of values for one as long.
+///
+/// Two statements have one shape where they are one statement but for that. Where the values of both fit, they break the same
+/// rules and their columns have the same types. Whether they fit or not, in each dialect the two have one text and bind
+/// values of the same types in the same order, lists of the same lengths; and both are safe to prepare there, or neither; and
+/// both have an id, or neither. So a text that was prepared for one serves for the other.
+pub fn values_can_be_exchanged()
+    ensures rules { (schema : Declarations) (d : Dialect) (a b : Statement)
+        → shape a ≡ shape b
+        → ValuesFit a
+        → ValuesFit b
+        → (r : Rule) → Broken r schema d a ↔ Broken r schema d b }
+    ensures column_types { (a b : Statement)
+        → shape a ≡ shape b
+        → ValuesFit a
+        → ValuesFit b
+        → columns a ≡ columns b }
+    ensures text { (d : Dialect) (a b : Statement)
+        → shape a ≡ shape b
+        → text_of d 0 (pieces d a) ≡ text_of d 0 (pieces d b) }
+    ensures bind_types { (d : Dialect) (a b : Statement)
+        → shape a ≡ shape b
+        → map bind_type (values_of (pieces d a)) ≡ map bind_type (values_of (pieces d b)) }
+    ensures lengths { (d : Dialect) (a b : Statement)
+        → shape a ≡ shape b
+        → map blank_bound (values_of (pieces d a)) ≡ map blank_bound (values_of (pieces d b)) }
+    ensures safe { (d : Dialect) (a b : Statement)
+        → shape a ≡ shape b
+        → is_safe_in d a ≡ is_safe_in d b }
+    ensures id { (a b : Statement)
+        → shape a ≡ shape b
+        → has_id a ≡ has_id b }
+{}
+
+/// Lists of values may be exchanged for others of the same types and any length, where the statement is safe to prepare and
+/// the values fit: a statement that breaks no rule still breaks none, its text stays, and so does the flag.
+pub fn list_lengths_can_be_exchanged()
+    ensures accepted { (schema : Declarations) (d : Dialect) (a b : Statement)
+        → Accepted schema d a
+        → IsSafeIn d a
+        → shape_without_lengths a ≡ shape_without_lengths b
+        → ValuesFit b
+        → Accepted schema d b }
+    ensures text { (d : Dialect) (a b : Statement)
+        → IsSafeIn d a
+        → shape_without_lengths a ≡ shape_without_lengths b
+        → text_of d 0 (pieces d a) ≡ text_of d 0 (pieces d b) }
+    ensures safe { (d : Dialect) (a b : Statement)
+        → shape_without_lengths a ≡ shape_without_lengths b
+        → is_safe_in d a ≡ is_safe_in d b }
+    ensures one_shape { (a b : Statement)
+        → shape a ≡ shape b
+        → shape_without_lengths a ≡ shape_without_lengths b }
+{}
+
+/// Statements of one id, which is their key, have one shape; so they have one text in each dialect, bind values of the same
+/// types in the same order, and have columns of the same types. Where one breaks no rule, each other whose values fit
+/// breaks none either: what was told of the one serves for it.
+pub fn equal_ids()
+    ensures shapes { (a b : Statement) (k : List KeyNode)
+        → id_of a ≡ Some k
+        → id_of b ≡ Some k
+        → shape a ≡ shape b }
+    ensures text { (d : Dialect) (a b : Statement) (k : List KeyNode)
+        → id_of a ≡ Some k
+        → id_of b ≡ Some k
+        → text_of d 0 (pieces d a) ≡ text_of d 0 (pieces d b) }
+    ensures bind_types { (d : Dialect) (a b : Statement) (k : List KeyNode)
+        → id_of a ≡ Some k
+        → id_of b ≡ Some k
+        → map bind_type (values_of (pieces d a)) ≡ map bind_type (values_of (pieces d b)) }
+    ensures column_types { (a b : Statement) (k : List KeyNode)
+        → id_of a ≡ Some k
+        → id_of b ≡ Some k
+        → columns a ≡ columns b }
+    ensures safe { (d : Dialect) (a b : Statement) (k : List KeyNode)
+        → id_of a ≡ Some k
+        → id_of b ≡ Some k
+        → is_safe_in d a ≡ is_safe_in d b }
+    ensures accepted { (schema : Declarations) (d : Dialect) (a b : Statement) (k : List KeyNode)
+        → id_of a ≡ Some k
+        → id_of b ≡ Some k
+        → ValuesFit b
+        → Accepted schema d a
+        → Accepted schema d b }
+{}
+
+/// The values of a statement that breaks no rule fit their types; and the test of `values_fit` says what it has to.
+pub fn accepted_values_fit()
+    ensures accepted { (schema : Declarations) (d : Dialect) (s : Statement)
+        → Accepted schema d s
+        → ValuesFit s }
+    ensures test { (s : Statement) → IsTrue (values_fit s) ↔ ValuesFit s }
+{}
+
+/// The laws ask no more than they need. Of two statements of one shape, `WHERE ("users"."id" = $1)` over 1 and over NULL, the
+/// first breaks no rule and the second does, since NULL does not fit a column that is not nullable. And on MySQL, where
+/// a list of values is not safe, `IN (?)` and `IN (?, ?)` differ.
+pub fn premises_are_needed()
+    ensures one_shape { shape (users_where_id (Integer (pos 1))) ≡ shape (users_where_id Null) }
+    ensures fits { (d : Dialect) → Accepted one_table d (users_where_id (Integer (pos 1))) }
+    ensures misfits { (d : Dialect) → Broken TypeMismatch one_table d (users_where_id Null) }
+    ensures one_but_for_lengths { shape_without_lengths (users_among ones)
+        ≡ shape_without_lengths (users_among (Integer (pos 1) ∷ ones)) }
+    ensures lists_fit { ValuesFit (users_among ones)
+        × ValuesFit (users_among (Integer (pos 1) ∷ ones)) }
+    ensures other_text { text_of Mysql 0 (pieces Mysql (users_among ones))
+        ≢ text_of Mysql 0 (pieces Mysql (users_among (Integer (pos 1) ∷ ones))) }
 {}
 
 /// The flag that the pieces of a statement give says what it has to: the statement is safe to prepare in the dialect exactly

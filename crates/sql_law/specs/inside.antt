@@ -1,0 +1,2 @@
+-- Devices: a test along the tree.
+pub mod Fits
