@@ -78,6 +78,9 @@ pub use Rattle.sql_rules.specs.Scope
 pub use Rattle.sql_rules.specs.Types
 pub use Rattle.sql_rules.specs.Verdicts
 pub use Rattle.sql_rules.specs.declared.rule.Rule
+-- Whether values fit, and shapes without lengths.
+pub use Rattle.sql_law.specs.Fitting
+pub use Rattle.sql_law.specs.Lengths
 -- What `compile` gives.
 pub use Rattle.sql_check.specs.Compiled
 pub use Rattle.sql_check.specs.Errors

@@ -68,12 +68,15 @@ pub use sql_key::{
     equal_keys_hash_alike, equal_shapes_have_ids_alike,
 };
 
-// The rules, and `compile`.
-pub use sql_check::{Built, CompileError, RULES, Rule, boxing_takes_the_id_alone, broken, compile};
+// The rules, `compile`, and whether values fit.
+pub use sql_check::{
+    Built, CompileError, RULES, Rule, boxing_takes_the_id_alone, broken, compile, values_fit,
+};
 
 // The laws: what holds of a statement that breaks no rule, of statements of one shape, and of the grammar.
 pub use sql_grammar::{joined_texts, one_reading, quoted_name, token_rules, written};
 pub use sql_law::{
-    a_statement_is_accepted, accepted_are_read, accepted_have_text, names_one_leaf,
-    one_shape_one_text, safe_without_value_lists,
+    a_statement_is_accepted, accepted_are_read, accepted_have_text, accepted_values_fit, equal_ids,
+    list_lengths_can_be_exchanged, names_one_leaf, premises_are_needed, safe_without_value_lists,
+    values_can_be_exchanged,
 };

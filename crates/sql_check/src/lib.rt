@@ -1,12 +1,15 @@
-//! Compiles statements: text, values, types, flag and key of a statement that breaks no rule, or the first rule that it breaks.
+//! Compiles statements: text, values, types, flag and key of a statement that breaks no rule, or the first rule that it breaks;
+//! and whether a statement's values fit their types.
 #![tactic(auto)]
 
 mod boxing;
 mod built;
 mod error;
+mod fitting;
 
 pub use boxing::boxing_takes_the_id_alone;
 pub use built::{Built, compile};
 pub use error::CompileError;
+pub use fitting::values_fit;
 pub use sql_judge::broken;
 pub use sql_rules::{RULES, Rule};

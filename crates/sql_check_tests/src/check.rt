@@ -1,4 +1,10 @@
-use sql_check::{CompileError, RULES};
+use super::every_call::fixture::{INTEGER, beside, id, table};
+use sql_check::{CompileError, RULES, values_fit};
+use sql_expr::{Expr, ExpressionMethods, InValues, SelectStatement, Statement};
+use sql_pass::Value;
+use sql_schema::SqlList;
+use sql_select::{AsQuery, Query, QueryDsl};
+use std::alloc::Global;
 use std::test::Fail;
 
 #[test]
@@ -12,5 +18,39 @@ fn messages_are_names(rt: HostRuntime) -> Result<(), Fail> {
     let none = CompileError::NoMemory;
     assert_eq!(rt; none.to_string(alloc)?.as_str(), "NoMemory");
     assert_eq!(rt; none.rule(), None);
+    Ok(())
+}
+
+/// `("users"."id" = $1)` over this value.
+fn equal(alloc: Global, value: Value) -> Result<Expr, Fail> {
+    let (value, id) = beside(value, id(alloc))?;
+    Ok(id.eq(alloc, Expr::Value(INTEGER, value))?)
+}
+
+/// `("users"."id" = ANY($1))` over 1 and this value.
+fn among(alloc: Global, value: Value) -> Result<Expr, Fail> {
+    let (value, id) = beside(value, id(alloc))?;
+    let (id, values) = beside(id, vec![in alloc; Value::Integer(1), value])?;
+    Ok(id.eq_any(alloc, InValues::List(INTEGER, SqlList::from(values)))?)
+}
+
+fn users(alloc: Global) -> Result<SelectStatement, Fail> {
+    Ok(table(alloc, "users")?.as_query(alloc)?)
+}
+
+fn fit_where(alloc: Global, condition: Result<Expr, Fail>) -> Result<bool, Fail> {
+    let (condition, users) = beside(condition?, users(alloc))?;
+    let statement: Statement = users.filter(alloc, condition)?.into_statement();
+    Ok(values_fit(&statement))
+}
+
+#[test]
+fn values_that_fit(rt: HostRuntime) -> Result<(), Fail> {
+    let alloc = rt.alloc();
+    assert!(rt; fit_where(alloc, equal(alloc, Value::Integer(2)))?);
+    assert!(rt; !fit_where(alloc, equal(alloc, Value::Null))?);
+    assert!(rt; !fit_where(alloc, equal(alloc, Value::Bool(true)))?);
+    assert!(rt; fit_where(alloc, among(alloc, Value::Integer(2)))?);
+    assert!(rt; !fit_where(alloc, among(alloc, Value::Null))?);
     Ok(())
 }
