@@ -51,24 +51,29 @@ module _ {many : List Value → List Value} {always : Bool} where
   pub alike-same : (ps : List Piece) → Alike many always ps ps
   alike-same ps = record { safe = refl; says = λ a. refl }
 
-  pub alike-append : {a b c e : List Piece} → Alike many always a c → Alike many always b e → Alike many always (a ++ b) (c ++ e)
+  pub alike-append : {a b c e : List Piece} → Alike many always a c → Alike many always b e
+      → Alike many always (a ++ b) (c ++ e)
   alike-append {a} {b} {c} {e} h k =
       record {
         safe = is_safe-append a b ∙ (λ i. h.safe i && k.safe i) ∙ sym (is_safe-append c e);
         says =
             λ p. map-append (erased_piece many) a b
-            ∙ (λ i. h.says (asked-front always c e p) i ++ k.says (asked-back always c e p) i) ∙ sym (map-append (erased_piece many) c e);
+            ∙ (λ i. h.says (asked-front always c e p) i ++ k.says (asked-back always c e p) i)
+            ∙ sym (map-append (erased_piece many) c e);
       }
 
-  pub alike-bind : (b c : Bound) → erased_bound many b ≡ erased_bound many c → Alike many always (one (Bind b)) (one (Bind c))
+  pub alike-bind : (b c : Bound) → erased_bound many b ≡ erased_bound many c
+      → Alike many always (one (Bind b)) (one (Bind c))
   unfolding one
   alike-bind b c h = record { safe = refl; says = λ a. ap (λ x. Bind x ∷ []) h }
 
   -- behind a text, in front of one, between two
-  pub alike-behind : (t : List ℕ) {x y : List Piece} → Alike many always x y → Alike many always (one (Text t) ++ x) (one (Text t) ++ y)
+  pub alike-behind : (t : List ℕ) {x y : List Piece} → Alike many always x y
+      → Alike many always (one (Text t) ++ x) (one (Text t) ++ y)
   alike-behind t h = alike-append (alike-same (one (Text t))) h
 
-  pub alike-before : {x y : List Piece} (t : List ℕ) → Alike many always x y → Alike many always (x ++ one (Text t)) (y ++ one (Text t))
+  pub alike-before : {x y : List Piece} (t : List ℕ) → Alike many always x y
+      → Alike many always (x ++ one (Text t)) (y ++ one (Text t))
   alike-before t h = alike-append h (alike-same (one (Text t)))
 
   pub alike-around : {x y : List Piece} (before behind : List ℕ) → Alike many always x y
@@ -78,13 +83,15 @@ module _ {many : List Value → List Value} {always : Bool} where
 -- ## Lists
 
 module _ (many : List Value → List Value) (always : Bool) where
-  pub lists-append : (a b c e : List (List Piece)) → AlikeLists many always a c → AlikeLists many always b e → AlikeLists many always (a ++ b) (c ++ e)
+  pub lists-append : (a b c e : List (List Piece)) → AlikeLists many always a c → AlikeLists many always b e
+      → AlikeLists many always (a ++ b) (c ++ e)
   lists-append [] b [] e h k = k
   lists-append [] b (y ∷ c) e h k = absurd h
   lists-append (x ∷ a) b [] e h k = absurd h
   lists-append (x ∷ a) b (y ∷ c) e h k = (h.0, lists-append a b c e h.1 k)
 
-  next-alike : (first : Bool) {x y : List Piece} → Alike many always x y → Alike many always (next_of first x) (next_of first y)
+  next-alike : (first : Bool) {x y : List Piece} → Alike many always x y
+      → Alike many always (next_of first x) (next_of first y)
   next-alike true h = h
   next-alike false h = alike-behind _ h
 

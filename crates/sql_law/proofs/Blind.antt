@@ -1,5 +1,5 @@
--- Statements with other values: what clauses see, the statements inside, clauses, expressions, verdicts and types are those of
--- the statement, as long as what fits goes on to fit and what does not goes on not to.
+-- Statements with other values: what clauses see, the statements inside, clauses, expressions, verdicts and types are
+-- those of the statement, as long as what fits goes on to fit and what does not goes on not to.
 use Rattle.std.proofs.Common.{◌≡◌, Bool, false, ◌||◌, if◌then◌else◌, List, [], ◌∷◌, ◌++◌, map, Some, None, refl, sym, ap, ◌∙◌}
 use Rattle.std.specs.List.{list_any}
 use Rattle.std.proofs.lemmas.List.{map-append}
@@ -10,21 +10,24 @@ use Rattle.sql_node.specs.Tree.{Origin, Form, unboxed, boxed, Expr, column, list
 use Rattle.sql_source.specs.Leaves.{leaves, in_right_side}
 use Rattle.sql_key.specs.Shape.{blank_rows}
 use Rattle.sql_rules.specs.Rules.{bare, bare_of}
-use Rattle.sql_rules.specs.Scope.{View, origins, leaves_of, origins_of, widest, Select, Part, a_select, a_combination, parts, in_expr, in_exprs, in_items, in_maybe, in_source, in_from, in_distinct, in_order, Place, in_selection, in_order_by, in_on, in_where, in_group_by, in_having, Clause, clauses, clauses_by, maybe_clause, ons, ons_of, distinct_clause, item_clauses, order_clauses, own, nodes, nodes_of, flat, flat_of, flat_items}
+use Rattle.sql_rules.specs.Scope.{View, origins, leaves_of, origins_of, widest, Select, Combination, Part, a_select, a_combination, parts, in_expr, in_exprs, in_items, in_maybe, in_source, in_from, in_distinct, in_order, Place, in_selection, in_order_by, in_on, in_where, in_group_by, in_having, Clause, clauses, clauses_by, maybe_clause, ons, ons_of, distinct_clause, item_clauses, order_clauses, own, nodes, nodes_of, flat, flat_of, flat_items}
 use Rattle.sql_rules.specs.Types.{all_fit, one, many, given, given_each, columns, only_type, element_types, all_nullable, as_nullable, single_type, not_type, if_typed, bool_type, big_type, compared_type, joined_type, form_columns}
 use Rattle.sql_rules.specs.Verdicts.{NoVerdict, Yes, mix, is_aggregate, holds_aggregate, fields, fields_of, holds_column, holds_key, column_verdict, verdict, verdict_of}
 use Rattle.sql_law.proofs.Change.{change_expr, change_exprs, change_items, change_maybe, change_source, change_from, change_distinct, change_order, change}
 
 -- ## Lists
 
-pub both : {X Y : Type 0} (f : X → Y) (a b : List X) {c d : List Y} → c ≡ map f a → d ≡ map f b → c ++ d ≡ map f (a ++ b)
+pub both : {X Y : Type 0} (f : X → Y) (a b : List X) {c d : List Y} → c ≡ map f a → d ≡ map f b
+    → c ++ d ≡ map f (a ++ b)
 both f a b p q = (λ i. p i ++ q i) ∙ sym (map-append f a b)
 
-map-swap : {X : Type 0} (f g : X → X) → ((x : X) → f (g x) ≡ g (f x)) → (xs : List X) → map f (map g xs) ≡ map g (map f xs)
+map-swap : {X : Type 0} (f g : X → X) → ((x : X) → f (g x) ≡ g (f x)) → (xs : List X)
+    → map f (map g xs) ≡ map g (map f xs)
 map-swap f g h [] = refl
 map-swap f g h (x ∷ xs) = λ i. h x i ∷ map-swap f g h xs i
 
-any-same : {X : Type 0} (t : X → Bool) (f : X → X) → ((x : X) → t (f x) ≡ t x) → (xs : List X) → list_any t (map f xs) ≡ list_any t xs
+any-same : {X : Type 0} (t : X → Bool) (f : X → X) → ((x : X) → t (f x) ≡ t x) → (xs : List X)
+    → list_any t (map f xs) ≡ list_any t xs
 any-same t f h [] = refl
 any-same t f h (x ∷ xs) = λ i. h x i || any-same t f h xs i
 
@@ -109,7 +112,8 @@ module _ (v : SqlType → Value → Value) (l : SqlType → List Value → List 
     source-parts (join k a b on) =
         let w : View = origins a ++ origins b in
         (λ i. in_source (change_source v l a) ++ (in_source (change_source v l b)
-        ++ in_maybe (map (λ x. x.origin) (leaves-same a i) ++ map (λ x. x.origin) (leaves-same b i)) (change_maybe v l on)))
+        ++ in_maybe (map (λ x. x.origin) (leaves-same a i) ++ map (λ x. x.origin) (leaves-same b i))
+        (change_maybe v l on)))
         ∙ both _ (in_source a) (in_source b ++ in_maybe w on) (source-parts a)
         (both _ (in_source b) (in_maybe w on) (source-parts b) (maybe-parts on w))
     source-parts _ = refl
@@ -118,7 +122,8 @@ module _ (v : SqlType → Value → Value) (l : SqlType → List Value → List 
     from-parts no_source = refl
     from-parts (from s) = source-parts s
 
-    distinct-parts : (u : Distinct) (w : View) → in_distinct w (change_distinct v l u) ≡ map change_part (in_distinct w u)
+    distinct-parts : (u : Distinct) (w : View)
+        → in_distinct w (change_distinct v l u) ≡ map change_part (in_distinct w u)
     distinct-parts (distinct_on e) w = expr-parts e w
     distinct-parts _ w = refl
 
@@ -130,7 +135,19 @@ module _ (v : SqlType → Value → Value) (l : SqlType → List Value → List 
     parts-same (select default e f u w o rows g h form marks) outer =
         let p : View = origins_of f in
         let q : View = widest form f outer in
-        let s : Select = record { selection = e; source = f; distinctness = u; where_by = w; order = o; rows = rows; group_by = g; having_by = h; form = form; marks = marks } in
+        let s : Select =
+        record {
+          selection = e;
+          source = f;
+          distinctness = u;
+          where_by = w;
+          order = o;
+          rows = rows;
+          group_by = g;
+          having_by = h;
+          form = form;
+          marks = marks;
+        } in
         (λ i. a_select outer (change_select s)
         ∷ (in_distinct (origins-same f i) (change_distinct v l u) ++ (in_expr (origins-same f i) (change_expr v l e)
         ++ (in_from (change_from v l f) ++ (in_maybe (widest-same form f outer i) (change_maybe v l w)
@@ -144,7 +161,9 @@ module _ (v : SqlType → Value → Value) (l : SqlType → List Value → List 
         (both _ (in_maybe p g) _ (maybe-parts g p)
         (both _ (in_maybe p h) (in_order p o) (maybe-parts h p) (order-parts o p)))))))
     parts-same (combination by all a b o rows) outer =
-        ap (λ x. change_part (a_combination (record { combinator = by; duplicates = all; left = a; right = b; order = o; rows = rows })) ∷ x)
+        let c : Combination =
+        record { combinator = by; duplicates = all; left = a; right = b; order = o; rows = rows } in
+        ap (λ x. change_part (a_combination c) ∷ x)
         (both _ (parts outer a) (parts outer b) (parts-same a outer) (parts-same b outer))
 
   -- ## Clauses
@@ -161,7 +180,8 @@ module _ (v : SqlType → Value → Value) (l : SqlType → List Value → List 
   on-clauses (join k a b on) =
       let w : View = origins a ++ origins b in
       (λ i. ons (change_source v l a) ++ (ons (change_source v l b)
-      ++ maybe_clause in_on (map (λ x. x.origin) (leaves-same a i) ++ map (λ x. x.origin) (leaves-same b i)) (change_maybe v l on)))
+      ++ maybe_clause in_on (map (λ x. x.origin) (leaves-same a i) ++ map (λ x. x.origin) (leaves-same b i))
+      (change_maybe v l on)))
       ∙ both _ (ons a) (ons b ++ maybe_clause in_on w on) (on-clauses a)
       (both _ (ons b) (maybe_clause in_on w on) (on-clauses b) (maybe-clause in_on w on))
   on-clauses _ = refl
@@ -255,7 +275,9 @@ module _ (v : SqlType → Value → Value) (l : SqlType → List Value → List 
   aggregate-same _ = refl
 
   pub holds-same : (e : Expr) → holds_aggregate (change_expr v l e) ≡ holds_aggregate e
-  holds-same e = ap (list_any is_aggregate) (nodes-same e) ∙ any-same is_aggregate (change_expr v l) aggregate-same (nodes e)
+  holds-same e =
+      ap (list_any is_aggregate) (nodes-same e)
+      ∙ any-same is_aggregate (change_expr v l) aggregate-same (nodes e)
 
   mutual
     fields-same : (e : Expr) → fields (change_expr v l e) ≡ fields e
@@ -267,7 +289,8 @@ module _ (v : SqlType → Value → Value) (l : SqlType → List Value → List 
     all-fields-same no_exprs = refl
     all-fields-same (more_exprs e es) = λ i. fields-same e i ++ all-fields-same es i
 
-  column-same : (g : MaybeExpr) (o : Origin) (c : ColumnDecl) → column_verdict (change_maybe v l g) o c ≡ column_verdict g o c
+  column-same : (g : MaybeExpr) (o : Origin) (c : ColumnDecl)
+      → column_verdict (change_maybe v l g) o c ≡ column_verdict g o c
   column-same no_expr o c = refl
   column-same (an_expr e) o c =
       λ i. if holds_column (fields-same e i) o c.name || holds_key (fields-same e i) o then Yes else NoVerdict

@@ -1,4 +1,5 @@
--- A statement with other values of the same types: one for each value and a list for each list of values. Bound numbers become 0.
+-- A statement with other values of the same types: one for each value and a list for each list of values. Bound numbers
+-- become 0.
 use Rattle.std.proofs.Common.{◌≡◌, ℤ, Bool, true, false, cond, if◌then◌else◌, List, [], Option, Some, None, option_map, refl, ap, ◌∙◌, sym}
 use Rattle.std.specs.Cmp.{first_so, second_so}
 use Rattle.sql_schema.specs.declared.types.Base.{Base}

@@ -1,9 +1,9 @@
 -- Statements that are one but for values that fit break the same rules, and have columns of the same types.
-use Rattle.std.proofs.Common.{◌≡◌, ◌↔◌, ◌<◌, Bool, false, true, cond, IsTrue, List, [], ◌∷◌, length, Some, None, inl, refl, sym, ap, ◌∙◌, subst}
+use Rattle.std.proofs.Common.{◌≡◌, ◌↔◌, ◌<◌, Bool, false, true, cond, [], length, Some, None, inl, refl, sym, ap, ◌∙◌, subst}
 use Rattle.sql_schema.specs.Declarations.{Declarations}
 use Rattle.sql_dialect.specs.Written.{MAX_BINDS}
 use Rattle.sql_dialect.specs.declared.backend.Dialect.{Dialect}
-use Rattle.sql_pass.specs.Pieces.{values_of, is_safe, text_of}
+use Rattle.sql_pass.specs.Pieces.{values_of, text_of}
 use Rattle.sql_node.specs.Pieces.{pieces}
 use Rattle.sql_node.specs.Tree.{Expr, value, list, nullable, among_values, Exprs, no_exprs, more_exprs, Statement}
 use Rattle.sql_rose.specs.Rose.{rose_map}
@@ -95,7 +95,8 @@ AllFit v e = Each (Fits v) (nodes e)
 mutual
   flat-fit : (v : View) (e : Expr) → Each (AllFit v) (flat e) → AllFit v e
   flat-fit v (list es) h = (tt, flats-fit v es h)
-  flat-fit v (nullable e) h = (tt, flat-fit v e (each_map _ _ (λ x p. p.1) (flat e) (each_under (AllFit v) nullable (flat e) h)))
+  flat-fit v (nullable e) h =
+      (tt, flat-fit v e (each_map _ _ (λ x p. p.1) (flat e) (each_under (AllFit v) nullable (flat e) h)))
   flat-fit v _ h = h.0
 
   flats-fit : (v : View) (es : Exprs) → Each (AllFit v) (flat_of es) → Each (Fits v) (nodes_of es)

@@ -1,15 +1,18 @@
 -- A value that does not fit, and lists of two lengths on MySQL.
-use Rattle.std.proofs.Common.{◌≡◌, ◌≢◌, ◌<◌, pos, List, [], ◌∷◌, length, inl, inr, refl, ap, subst, arith}
+use Rattle.std.proofs.Common.{◌≡◌, ◌≢◌, ◌<◌, pos, List, length, IsTrue, inl, inr, refl, ap, subst, arith}
 use Rattle.sql_dialect.specs.declared.backend.Dialect.{Dialect}
 use Rattle.sql_dialect.specs.declared.backend.Dialect.TheVariants.{Pg, Mysql, Sqlite, Bracket}
 use Rattle.sql_pass.specs.Pieces.{one, text_of, values_of}
+use Rattle.sql_pass.specs.declared.value.Value.{Value}
 use Rattle.sql_pass.specs.declared.value.Value.TheVariants.{Integer, Null}
 use Rattle.sql_node.specs.Pieces.{pieces}
 use Rattle.sql_node.specs.Tree.{Statement}
 use Rattle.sql_key.specs.Shape.{shape}
 use Rattle.sql_rules.specs.Rules.{Accepted, Broken}
+use Rattle.sql_rules.specs.Types.{all_fit}
 use Rattle.sql_rules.specs.declared.rule.Rule.TheVariants as R
-use Rattle.sql_law.specs.Examples.{one_table, ones, users_among, users_where_id}
+use Rattle.sql_reading.specs.Examples.{whole_number}
+use Rattle.sql_law.specs.Examples.{one_table, one_value, two_values, users_among, users_where_id}
 use Rattle.sql_law.specs.Fitting.{ValuesFit}
 use Rattle.sql_law.specs.Lengths.{shape_without_lengths}
 
@@ -52,12 +55,21 @@ fits d R.TooManyBinds = λ h. few-values d h.1
 pub misfits : (d : Dialect) → Broken R.TypeMismatch one_table d misfit
 misfits d = inl (inl (inr (inl (inl (inl (inr (inr (inl refl))))))))
 
-pub one_but_for_lengths : shape_without_lengths (users_among ones) ≡ shape_without_lengths (users_among (Integer (pos 1) ∷ ones))
+pub one_but_for_lengths : shape_without_lengths (users_among one_value)
+    ≡ shape_without_lengths (users_among two_values)
 one_but_for_lengths = refl
 
-pub lists_fit : ValuesFit (users_among ones) × ValuesFit (users_among (Integer (pos 1) ∷ ones))
-lists_fit = (((((tt, (tt, tt)), ((refl, (tt, tt)), tt)), tt)), ((((tt, (tt, tt)), ((refl, (tt, tt)), tt)), tt)))
+-- the selection has two expressions, WHERE the membership and its column
+list-fits : (xs : List Value) → IsTrue (all_fit whole_number xs) → ValuesFit (users_among xs)
+list-fits xs h = (((tt, (tt, tt)), ((h, (tt, tt)), tt)), tt)
 
-pub other_text : text_of Mysql 0 (pieces Mysql (users_among ones)) ≢ text_of Mysql 0 (pieces Mysql (users_among (Integer (pos 1) ∷ ones)))
+pub lists_fit : ValuesFit (users_among one_value) × ValuesFit (users_among two_values)
+lists_fit = (list-fits one_value refl, list-fits two_values refl)
+
+pub other_text : text_of Mysql 0 (pieces Mysql (users_among one_value))
+    ≢ text_of Mysql 0 (pieces Mysql (users_among two_values))
 unfolding one
-other_text h = let k : length (text_of Mysql 0 (pieces Mysql (users_among ones))) ≡ length (text_of Mysql 0 (pieces Mysql (users_among (Integer (pos 1) ∷ ones)))) = ap length h in omega (arith, k)
+other_text h =
+    let k : length (text_of Mysql 0 (pieces Mysql (users_among one_value)))
+    ≡ length (text_of Mysql 0 (pieces Mysql (users_among two_values))) = ap length h in
+    omega (arith, k)

@@ -1,5 +1,5 @@
--- Statements of one shape have one text, and where it is safe to prepare, the lengths of lists of values are of no account.
-use Rattle.std.proofs.Common.{◌≡◌, ℕ, suc, Bool, true, false, List, [], ◌∷◌, map, length, inl, inr, refl, sym, ap, ◌∙◌}
+-- Statements of one shape have one text; where it is safe to prepare, the lengths of lists are of no account.
+use Rattle.std.proofs.Common.{◌≡◌, suc, Bool, true, false, List, [], ◌∷◌, map, length, inl, inr, refl, sym, ap, ◌∙◌}
 use Rattle.std.proofs.lemmas.Bool.{false≢true}
 use Rattle.std.proofs.lemmas.List.{length-map}
 use Rattle.sql_dialect.specs.declared.backend.Dialect.{Dialect}

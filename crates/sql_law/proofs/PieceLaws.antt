@@ -18,7 +18,7 @@ use Rattle.sql_leaf.specs.Positions.{direction_pieces}
 use Rattle.sql_leaf.specs.Sources.{alias_pieces, only_pieces, method_open, repeatable, seed_pieces, sample_pieces}
 use Rattle.sql_leaf.specs.declared.limit_offset.LimitOffsetClause.{LimitOffsetClause}
 use Rattle.sql_leaf.specs.declared.table_source.Tablesample.{Tablesample}
-use Rattle.sql_node.specs.Pieces.{each, one_by_one, among_pieces, among_sql, null_test_sql, comparison_sql, logic_sql, leaf_pieces, joined_by, join_sql, combinator_sql, all_pieces, positions_pieces, end_pieces, group_by, order_by_sql, distinct_on_open, expr_parts, exprs_parts, items_pieces, maybe_pieces, source_pieces, on_pieces, from_pieces, distinct_pieces, order_pieces, pieces}
+use Rattle.sql_node.specs.Pieces.{spread, each, one_by_one, among_pieces, among_sql, null_test_sql, comparison_sql, logic_sql, leaf_pieces, joined_by, join_sql, combinator_sql, all_pieces, positions_pieces, end_pieces, group_by, order_by_sql, distinct_on_open, expr_parts, exprs_parts, items_pieces, maybe_pieces, source_pieces, on_pieces, from_pieces, distinct_pieces, order_pieces, pieces}
 use Rattle.sql_node.specs.Tree.{Form, unboxed, boxed, Expr, column, value, list, count_star, nullable, not_of, null_test, count, compared, joined, exists, single, among_values, among_rows, Exprs, no_exprs, more_exprs, Items, no_items, more_items, MaybeExpr, no_expr, an_expr, Source, of_table, of_alias, join, From, no_source, from, Distinct, every, distinct, distinct_on, Order, no_order, order_by, Statement, select, combination}
 use Rattle.sql_rules.specs.Rules.{IsNotPg}
 use Rattle.sql_key.specs.Shape.{blank, blank_rows, blank_sample, erased_expr, erased_exprs, erased_items, erased_maybe, erased_source, erased_from, erased_distinct, erased_order, erased}
@@ -134,7 +134,8 @@ module _
 
     seed-alike : (s : Option ℤ) → A (seed_pieces (option_map blank s)) (seed_pieces s)
     seed-alike None = alike-same []
-    seed-alike (Some n) = alike-behind repeatable (alike-before (codes ")") (alike-bind (of_i32 (blank n)) (of_i32 n) refl))
+    seed-alike (Some n) =
+        alike-behind repeatable (alike-before (codes ")") (alike-bind (of_i32 (blank n)) (of_i32 n) refl))
 
     sample-alike : (s : Option Tablesample)
         → A (pieces_of_option sample_pieces (option_map blank_sample s)) (pieces_of_option sample_pieces s)
@@ -151,6 +152,11 @@ module _
 
     -- ## Nodes
 
+    -- an expression as it is written where no list stands
+    in-text : (e : Expr) → AlikeWritten many always (expr_parts d (erased_expr many e)) (expr_parts d e)
+        → A (spread true (expr_parts d (erased_expr many e))) (spread true (expr_parts d e))
+    in-text e h = spread-alike many always (expr_parts d (erased_expr many e)) (expr_parts d e) h
+
     mutual
       expr-alike : (e : Expr) → AlikeWritten many always (expr_parts d (erased_expr many e)) (expr_parts d e)
       expr-alike (column o c) = alike-same (leaf_pieces o c)
@@ -158,46 +164,33 @@ module _
       expr-alike (list es) = exprs-alike es
       expr-alike count_star = alike-same _
       expr-alike (nullable e) = expr-alike e
-      expr-alike (not_of e) =
-          alike-around (codes "NOT (") (codes ")")
-          (spread-alike many always (expr_parts d (erased_expr many e)) (expr_parts d e) (expr-alike e))
-      expr-alike (null_test n e) =
-          alike-around (codes "(") (null_test_sql n)
-          (spread-alike many always (expr_parts d (erased_expr many e)) (expr_parts d e) (expr-alike e))
-      expr-alike (count e) =
-          alike-around (codes "COUNT(") (codes ")")
-          (spread-alike many always (expr_parts d (erased_expr many e)) (expr_parts d e) (expr-alike e))
+      expr-alike (not_of e) = alike-around (codes "NOT (") (codes ")") (in-text e (expr-alike e))
+      expr-alike (null_test n e) = alike-around (codes "(") (null_test_sql n) (in-text e (expr-alike e))
+      expr-alike (count e) = alike-around (codes "COUNT(") (codes ")") (in-text e (expr-alike e))
       expr-alike (compared by a b) =
-          alike-append
-          (alike-around (codes "(") (comparison_sql by)
-          (spread-alike many always (expr_parts d (erased_expr many a)) (expr_parts d a) (expr-alike a)))
-          (alike-before (codes ")") (spread-alike many always (expr_parts d (erased_expr many b)) (expr_parts d b) (expr-alike b)))
+          alike-append (alike-around (codes "(") (comparison_sql by) (in-text a (expr-alike a)))
+          (alike-before (codes ")") (in-text b (expr-alike b)))
       expr-alike (joined by a b) =
-          alike-append
-          (alike-around (codes "(") (logic_sql by)
-          (spread-alike many always (expr_parts d (erased_expr many a)) (expr_parts d a) (expr-alike a)))
-          (alike-before (codes ")") (spread-alike many always (expr_parts d (erased_expr many b)) (expr_parts d b) (expr-alike b)))
+          alike-append (alike-around (codes "(") (logic_sql by) (in-text a (expr-alike a)))
+          (alike-before (codes ")") (in-text b (expr-alike b)))
       expr-alike (exists q) = alike-around (codes "EXISTS (") (codes ")") (pieces-alike q)
       expr-alike (single q) = alike-around (codes "(") (codes ")") (pieces-alike q)
-      expr-alike (among_values n e t xs) =
-          among-alike n _ _ (spread-alike many always (expr_parts d (erased_expr many e)) (expr_parts d e) (expr-alike e)) t xs
+      expr-alike (among_values n e t xs) = among-alike n _ _ (in-text e (expr-alike e)) t xs
       expr-alike (among_rows n e q) =
-          alike-append
-          (alike-around (codes "(") (among_sql d n)
-          (spread-alike many always (expr_parts d (erased_expr many e)) (expr_parts d e) (expr-alike e)))
+          alike-append (alike-around (codes "(") (among_sql d n) (in-text e (expr-alike e)))
           (alike-before (codes "))") (pieces-alike q))
 
       exprs-alike : (es : Exprs) → AlikeLists many always (exprs_parts d (erased_exprs many es)) (exprs_parts d es)
       exprs-alike no_exprs = tt
       exprs-alike (more_exprs e es) =
-          lists-append many always (each (expr_parts d (erased_expr many e))) (exprs_parts d (erased_exprs many es)) (each (expr_parts d e))
-          (exprs_parts d es)
+          lists-append many always (each (expr_parts d (erased_expr many e))) (exprs_parts d (erased_exprs many es))
+          (each (expr_parts d e)) (exprs_parts d es)
           (each-alike many always (expr_parts d (erased_expr many e)) (expr_parts d e) (expr-alike e)) (exprs-alike es)
 
       items-alike : (is : Items) → AlikeLists many always (items_pieces d (erased_items many is)) (items_pieces d is)
       items-alike no_items = tt
       items-alike (more_items e by is) = (
-        alike-append (spread-alike many always (expr_parts d (erased_expr many e)) (expr_parts d e) (expr-alike e))
+        alike-append (in-text e (expr-alike e))
             (alike-same (direction_pieces by)),
         items-alike is,
       )
@@ -206,19 +199,19 @@ module _
           → A (maybe_pieces d before (erased_maybe many e)) (maybe_pieces d before e)
       maybe-alike before no_expr = alike-same []
       maybe-alike before (an_expr e) =
-          alike-behind before (spread-alike many always (expr_parts d (erased_expr many e)) (expr_parts d e) (expr-alike e))
+          alike-behind before (in-text e (expr-alike e))
 
       on-alike : (e : MaybeExpr) (x y : List Piece) → A x y → A (on_pieces d x (erased_maybe many e)) (on_pieces d y e)
       on-alike no_expr x y h = h
       on-alike (an_expr e) x y h =
           alike-behind (codes "(")
           (alike-append h
-          (alike-around (codes " ON ") (codes ")")
-          (spread-alike many always (expr_parts d (erased_expr many e)) (expr_parts d e) (expr-alike e))))
+          (alike-around (codes " ON ") (codes ")") (in-text e (expr-alike e))))
 
       source-alike : (s : Source) → A (source_pieces d (erased_source many s)) (source_pieces d s)
       source-alike (of_table t only sample) =
-          alike-append (alike-same (only_pieces only)) (alike-append (alike-same (table_pieces t)) (sample-alike sample))
+          alike-append (alike-same (only_pieces only))
+          (alike-append (alike-same (table_pieces t)) (sample-alike sample))
       source-alike (of_alias a t) = alike-same (alias_pieces a t)
       source-alike (join k l r on) =
           on-alike on (joined_by (source_pieces d (erased_source many l)) k (source_pieces d (erased_source many r)))
@@ -233,8 +226,7 @@ module _
       distinct-alike every = alike-same []
       distinct-alike distinct = alike-same _
       distinct-alike (distinct_on e) =
-          alike-around distinct_on_open (codes ") ")
-          (spread-alike many always (expr_parts d (erased_expr many e)) (expr_parts d e) (expr-alike e))
+          alike-around distinct_on_open (codes ") ") (in-text e (expr-alike e))
 
       order-alike : (o : Order) → A (order_pieces d (erased_order many o)) (order_pieces d o)
       order-alike no_order = alike-same []
@@ -246,7 +238,7 @@ module _
       pieces-alike (select default e f u w o rows g h form marks) =
           alike-behind (codes "SELECT ")
           (alike-append (distinct-alike u)
-          (alike-append (spread-alike many always (expr_parts d (erased_expr many e)) (expr_parts d e) (expr-alike e))
+          (alike-append (in-text e (expr-alike e))
           (alike-append (from-alike f)
           (alike-append (maybe-alike (codes " WHERE ") w)
           (alike-append (maybe-alike group_by g)

@@ -1,5 +1,5 @@
--- A statement with other values breaks the rules that the statement breaks, as long as what fits goes on to fit and what does
--- not goes on not to.
+-- A statement with other values breaks the rules that the statement breaks, as long as what fits goes on to fit and
+-- what does not goes on not to.
 use Rattle.std.proofs.Common.{◌≡◌, ◌≢◌, ◌↔◌, false, IsTrue, List, [], ◌∷◌, map, Option, Some, None, option_map, inl, inr, ◌⊎◌, refl, sym, ap, ◌∙◌, subst}
 use Rattle.sql_schema.specs.Declarations.{Declarations}
 use Rattle.sql_schema.specs.declared.types.SqlType.{SqlType}
@@ -89,8 +89,8 @@ module _
         let e = blind.clauses-same v l outer s in
         ((λ a. to.0 (subst (AnyOf P) e a)), (λ a. subst (AnyOf P) (sym e) (to.1 a)))
 
-    any-expr : (P : View → Expr → Type 0) → ((w : View) (e : Expr) → Same (P w (change_expr v l e)) (P w e)) → (outer : View)
-        (s : Select) → AnyExpr P outer (sel s) ↔ AnyExpr P outer s
+    any-expr : (P : View → Expr → Type 0) → ((w : View) (e : Expr) → Same (P w (change_expr v l e)) (P w e))
+        → (outer : View) (s : Select) → AnyExpr P outer (sel s) ↔ AnyExpr P outer s
     any-expr P h outer s =
         let Q : Clause → Type 0 = λ c. AnyOf (P c.view) (nodes c.expr) in
         any-clause Q Q
@@ -101,7 +101,8 @@ module _
 
     -- ## Names and scope
 
-    unknown-same : (schema : Declarations) (e : Expr) → Same (IsUnknownColumn schema (change_expr v l e)) (IsUnknownColumn schema e)
+    unknown-same : (schema : Declarations) (e : Expr)
+        → Same (IsUnknownColumn schema (change_expr v l e)) (IsUnknownColumn schema e)
     unknown-same schema (column o c) = refl
     unknown-same schema _ = refl
 
@@ -155,10 +156,12 @@ module _
     ill-same e = λ i. only_type (blind.given-same v l all-fit e i) ≡ None
 
     all-ill-same : (es : List Expr)
-        → Same (AnyOf (λ e. AnyOf IsIllTyped (nodes e)) (map (change_expr v l) es)) (AnyOf (λ e. AnyOf IsIllTyped (nodes e)) es)
+        → Same (AnyOf (λ e. AnyOf IsIllTyped (nodes e)) (map (change_expr v l) es))
+        (AnyOf (λ e. AnyOf IsIllTyped (nodes e)) es)
     all-ill-same =
         any-same (λ e. AnyOf IsIllTyped (nodes e)) (λ e. AnyOf IsIllTyped (nodes e)) (change_expr v l)
-        (λ e. ap (AnyOf IsIllTyped) (blind.nodes-same v l e) ∙ any-same IsIllTyped IsIllTyped (change_expr v l) ill-same (nodes e))
+        (λ e. ap (AnyOf IsIllTyped) (blind.nodes-same v l e)
+        ∙ any-same IsIllTyped IsIllTyped (change_expr v l) ill-same (nodes e))
 
     tops-same : (p : Place) (e : Expr) → tops p (change_expr v l e) ≡ map (change_expr v l) (tops p e)
     tops-same in_selection e = blind.flat-same v l e
@@ -201,11 +204,13 @@ module _
     has-same no_expr = refl
     has-same (an_expr e) = λ i. IsTrue (blind.holds-same v l e i)
 
-    items-verdict : (g : MaybeExpr) (is : Items) → items_verdict (change_maybe v l g) (change_items v l is) ≡ items_verdict g is
+    items-verdict : (g : MaybeExpr) (is : Items)
+        → items_verdict (change_maybe v l g) (change_items v l is) ≡ items_verdict g is
     items-verdict g no_items = refl
     items-verdict g (more_items e by is) = λ i. mix (blind.verdict-same v l g e i) (items-verdict g is i)
 
-    order-verdict : (g : MaybeExpr) (o : Order) → order_verdict (change_maybe v l g) (change_order v l o) ≡ order_verdict g o
+    order-verdict : (g : MaybeExpr) (o : Order)
+        → order_verdict (change_maybe v l g) (change_order v l o) ≡ order_verdict g o
     order-verdict g no_order = refl
     order-verdict g (order_by is) = items-verdict g is
 
@@ -251,9 +256,11 @@ module _
     select-iff R.Incompatible schema d outer s =
         of-same
         (λ i. IsTrue (misuse s.marks)
-        ⊎ ((HasLock s.form × (distinct-same s.distinctness i ⊎ (present-same s.group_by i ⊎ present-same s.having_by i)))
+        ⊎ ((HasLock s.form
+        × (distinct-same s.distinctness i ⊎ (present-same s.group_by i ⊎ present-same s.having_by i)))
         ⊎ (present-same s.having_by i × (¬ present-same s.group_by i))))
-    select-iff R.EmptyList schema d outer s = or (any-clause IsEmptyList IsEmptyList list-iff outer s) (order-iff s.order)
+    select-iff R.EmptyList schema d outer s =
+        or (any-clause IsEmptyList IsEmptyList list-iff outer s) (order-iff s.order)
     select-iff R.NoRelation schema d outer s = of-same (from-lacks-same s.source)
     select-iff R.Ambiguous schema d outer s = two-leaves _ outer s
     select-iff R.NotTogether schema d outer s = two-leaves _ outer s
@@ -291,5 +298,6 @@ module _
         → AnyOf (PartBreaks r schema d) (parts [] (change v l s)) ↔ AnyOf (PartBreaks r schema d) (parts [] s)
     parts-iff r schema d s =
         let e = blind.parts-same v l s [] in
-        let h = any-iff (PartBreaks r schema d) (PartBreaks r schema d) (change_part v l) (part-iff r schema d) (parts [] s) in
-        ((λ a. h.0 (subst (AnyOf (PartBreaks r schema d)) e a)), (λ b. subst (AnyOf (PartBreaks r schema d)) (sym e) (h.1 b)))
+        let P : Part → Type 0 = PartBreaks r schema d in
+        let h = any-iff P P (change_part v l) (part-iff r schema d) (parts [] s) in
+        ((λ a. h.0 (subst (AnyOf P) e a)), (λ b. subst (AnyOf P) (sym e) (h.1 b)))

@@ -44,6 +44,9 @@ users_where_id x = users_where (compared Eq user_id (value whole_number x))
 abbrev pub users_among : List Value → Statement
 users_among xs = users_where (among_values false user_id whole_number xs)
 
--- a list of one value
-abbrev pub ones : List Value
-ones = Integer (pos 1) ∷ []
+-- lists of two lengths
+abbrev pub one_value : List Value
+one_value = Integer (pos 1) ∷ []
+
+abbrev pub two_values : List Value
+two_values = Integer (pos 1) ∷ (Integer (pos 2) ∷ [])

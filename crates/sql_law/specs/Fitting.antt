@@ -1,4 +1,4 @@
--- Whether the values of a statement fit their types, those in lists too (diesel, `AsExpression`). A limit, an offset and the
+-- Whether the values of a statement fit their types, those in lists too (diesel, `AsExpression`). Limits, offsets and the
 -- numbers of a sample are bound as what they are, so they always do.
 use Rattle.std.specs.Prelude.{Bool, true, IsTrue, []}
 use Rattle.std.specs.List.{list_all}

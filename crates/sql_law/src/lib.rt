@@ -3,7 +3,7 @@
 //! Each function carries laws about the definitions in `specs/` of the crates below. None does anything when it runs.
 #![tactic(auto)]
 
-ghost use Rattle.std.specs.Prelude.{◌≡◌, ◌≢◌, ◌↔◌, Bool, None, Some, IsTrue, List, ◌∷◌, length, map, pos};
+ghost use Rattle.std.specs.Prelude.{◌≡◌, ◌≢◌, ◌↔◌, Bool, None, Some, IsTrue, List, length, map, pos};
 ghost use Rattle.sql_schema.specs.Declarations.{Declarations};
 ghost use Rattle.sql_schema.specs.Refusals.{least_refusal};
 ghost use Rattle.sql_dialect.specs.declared.backend.Dialect.{Dialect};
@@ -33,7 +33,7 @@ ghost use Rattle.sql_rules.specs.declared.rule.Rule.{Rule};
 ghost use Rattle.sql_rules.specs.declared.rule.Rule.TheVariants.{Ambiguous, EmptyList, NameClash, NoRelation, NotInScope, TooManyBinds, TypeMismatch, UnknownName, Unsupported};
 ghost use Rattle.sql_law.specs.Blank.{blank_bound};
 ghost use Rattle.sql_rules.specs.Counted.{PlacesAreCounted};
-ghost use Rattle.sql_law.specs.Examples.{first_users, one_table, ones, users_among, users_where_id};
+ghost use Rattle.sql_law.specs.Examples.{first_users, one_table, one_value, two_values, users_among, users_where_id};
 ghost use Rattle.sql_law.specs.Fitting.{ValuesFit, values_fit};
 ghost use Rattle.sql_law.specs.Lengths.{shape_without_lengths};
 
@@ -194,12 +194,11 @@ pub fn premises_are_needed()
     ensures one_shape { shape (users_where_id (Integer (pos 1))) ≡ shape (users_where_id Null) }
     ensures fits { (d : Dialect) → Accepted one_table d (users_where_id (Integer (pos 1))) }
     ensures misfits { (d : Dialect) → Broken TypeMismatch one_table d (users_where_id Null) }
-    ensures one_but_for_lengths { shape_without_lengths (users_among ones)
-        ≡ shape_without_lengths (users_among (Integer (pos 1) ∷ ones)) }
-    ensures lists_fit { ValuesFit (users_among ones)
-        × ValuesFit (users_among (Integer (pos 1) ∷ ones)) }
-    ensures other_text { text_of Mysql 0 (pieces Mysql (users_among ones))
-        ≢ text_of Mysql 0 (pieces Mysql (users_among (Integer (pos 1) ∷ ones))) }
+    ensures one_but_for_lengths { shape_without_lengths (users_among one_value)
+        ≡ shape_without_lengths (users_among two_values) }
+    ensures lists_fit { ValuesFit (users_among one_value) × ValuesFit (users_among two_values) }
+    ensures other_text { text_of Mysql 0 (pieces Mysql (users_among one_value))
+        ≢ text_of Mysql 0 (pieces Mysql (users_among two_values)) }
 {}
 
 /// The flag that the pieces of a statement give says what it has to: the statement is safe to prepare in the dialect exactly
