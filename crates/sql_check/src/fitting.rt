@@ -4,6 +4,7 @@
 ghost use Rattle.std.specs.Prelude.{◌≡◌, map};
 ghost use Rattle.std.specs.Option.{option_map};
 ghost use Rattle.sql_node.specs.View.{boxed_select_statement_tree, combination_clause_tree, distinct_clause_tree, expr_tree, exprs_of, from_clause_tree, group_by_clause_tree, having_clause_tree, in_values_tree, items_of, join_on_tree, maybe_of, order_clause_tree, order_item_tree, select_clause_tree, select_statement_tree, source_tree, statement_tree, where_clause_tree};
+ghost use Rattle.sql_rules.specs.Types.{all_fit as every_fits};
 ghost use Rattle.sql_law.specs.Fitting.{values_fit as values_fit_in};
 ghost use Rattle.sql_law.specs.inside.Fits.{fit_among, fit_distinct, fit_expr, fit_exprs, fit_from, fit_items, fit_maybe, fit_order, fit_source, fit_statement};
 
@@ -12,7 +13,15 @@ use sql_node::{
     HavingClause, InValues, JoinOn, OrderClause, OrderItem, SelectClause, SelectStatement, Source,
     Statement, WhereClause,
 };
+use sql_pass::Value;
+use sql_schema::SqlType;
 use sql_types::fits;
+
+fn all_fit(ty: SqlType, values: &[Value]) -> bool
+    ensures { result ≡ every_fits ty values.now }
+{
+    values.iter().all(|value| fits(ty, value))
+}
 
 #[tactic(auto, using(sql_node::proofs::Trees::opens_expr, sql_law::proofs::FitLaws::memberships))]
 #[cycle(fitting)]
@@ -56,7 +65,7 @@ fn among_fits(among: &InValues) -> bool
     ensures { result ≡ fit_among (in_values_tree among.now) }
 {
     match among {
-        InValues::List(ty, values) => values.as_slice().iter().all(|value| fits(*ty, value)),
+        InValues::List(ty, values) => all_fit(*ty, values.as_slice()),
         InValues::Query(query) => statement_fits(query),
     }
 }
