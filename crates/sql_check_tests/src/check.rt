@@ -1,9 +1,10 @@
-use super::every_call::fixture::{INTEGER, beside, id, table};
+use sql_call_tests::fixture::{all, id};
 use sql_check::{CompileError, RULES, values_fit};
-use sql_expr::{Expr, ExpressionMethods, InValues, SelectStatement, Statement};
+use sql_expr::{Expr, ExpressionMethods, InValues, Statement};
+use sql_fixture::{INTEGER, beside};
 use sql_pass::Value;
 use sql_schema::SqlList;
-use sql_select::{AsQuery, Query, QueryDsl};
+use sql_select::{Query, QueryDsl};
 use std::alloc::Global;
 use std::test::Fail;
 
@@ -34,13 +35,9 @@ fn among(alloc: Global, value: Value) -> Result<Expr, Fail> {
     Ok(id.eq_any(alloc, InValues::List(INTEGER, SqlList::from(values)))?)
 }
 
-fn users(alloc: Global) -> Result<SelectStatement, Fail> {
-    Ok(table(alloc, "users")?.as_query(alloc)?)
-}
-
 fn fit_where(alloc: Global, condition: Result<Expr, Fail>) -> Result<bool, Fail> {
-    let (condition, users) = beside(condition?, users(alloc))?;
-    let statement: Statement = users.filter(alloc, condition)?.into_statement();
+    let (condition, all) = beside(condition?, all(alloc))?;
+    let statement: Statement = all.filter(alloc, condition)?.into_statement();
     Ok(values_fit(&statement))
 }
 
