@@ -1,0 +1,14 @@
+pub mod Facts
+pub mod Typed
+pub mod Lists
+pub mod Counts
+pub mod Sources
+pub mod Kept
+pub mod Cases
+pub mod Soundness
+pub mod Functional
+pub mod Example
+pub mod OneOfEach
+pub mod Worked
+pub mod Needed
+pub mod Writer

@@ -1,0 +1,9 @@
+pub mod Values
+pub mod Rows
+pub mod Frames
+pub mod Answers
+pub mod Fitting
+pub mod Example
+pub mod LastWriter
+pub mod Needed
+pub mod Worked
