@@ -1,0 +1,12 @@
+//! `compile_sound`: what `compile` answers, with column types that are proved right for NULL.
+//!
+//! What a statement may answer over a database is defined in `sql_meaning`, whose definitions and laws this crate re-exports.
+#![tactic(auto)]
+
+mod sound;
+
+pub use sound::compile_sound;
+pub use sql_meaning::{
+    first_is_any, last_writer_is_an_answer, left_join_has_two_answers, needs_nullable_is_needed,
+    operators_work, the_example_is_accepted, types_are_sound,
+};

@@ -1,0 +1,37 @@
+ghost use Rattle.std.specs.Prelude.{◌≡◌, Some, IfOk, IfErr};
+ghost use Rattle.sql_node.specs.View.{statement_tree};
+ghost use Rattle.sql_check.specs.Compiled.{IsBuilt, IsLeast, IsRead};
+ghost use Rattle.sql_check.specs.Errors.{rule_of};
+ghost use Rattle.sql_rules.specs.declared.rule.Rule.{Rule};
+ghost use Rattle.sql_meaning.specs.Fitting.{AnswersFit};
+
+use sql_check::{Built, CompileError, compile};
+use sql_dialect::Backend;
+use sql_meaning::types_are_sound;
+use sql_node::Statement;
+use sql_schema::Schema;
+use std::alloc::Global;
+
+/// What `compile` answers. And where the statement has no aggregate and no group, a column whose type is not nullable gives NULL
+/// over no database that conforms to the schema: `"users"."id"` of type Integer, `"posts"."title"` right of a left join only as
+/// `Text?` (`docs/MEANING.md`).
+///
+/// Statement and schema stay as they are. `NoMemory` may stand in place of any answer.
+pub fn compile_sound<DB: Backend>(
+    alloc: Global,
+    backend: &DB,
+    schema: &Schema,
+    statement: &Statement,
+) -> Result<Built, CompileError>
+    ensures built { IfOk result (λ b. IsBuilt schema.now DB.speaks (statement_tree statement.now)
+        b) }
+    ensures read { IfOk result (λ b. IsRead DB.speaks (statement_tree statement.now)
+        b.sql b.binds) }
+    ensures sound { IfOk result (λ b. AnswersFit schema.now (statement_tree statement.now)
+        b.sql_types) }
+    ensures refused { IfErr result (λ e. (r : Rule) → rule_of e ≡ Some r
+        → IsLeast r schema.now DB.speaks (statement_tree statement.now)) }
+{
+    types_are_sound();
+    compile(alloc, backend, schema, statement)
+}
