@@ -1,0 +1,165 @@
+"""Runs `sql_tool build` over documents that grow, and prints a row for each; `bench/scale.sh` calls it.
+
+With --stack it finds how much stack the deepest documents take, and what a level takes of it. Else seconds are those of a processor, the program's and the system's, so that other work on the machine changes little. The exponent is
+that of the seconds between a size and the one before, by the count: 1 is linear, 2 the square. Beside the peak memory is that of
+parsing alone: of a run over the document between brackets, which is JSON and no document.
+"""
+import argparse
+import json
+import math
+import os
+import resource
+import signal
+import subprocess
+import sys
+import tempfile
+import time
+
+import documents
+
+# The most bytes that a document may have, less the brackets.
+LIMIT = 16777216 - 2
+STATUSES = {0: "Done", 2: "Usage", 3: "BadDocument", 4: "ReadFault", 5: "WriteFault", 6: "NoMemory", 7: "TooLarge"}
+HEAD = "| direction | count | bytes | seconds | exponent | peak, MB | parsing, MB | lines | refused | ends |\n|---|---|---|---|---|---|---|---|---|---|"
+
+
+def run(program, path, most):
+    """How a run ends, its seconds, its peak memory in MB, its output."""
+    with open(path, "rb") as source, tempfile.TemporaryFile() as sink:
+        child = subprocess.Popen([program, "build"], stdin=source, stdout=sink, stderr=subprocess.DEVNULL)
+        began = time.monotonic()
+        ended = 0
+        while not ended:
+            ended, status, usage = os.wait4(child.pid, os.WNOHANG)
+            if not ended:
+                if time.monotonic() - began > most:
+                    child.kill()
+                time.sleep(0.005)
+        child.returncode = status
+        sink.seek(0)
+        text = sink.read()
+    if os.WIFSIGNALED(status):
+        number = os.WTERMSIG(status)
+        end = f"over {most} s" if number == signal.SIGKILL else f"KILLED by {signal.Signals(number).name}"
+    else:
+        code = os.WEXITSTATUS(status)
+        end = STATUSES.get(code, f"status {code}")
+    return end, usage.ru_utime + usage.ru_stime, usage.ru_maxrss // 1024, text
+
+
+def written(direction, size, most):
+    """The largest count, at most `most`, whose document has at most so many bytes, and that document."""
+    per = (len(documents.document(direction, 2000)) - len(documents.document(direction, 1000))) / 1000
+    count = max(1, int(size / per))
+    while True:
+        if most is not None:
+            count = min(count, most)
+        text = documents.document(direction, count)
+        if len(text) <= size or count == 1:
+            return count, text
+        count = max(1, min(count - 1, int(count * size / len(text))))
+
+
+def sizes(direction, least, most):
+    """Documents of this direction, from the smallest size on, each four times as large; twice, where the count has a bound."""
+    bound = documents.DIRECTIONS[direction][1]
+    if bound is None:
+        size = least
+        while size <= most:
+            yield written(direction, size, None)
+            size *= 4
+    else:
+        for part in (8, 4, 2, 1):
+            count, text = bound // part, documents.document(direction, bound // part)
+            if len(text) <= most:
+                yield count, text
+
+
+def measure(program, direction, least, most, longest):
+    before = None
+    for count, text in sizes(direction, least, most):
+        with tempfile.TemporaryDirectory() as folder:
+            path = os.path.join(folder, "document")
+            with open(path, "w", encoding="ascii") as file:
+                file.write(text)
+            end, seconds, peak, output = run(program, path, longest)
+            with open(path, "w", encoding="ascii") as file:
+                file.write(f"[{text}]")
+            parsing = run(program, path, longest)[2]
+        exponent = "-"
+        if before is not None and before[1] >= 0.02 and seconds > 0 and count > before[0]:
+            exponent = f"{math.log(seconds / before[1]) / math.log(count / before[0]):.1f}"
+        before = count, seconds
+        lines = output.count(b"\n")
+        refused = output.count(b'\n{"refused"') + output.startswith(b'{"refused"')
+        print(f"| {direction} | {count} | {len(text)} | {seconds:.2f} | {exponent} | {peak} | {parsing} | {lines} | {refused} | {end} |", flush=True)
+        yield end, seconds
+
+
+def takes_stack(program, path, kilobytes):
+    """Whether a run with so much stack ends by a signal."""
+    limit = kilobytes * 1024
+    with open(path, "rb") as source:
+        child = subprocess.run(
+            [program, "build"], stdin=source, stdout=subprocess.DEVNULL, stderr=subprocess.DEVNULL, check=False,
+            preexec_fn=lambda: resource.setrlimit(resource.RLIMIT_STACK, (limit, limit)),
+        )
+    return child.returncode < 0
+
+
+def least_stack(program, text):
+    """The fewest kilobytes of stack, within one in a hundred, with which a run over the document does not end by a signal."""
+    with tempfile.NamedTemporaryFile("w", encoding="ascii") as file:
+        file.write(text)
+        file.flush()
+        few, enough = 64, 128
+        while takes_stack(program, file.name, enough):
+            few, enough = enough, enough * 2
+        while enough - few > max(4, few // 100):
+            middle = (few + enough) // 2
+            if takes_stack(program, file.name, middle):
+                few = middle
+            else:
+                enough = middle
+    return enough
+
+
+def in_each_dialect(direction, count):
+    """The direction's document, with its request in each dialect."""
+    schema, written = documents.DIRECTIONS[direction][0](count)
+    everything = [{**request, "dialect": dialect} for dialect in ("Pg", "Mysql", "Sqlite", "Bracket") for request in written]
+    return json.dumps({"schema": schema, "requests": everything}, separators=(",", ":"))
+
+
+def measure_stack(program, directions):
+    print("| direction | count | stack, KB | half the count, KB | bytes a level |\n|---|---|---|---|---|")
+    for direction in directions:
+        count = documents.DIRECTIONS[direction][1]
+        all_of_it, half = (least_stack(program, in_each_dialect(direction, n)) for n in (count, count // 2))
+        level = (all_of_it - half) * 1024 // (count - count // 2)
+        print(f"| {direction} | {count} | {all_of_it} | {half} | {level} |", flush=True)
+
+
+def main():
+    options = argparse.ArgumentParser(description=__doc__.split("\n")[0])
+    options.add_argument("program", help="the program to run")
+    options.add_argument("directions", nargs="*", metavar="DIRECTION", help="the directions to run, else all: " + ", ".join(documents.DIRECTIONS))
+    options.add_argument("--least", type=int, default=65536, help="the bytes of the smallest document (65536)")
+    options.add_argument("--most", type=int, default=LIMIT, help="the bytes of the largest document (16777214)")
+    options.add_argument("--seconds", type=int, default=120, help="a run is ended after so many seconds (120)")
+    options.add_argument("--stack", action="store_true", help="find how much stack the deepest documents take")
+    given = options.parse_args()
+    if given.stack:
+        measure_stack(given.program, given.directions or documents.NESTING)
+        return
+    print(HEAD)
+    failed = False
+    for direction in given.directions or documents.DIRECTIONS:
+        for end, seconds in measure(given.program, direction, given.least, given.most, given.seconds):
+            failed = failed or end not in ("Done", "NoMemory") or seconds > 20
+            if end.startswith("over"):
+                break
+    sys.exit(1 if failed else 0)
+
+
+main()
