@@ -1,6 +1,6 @@
 #!/bin/sh
-# Runs the program as a process: standard input to standard output, outputs and inputs that fail, words that are no command, the
-# examples. The program is built first where it is not. Ends with 'N passed, M failed'.
+# Runs the program as a process: standard input to standard output, outputs and inputs that fail, words that are no command, requests
+# that nest deep, the examples. The program is built first where it is not. Ends with 'N passed, M failed'.
 top=$(cd "$(dirname "$0")/.." && pwd) || exit 1
 work=$(mktemp -d) || exit 1
 trap 'rm -r "$work"' EXIT
@@ -83,6 +83,39 @@ check 'a large input' is_empty 7 TooLarge
 head -c 16777216 "$work/large" >"$work/full"
 run build <"$work/full"
 check 'the largest input' is_empty 3 BadDocument
+# deep COUNT CALL: a document of two requests: the table's, and one with so many of this call on it
+deep() {
+    awk -v count="$1" -v call="$2" 'BEGIN {
+        table = "\"from\":{\"table\":\"foo\"}"
+        printf "{\"schema\":{\"tables\":[{\"name\":\"foo\",\"columns\":[{\"name\":\"id\",\"type\":\"Integer\"}]}]},\"requests\":["
+        printf "{\"dialect\":\"Pg\",\"query\":{%s}},{\"dialect\":\"Pg\",\"query\":{%s,\"calls\":[", table, table
+        for (i = 0; i < count; i++) printf "%s%s", i ? "," : "", call
+        print "]}}]}" }'
+}
+cat >"$work/line" <<'TXT'
+{"binds":[],"columns":["Integer"],"id":1,"safe":true,"sql":"SELECT \"foo\".\"id\" FROM \"foo\""}
+TXT
+# MAX_DEPTH (sql_syntax) bounds what nests: out of memory, after the line of the request before, and never a signal.
+beyond() { ended 6 NoMemory && cmp "$work/out" "$work/line"; }
+# As many as nest within the bound are answered, also where the stack is half of what systems give.
+within() { ended 0 '' && [ "$(wc -l <"$work/out")" = 2 ] && ! grep -q refused "$work/out"; }
+while read -r most many call; do
+    deep "$many" "$call" >"$work/deep"
+    run build <"$work/deep"
+    check "$many calls $call" beyond
+    deep "$((most + 1))" "$call" >"$work/deep"
+    run build <"$work/deep"
+    check "one call $call too many" beyond
+    deep "$most" "$call" >"$work/deep"
+    (ulimit -s 4096 && run build <"$work/deep" && exit "$got")
+    got=$?
+    check "$most calls $call" within
+done <<'TXT'
+997 8000 ["filter",{"eq":[{"col":["foo","id"]},{"bind":["Integer",1]}]}]
+997 8000 ["or_filter",{"eq":[{"col":["foo","id"]},{"bind":["Integer",1]}]}]
+997 4000 ["union",{"from":{"table":"foo"}}]
+998 16000 ["nullable"]
+TXT
 for words in '' 'Build' 'build x'; do
     # shellcheck disable=SC2086
     run $words </dev/null

@@ -11,12 +11,15 @@ use crate::{call, name, operator, source};
 use sql_dialect::Dialect;
 use sql_expr::{Expr, InValues, JoinRhs, OrderItem, Source, Statement, count_star};
 use sql_schema::{NoMemory, Schema};
-use sql_syntax::{Call, Membership, Query, QueryStart};
-use std::alloc::Global;
+use sql_syntax::{Call, Membership, Query, QueryStart, is_too_deep};
+use std::alloc::{AllocError, Global};
 
 /// The statement that the query stands for, its names looked up in the schema and its calls made in their order. `into_boxed`
 /// without a dialect boxes for this one. None where the query names a table or a column that the schema lacks, in a join, a
 /// subselect or a side of a combination too; and where a call does not stand on the form that the calls before it give.
+///
+/// A query that nests deeper than `MAX_DEPTH` is NoMemory: what builds, checks, writes and drops its statement recurses over it, and
+/// the stack may not suffice.
 pub fn statement(
     alloc: Global,
     schema: &Schema,
@@ -26,6 +29,9 @@ pub fn statement(
     ensures { IfOk result (λ o. option_map statement_tree o
         ≡ statement_in schema.now dialect (written.query_tree query.now)) }
 {
+    if is_too_deep(query) {
+        return Err(AllocError);
+    }
     let builder = Builder {
         alloc,
         schema,

@@ -1,8 +1,9 @@
-//! Requests whose names, lists and nesting a careless builder would let through.
+//! Requests whose names, lists, nesting and chains of calls a careless builder would let through.
 
 use crate::run::run;
 use crate::status::Status;
 use sql_stream::{MemorySink, SureSource};
+use sql_syntax::MAX_DEPTH;
 use std::alloc::{AllocError, Global};
 use std::num::NonZeroUsize;
 use std::test::Fail;
@@ -105,7 +106,7 @@ const LINE_AFTER: &str = "\"}\n";
 fn built(alloc: Global, document: &str) -> Result<(Status, MemorySink), AllocError> {
     let words = vec![in alloc; String::from_str(alloc, "build")?]?;
     let mut source = SureSource::new(Vec::from_slice(alloc, document.as_bytes())?);
-    let mut sink = MemorySink::new(alloc, 10000, NonZeroUsize::MAX, Vec::new(alloc))?;
+    let mut sink = MemorySink::new(alloc, 100000, NonZeroUsize::MAX, Vec::new(alloc))?;
     let status = run(alloc, words.as_slice(), &mut source, &mut sink);
     Ok((status, sink))
 }
@@ -151,6 +152,33 @@ fn nested_line(alloc: Global, times: usize) -> Result<String, AllocError> {
     line.push_str(condition.as_str())?;
     line.push_str(LINE_AFTER)?;
     Ok(line)
+}
+
+/// The document of a statement with so many filters, and one more.
+fn filtered(alloc: Global, times: usize) -> Result<String, AllocError> {
+    let mut document = String::from_str(alloc, BEFORE)?;
+    for _ in 0..times {
+        document.push_str(CONDITION)?;
+        document.push_str("],[\"filter\",")?;
+    }
+    document.push_str(CONDITION)?;
+    document.push_str(AFTER)?;
+    Ok(document)
+}
+
+#[test]
+fn chains_end(rt: HostRuntime) -> Result<(), Fail> {
+    let alloc = rt.alloc();
+    // A filter is a level of the statement; the query, a comparison and its sides are three.
+    let deepest = filtered(alloc, MAX_DEPTH - 4)?;
+    let (status, sink) = built(alloc, deepest.as_str())?;
+    assert_eq!(rt; status, Status::Done);
+    assert!(rt; !sink.bytes().is_empty());
+    let deeper = filtered(alloc, MAX_DEPTH - 3)?;
+    let (status, sink) = built(alloc, deeper.as_str())?;
+    assert_eq!(rt; status, Status::NoMemory);
+    assert!(rt; sink.bytes().is_empty());
+    Ok(())
 }
 
 #[test]

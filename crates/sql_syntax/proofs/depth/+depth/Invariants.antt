@@ -1,0 +1,27 @@
+use Rattle.std.proofs.Common.{◌≡◌, drop, map, max}
+use Rattle.sql_syntax.specs.Depth.{calls_depth, exprs_depth, items_depth, key_depth}
+use Rattle.sql_syntax.specs.View.{call_tree, calls_of, expr_tree, exprs_of, items_of, order_item_tree}
+use Rattle.sql_syntax.specs.inside.Capped.{capped}
+use Rattle.sql_syntax.proofs.depth.+depth.Given as goal
+
+abbrev pub invariant-calls_depth-loop-call : goal.invariant-calls_depth-loop-call
+invariant-calls_depth-loop-call l =
+    (capped (calls_depth (calls_of (map call_tree (drop l.call-index l.calls))) l.depth)
+    ≡ capped (calls_depth (calls_of (map call_tree l.calls)) l.fn.before))
+    × (capped l.depth ≡ l.depth)
+
+abbrev pub invariant-key_depth-loop-expr : goal.invariant-key_depth-loop-expr
+invariant-key_depth-loop-expr l =
+    (capped (key_depth (exprs_of (map expr_tree (drop l.expr-index l.key))) l.depth)
+    ≡ capped (key_depth (exprs_of (map expr_tree l.key)) l.fn.before))
+    × (capped l.depth ≡ l.depth)
+
+abbrev pub invariant-exprs_depth-loop-expr : goal.invariant-exprs_depth-loop-expr
+invariant-exprs_depth-loop-expr l =
+    max l.depth (capped (exprs_depth (exprs_of (map expr_tree (drop l.expr-index l.exprs)))))
+    ≡ capped (exprs_depth (exprs_of (map expr_tree l.exprs)))
+
+abbrev pub invariant-items_depth-loop-item : goal.invariant-items_depth-loop-item
+invariant-items_depth-loop-item l =
+    max l.depth (capped (items_depth (items_of (map order_item_tree (drop l.item-index l.items)))))
+    ≡ capped (items_depth (items_of (map order_item_tree l.items)))
