@@ -8,18 +8,19 @@ ghost use Rattle.sql_build.specs.Made.{form_of};
 ghost use Rattle.sql_build.specs.Named.{both, only_where};
 
 use crate::{call, name, operator, source};
+use sql_depth::is_too_deep;
 use sql_dialect::Dialect;
 use sql_expr::{Expr, InValues, JoinRhs, OrderItem, Source, Statement, count_star};
 use sql_schema::{NoMemory, Schema};
-use sql_syntax::{Call, Membership, Query, QueryStart, is_too_deep};
+use sql_syntax::{Call, Membership, Query, QueryStart};
 use std::alloc::{AllocError, Global};
 
 /// The statement that the query stands for, its names looked up in the schema and its calls made in their order. `into_boxed`
 /// without a dialect boxes for this one. None where the query names a table or a column that the schema lacks, in a join, a
 /// subselect or a side of a combination too; and where a call does not stand on the form that the calls before it give.
 ///
-/// A query that nests deeper than `MAX_DEPTH` is NoMemory: what builds, checks, writes and drops its statement recurses over it, and
-/// the stack may not suffice.
+/// A query that nests deeper than `MAX_DEPTH` of `sql_depth` is NoMemory: what builds, checks, writes and drops its statement recurses
+/// over it, and the stack may not suffice.
 pub fn statement(
     alloc: Global,
     schema: &Schema,

@@ -2,7 +2,6 @@
 #![tactic(auto)]
 
 mod call;
-mod depth;
 mod expr;
 mod form;
 mod name;
@@ -11,7 +10,6 @@ mod query;
 mod source;
 
 pub use call::{Call, ClauseCall, PlainCall};
-pub use depth::{MAX_DEPTH, is_too_deep};
 pub use expr::{BinaryOperator, Expr, Membership, Quantified, UnaryOperator};
 pub use form::{Form, all_stand};
 pub use name::{AliasName, ColumnName, FieldName, TableName};

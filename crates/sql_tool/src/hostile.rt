@@ -2,8 +2,8 @@
 
 use crate::run::run;
 use crate::status::Status;
+use sql_depth::MAX_DEPTH;
 use sql_stream::{MemorySink, SureSource};
-use sql_syntax::MAX_DEPTH;
 use std::alloc::{AllocError, Global};
 use std::num::NonZeroUsize;
 use std::test::Fail;

@@ -1,12 +1,10 @@
-#![tactic(auto)]
-
 ghost use Rattle.std.specs.Prelude.{◌≡◌, ◌<◌, ◌↔◌, IsTrue, map, option_map};
-ghost use Rattle.sql_syntax.specs.Depth as deep;
+ghost use Rattle.sql_depth.specs.Depth as deep;
 ghost use Rattle.sql_syntax.specs.View.{call_tree, calls_of, expr_tree, exprs_of, items_of, join_tree, maybe_of, membership_tree, order_item_tree, query_start_tree, query_tree, source_tree};
-ghost use Rattle.sql_syntax.specs.declared.depth.TheConstants.{MAX_DEPTH};
-ghost use Rattle.sql_syntax.specs.inside.Capped.{capped};
+ghost use Rattle.sql_depth.specs.declared.depth.TheConstants.{MAX_DEPTH};
+ghost use Rattle.sql_depth.specs.inside.Capped.{capped};
 
-use crate::{
+use sql_syntax::{
     Call, ClauseCall, Expr, Join, Membership, OrderItem, PlainCall, Query, QueryStart, Source,
 };
 
@@ -21,7 +19,7 @@ pub fn is_too_deep(query: &Query) -> bool
 }
 
 #[cycle(depth)]
-#[tactic(auto, using(crate::proofs::Trees::opens_query, crate::proofs::Depths::query_capped))]
+#[tactic(auto, using(sql_syntax::proofs::Trees::opens_query, crate::proofs::Depths::query_capped))]
 fn query_depth(query: &Query) -> usize
     ensures { result ≡ capped (deep.query_depth (query_tree query.now)) }
 {
@@ -30,7 +28,7 @@ fn query_depth(query: &Query) -> usize
 }
 
 #[cycle(depth)]
-#[tactic(auto, using(crate::proofs::Trees::opens_query_start))]
+#[tactic(auto, using(sql_syntax::proofs::Trees::opens_query_start))]
 fn start_depth(start: &QueryStart) -> usize
     ensures { result ≡ capped (deep.start_depth (query_start_tree start.now)) }
 {
@@ -53,7 +51,7 @@ fn calls_depth(calls: &[Call], before: usize) -> usize
 }
 
 #[cycle(depth)]
-#[tactic(auto, using(crate::proofs::Trees::opens_call))]
+#[tactic(auto, using(sql_syntax::proofs::Trees::opens_call))]
 fn call_depth(call: &Call, before: usize) -> usize
     ensures { result ≡ capped (deep.call_depth (call_tree call.now) before) }
 {
@@ -116,7 +114,7 @@ fn key_depth(key: &[Expr], before: usize) -> usize
 }
 
 #[cycle(depth)]
-#[tactic(auto, using(crate::proofs::Trees::opens_expr))]
+#[tactic(auto, using(sql_syntax::proofs::Trees::opens_expr))]
 fn expr_depth(expr: &Expr) -> usize
     ensures { result ≡ capped (deep.expr_depth (expr_tree expr.now)) }
 {
@@ -157,7 +155,7 @@ fn maybe_depth(expr: &Option<Expr>) -> usize
 }
 
 #[cycle(depth)]
-#[tactic(auto, using(crate::proofs::Trees::opens_membership))]
+#[tactic(auto, using(sql_syntax::proofs::Trees::opens_membership))]
 fn membership_depth(among: &Membership) -> usize
     ensures { result ≡ capped (deep.membership_depth (membership_tree among.now)) }
 {
@@ -168,7 +166,7 @@ fn membership_depth(among: &Membership) -> usize
 }
 
 #[cycle(depth)]
-#[tactic(auto, using(crate::proofs::Trees::opens_order_item))]
+#[tactic(auto, using(sql_syntax::proofs::Trees::opens_order_item))]
 fn items_depth(items: &[OrderItem]) -> usize
     ensures { result ≡ capped (deep.items_depth (items_of (map order_item_tree items.now))) }
 {
@@ -180,7 +178,7 @@ fn items_depth(items: &[OrderItem]) -> usize
 }
 
 #[cycle(depth)]
-#[tactic(auto, using(crate::proofs::Trees::opens_source))]
+#[tactic(auto, using(sql_syntax::proofs::Trees::opens_source))]
 fn source_depth(source: &Source) -> usize
     ensures { result ≡ capped (deep.source_depth (source_tree source.now)) }
 {
@@ -192,7 +190,7 @@ fn source_depth(source: &Source) -> usize
 }
 
 #[cycle(depth)]
-#[tactic(auto, using(crate::proofs::Trees::opens_join))]
+#[tactic(auto, using(sql_syntax::proofs::Trees::opens_join))]
 fn join_depth(join: &Join) -> usize
     ensures { result ≡ capped (deep.source_depth (join_tree join.now)) }
 {

@@ -1,7 +1,7 @@
 -- Depths as 64 bits hold them: of a call and of all that follows it matters only how its depth before is held.
 use Rattle.std.proofs.Common.{◌≡◌, ℕ, ◌+◌, ◌<◌, max, List, ◌∷◌, length, map, drop, get_or, sym, ap, ◌∙◌, arith}
 use Rattle.std.proofs.lemmas.List.{drop_more}
-use Rattle.sql_syntax.specs.Depth.{plain_depth, clause_depth, expr_depth, maybe_depth, source_depth, items_depth, query_depth, call_depth, calls_depth, key_depth}
+use Rattle.sql_depth.specs.Depth.{plain_depth, clause_depth, expr_depth, maybe_depth, source_depth, items_depth, query_depth, call_depth, calls_depth, key_depth}
 use Rattle.sql_syntax.specs.Tree.{Exprs, no_exprs, more_exprs, Calls, no_calls, more_calls, Call, plain, clause, join_with, find, order, then_order_by, limit, offset, into_boxed, combine, positional_order_by}
 use Rattle.sql_syntax.specs.View.{call_tree, calls_of, expr_tree, exprs_of}
 use Rattle.sql_syntax.specs.declared.call.Call as written
@@ -10,7 +10,7 @@ use Rattle.sql_syntax.specs.declared.call.ClauseCall.TheVariants as clause
 use Rattle.sql_syntax.specs.declared.call.PlainCall.{PlainCall}
 use Rattle.sql_syntax.specs.declared.call.PlainCall.TheVariants as plain
 use Rattle.sql_syntax.specs.declared.expr.Expr.{Expr}
-use Rattle.sql_syntax.specs.inside.Capped.{capped}
+use Rattle.sql_depth.specs.inside.Capped.{capped}
 
 pub capped_twice : (n : ℕ) → capped (capped n) ≡ capped n
 capped_twice n = omega arith

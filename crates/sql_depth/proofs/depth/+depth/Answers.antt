@@ -1,9 +1,9 @@
 use Rattle.std.proofs.Common.{◌≡◌, ◌+◌, max, ap, ◌∙◌, sym}
-use Rattle.sql_syntax.specs.Depth as deep
+use Rattle.sql_depth.specs.Depth as deep
 use Rattle.sql_syntax.specs.View.{call_tree, expr_tree}
-use Rattle.sql_syntax.specs.inside.Capped.{capped}
-use Rattle.sql_syntax.proofs.Depths.{capped_twice, calls_go_on, key_goes_on, step_capped}
-use Rattle.sql_syntax.proofs.depth.+depth.Goals as goal
+use Rattle.sql_depth.specs.inside.Capped.{capped}
+use Rattle.sql_depth.proofs.Depths.{capped_twice, calls_go_on, key_goes_on, step_capped}
+use Rattle.sql_depth.proofs.depth.+depth.Goals as goal
 
 pub calls_depth-loop-call-preserved : goal.calls_depth-loop-call-preserved
 calls_depth-loop-call-preserved t c = (

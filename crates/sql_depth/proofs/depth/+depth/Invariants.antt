@@ -1,8 +1,8 @@
 use Rattle.std.proofs.Common.{◌≡◌, drop, map, max}
-use Rattle.sql_syntax.specs.Depth.{calls_depth, exprs_depth, items_depth, key_depth}
+use Rattle.sql_depth.specs.Depth.{calls_depth, exprs_depth, items_depth, key_depth}
 use Rattle.sql_syntax.specs.View.{call_tree, calls_of, expr_tree, exprs_of, items_of, order_item_tree}
-use Rattle.sql_syntax.specs.inside.Capped.{capped}
-use Rattle.sql_syntax.proofs.depth.+depth.Given as goal
+use Rattle.sql_depth.specs.inside.Capped.{capped}
+use Rattle.sql_depth.proofs.depth.+depth.Given as goal
 
 abbrev pub invariant-calls_depth-loop-call : goal.invariant-calls_depth-loop-call
 invariant-calls_depth-loop-call l =

@@ -1,0 +1,6 @@
+//! How deep the statement of a query nests, and the depth beyond which the program builds none.
+#![tactic(auto)]
+
+mod depth;
+
+pub use depth::{MAX_DEPTH, is_too_deep};
