@@ -6,7 +6,7 @@ import json
 import sys
 
 KINDS = ["Integer", "Text", "BigInt", "Bool"]
-# A statement nests at most so deep (`MAX_DEPTH` of `sql_syntax`).
+# A statement nests at most so deep (`MAX_DEPTH` of `sql_depth`).
 MAX_DEPTH = 1000
 # PostgreSQL allows a table so many columns.
 MAX_COLUMNS = 1600

@@ -95,7 +95,7 @@ deep() {
 cat >"$work/line" <<'TXT'
 {"binds":[],"columns":["Integer"],"id":1,"safe":true,"sql":"SELECT \"foo\".\"id\" FROM \"foo\""}
 TXT
-# MAX_DEPTH (sql_syntax) bounds what nests: out of memory, after the line of the request before, and never a signal.
+# MAX_DEPTH (sql_depth) bounds what nests: out of memory, after the line of the request before, and never a signal.
 beyond() { ended 6 NoMemory && cmp "$work/out" "$work/line"; }
 # As many as nest within the bound are answered, also where the stack is half of what systems give.
 within() { ended 0 '' && [ "$(wc -l <"$work/out")" = 2 ] && ! grep -q refused "$work/out"; }
