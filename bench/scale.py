@@ -13,7 +13,6 @@ import signal
 import subprocess
 import sys
 import tempfile
-import time
 
 import documents
 
@@ -25,26 +24,20 @@ HEAD = "| direction | count | bytes | seconds | exponent | peak, MB | parsing, M
 
 def run(program, path, most):
     """How a run ends, its seconds, its peak memory in MB, its output."""
-    with open(path, "rb") as source, tempfile.TemporaryFile() as sink:
-        child = subprocess.Popen([program, "build"], stdin=source, stdout=sink, stderr=subprocess.DEVNULL)
-        began = time.monotonic()
-        ended = 0
-        while not ended:
-            ended, status, usage = os.wait4(child.pid, os.WNOHANG)
-            if not ended:
-                if time.monotonic() - began > most:
-                    child.kill()
-                time.sleep(0.005)
-        child.returncode = status
+    with open(path, "rb") as source, tempfile.TemporaryFile() as sink, tempfile.NamedTemporaryFile("r") as times:
+        # (a child's peak is at least that of the process that starts it, so this one does not start the program itself)
+        words = ["/usr/bin/time", "-f", "%U %S %M", "-o", times.name, "timeout", str(most), program, "build"]
+        code = subprocess.run(words, stdin=source, stdout=sink, stderr=subprocess.DEVNULL, check=False).returncode
+        user, system, kilobytes = times.read().split("\n")[-2].split()
         sink.seek(0)
         text = sink.read()
-    if os.WIFSIGNALED(status):
-        number = os.WTERMSIG(status)
-        end = f"over {most} s" if number == signal.SIGKILL else f"KILLED by {signal.Signals(number).name}"
+    if code > 128:
+        end = f"KILLED by {signal.Signals(code - 128).name}"
+    elif code == 124:
+        end = f"over {most} s"
     else:
-        code = os.WEXITSTATUS(status)
         end = STATUSES.get(code, f"status {code}")
-    return end, usage.ru_utime + usage.ru_stime, usage.ru_maxrss // 1024, text
+    return end, float(user) + float(system), int(kilobytes) // 1024, text
 
 
 def written(direction, size, most):
@@ -152,7 +145,7 @@ def main():
     if given.stack:
         measure_stack(given.program, given.directions or documents.NESTING)
         return
-    print(HEAD)
+    print(HEAD, flush=True)
     failed = False
     for direction in given.directions or documents.DIRECTIONS:
         for end, seconds in measure(given.program, direction, given.least, given.most, given.seconds):
