@@ -14,15 +14,16 @@ use crate::known::{RequestKey, id};
 use crate::object::{accepted, refused};
 use serde_json::Value as Json;
 use sql_build::statement;
-use sql_check::{Built, CompileError, Rule, compile};
+use sql_check::{Built, CompileError, Rule};
 use sql_dialect::{Bracket, Dialect, Mysql, Pg, Sqlite};
 use sql_document::Request;
 use sql_node::Statement;
+use sql_rows::compile_sound;
 use sql_schema::Schema;
 use std::alloc::{AllocError, Global};
 use std::collections::BTreeMap;
 
-/// `compile` for a dialect of the product.
+/// `compile_sound` for a dialect of the product.
 fn compile_for(
     alloc: Global,
     dialect: Dialect,
@@ -36,10 +37,10 @@ fn compile_for(
         → IsLeast r schema.now dialect (statement_tree statement.now)) }
 {
     match dialect {
-        Dialect::Pg => compile(alloc, &Pg, schema, statement),
-        Dialect::Mysql => compile(alloc, &Mysql, schema, statement),
-        Dialect::Sqlite => compile(alloc, &Sqlite, schema, statement),
-        Dialect::Bracket => compile(alloc, &Bracket, schema, statement),
+        Dialect::Pg => compile_sound(alloc, &Pg, schema, statement),
+        Dialect::Mysql => compile_sound(alloc, &Mysql, schema, statement),
+        Dialect::Sqlite => compile_sound(alloc, &Sqlite, schema, statement),
+        Dialect::Bracket => compile_sound(alloc, &Bracket, schema, statement),
     }
 }
 
