@@ -9,6 +9,7 @@ use sql_fixture::{INTEGER, beside, is, schema};
 use sql_judge::first_broken;
 use sql_key::{QueryId, QueryKey, expression_key};
 use sql_places::{Form, Inner, clauses, nodes, own_view, parts, widest_view};
+use sql_rows::compile_sound;
 use sql_schema::Schema;
 use sql_select::{Query, QueryDsl};
 use sql_types::{columns, has_too_many_binds, type_of};
@@ -22,7 +23,8 @@ fn every_call_once(rt: HostRuntime) -> Result<(), Fail> {
     views(alloc)?;
     places(alloc)?;
     types(alloc)?;
-    verdicts(alloc)
+    verdicts(alloc)?;
+    sound_types(alloc)
 }
 
 fn key(alloc: Global) -> Result<Option<QueryKey>, Fail> {
@@ -120,6 +122,22 @@ fn verdicts(alloc: Global) -> Result<(), Fail> {
     let schema = schema(alloc)?;
     let ids = ids(alloc)?.into_statement();
     let found = verdicts_of(alloc, &schema, &ids);
+    drop(ids);
+    found
+}
+
+fn sound_types_of(alloc: Global, schema: &Schema, statement: &Statement) -> Result<(), Fail> {
+    let built = compile_sound(alloc, &Pg, schema, statement)?;
+    is(
+        built.sql_types.as_slice() == [INTEGER].as_slice(),
+        "types that are right for NULL",
+    )
+}
+
+fn sound_types(alloc: Global) -> Result<(), Fail> {
+    let schema = schema(alloc)?;
+    let ids = ids(alloc)?.into_statement();
+    let found = sound_types_of(alloc, &schema, &ids);
     drop(ids);
     found
 }
