@@ -86,3 +86,9 @@ pub use Rattle.sql_check.specs.Compiled
 pub use Rattle.sql_check.specs.Errors
 pub use Rattle.sql_check.specs.declared.built.Built
 pub use Rattle.sql_check.specs.declared.error.CompileError
+-- What statements answer.
+pub use Rattle.sql_meaning.specs.Answers
+pub use Rattle.sql_meaning.specs.Fitting
+pub use Rattle.sql_meaning.specs.Frames
+pub use Rattle.sql_meaning.specs.Rows
+pub use Rattle.sql_meaning.specs.Values

@@ -73,6 +73,12 @@ pub use sql_check::{
     Built, CompileError, RULES, Rule, boxing_takes_the_id_alone, broken, compile, values_fit,
 };
 
+// `compile` with column types that are right for NULL, and what statements answer.
+pub use sql_rows::{
+    compile_sound, first_is_any, last_writer_is_an_answer, left_join_has_two_answers,
+    needs_nullable_is_needed, operators_work, the_example_is_accepted, types_are_sound,
+};
+
 // The laws: what holds of a statement that breaks no rule, of statements of one shape, and of the grammar.
 pub use sql_grammar::{joined_texts, one_reading, quoted_name, token_rules, written};
 pub use sql_law::{
