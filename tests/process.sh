@@ -107,6 +107,7 @@ while read -r most many call; do
     run build <"$work/deep"
     check "one call $call too many" beyond
     deep "$most" "$call" >"$work/deep"
+    # shellcheck disable=SC3045
     (ulimit -s 4096 && run build <"$work/deep" && exit "$got")
     got=$?
     check "$most calls $call" within
