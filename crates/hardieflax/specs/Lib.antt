@@ -88,7 +88,7 @@ pub use Rattle.sql_check.specs.declared.built.Built
 pub use Rattle.sql_check.specs.declared.error.CompileError
 -- What statements answer.
 pub use Rattle.sql_meaning.specs.Answers
-pub use Rattle.sql_meaning.specs.Fitting
+pub use Rattle.sql_meaning.specs.Fitting as AnswerFitting
 pub use Rattle.sql_meaning.specs.Frames
 pub use Rattle.sql_meaning.specs.Rows
 pub use Rattle.sql_meaning.specs.Values
