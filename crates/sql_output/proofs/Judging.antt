@@ -3,6 +3,7 @@ use Rattle.std.proofs.Common.{◌≡◌, ◌∙◌, ℕ, List, [], ◌∷◌, Op
 use Rattle.std.specs.Option.{option_or}
 use Rattle.serde_json.specs.Data.{Data}
 use Rattle.sql_schema.specs.Declarations.{Declarations}
+use Rattle.sql_dialect.specs.declared.backend.Dialect.{Dialect}
 use Rattle.sql_node.specs.Tree.{Statement}
 use Rattle.sql_rules.specs.Texts.{rule_text}
 use Rattle.sql_rules.specs.declared.rule.Rule.{Rule}
@@ -10,7 +11,7 @@ use Rattle.sql_rules.specs.declared.rule.Rule.TheVariants.{UnknownName}
 use Rattle.sql_check.specs.Compiled.{IsBuilt, IsLeast, IsRead, binds_of}
 use Rattle.sql_check.specs.declared.built.Built.{Built}
 use Rattle.sql_output.specs.Objects.{line_object, refused, statement_data}
-use Rattle.sql_output.specs.Judgement.{Judges, refuses, accepts}
+use Rattle.sql_output.specs.Judgement.{IsAccepted, Judges, refuses, accepts}
 use Rattle.sql_output.specs.Output.{Line, StatementRequest}
 use Rattle.sql_output.specs.declared.known.RequestKey.{RequestKey}
 use Rattle.sql_output.specs.inside.Keys.{keyed, id_found, IsKept, HasLine}
@@ -18,6 +19,21 @@ use Rattle.sql_output.specs.inside.Keys.{keyed, id_found, IsKept, HasLine}
 option_or-none : (o : Option ℕ) → o ≡ option_or o None
 option_or-none None = refl
 option_or-none (Some x) = refl
+
+-- without a key a look-up stays as it is
+pub kept-none : (f : RequestKey → Option ℕ) (n : ℕ) → IsKept f f n None
+kept-none f n q = option_or-none (f q)
+
+pub is-accepted : (schema : Declarations) (d : Dialect) (s : Statement) (b : Built) → IsBuilt schema d s b
+    → IsRead d s b.sql b.binds → IsAccepted schema d s b.sql_types
+is-accepted schema d s b built read =
+    record {
+      accepted = built.accepted;
+      types = built.sql_types;
+      read =
+          subst (λ t. IsRead d s t (binds_of d s)) built.sql
+          (subst (IsRead d s b.sql) built.binds read);
+    }
 
 module _ (schema : Declarations) (r : StatementRequest) (n : ℕ) (f : RequestKey → Option ℕ) where
   abbrev IsObject : Data → Line → Type 0
@@ -29,7 +45,7 @@ module _ (schema : Declarations) (r : StatementRequest) (n : ℕ) (f : RequestKe
     refuses (rule_text UnknownName),
     subst (λ o. Judges schema r.dialect o (refuses (rule_text UnknownName))) none refl,
     is,
-    λ q. option_or-none (f q),
+    kept-none f n,
   )
 
   pub refused-line : (s : Statement) (rule : Rule) (v : Data) → Some s ≡ r.statement
@@ -38,7 +54,7 @@ module _ (schema : Declarations) (r : StatementRequest) (n : ℕ) (f : RequestKe
     refuses (rule_text rule),
     subst (λ o. Judges schema r.dialect o (refuses (rule_text rule))) some (rule, least, refl),
     is,
-    λ q. option_or-none (f q),
+    kept-none f n,
   )
 
   pub accepted-line : (s : Statement) (b : Built) (g : RequestKey → Option ℕ) (v : Data) → Some s ≡ r.statement
@@ -52,13 +68,7 @@ module _ (schema : Declarations) (r : StatementRequest) (n : ℕ) (f : RequestKe
         accepts s ts,
         subst (λ o. Judges schema d o (accepts s ts)) some (
           refl,
-          record {
-            accepted = built.accepted;
-            types = built.sql_types;
-            read =
-                subst (λ t. IsRead d s t (binds_of d s)) built.sql
-                (subst (IsRead d s b.sql) built.binds read);
-          },
+          is-accepted schema d s b built read,
         ),
         is ∙ (λ i. statement_data (built.binds i) ts (id_found f n (option_map (keyed d) (built.id i))) (built.safe i) (built.sql i)),
         subst (λ k. IsKept f g n (option_map (keyed d) k)) built.id kept,

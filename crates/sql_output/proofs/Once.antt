@@ -102,7 +102,8 @@ prefix-of-output d prefix whole (rs, later, cut, (ls, lines, (more, is))) (all, 
           ∙ append_assoc prefix more (lines_text rest),
     )
 
-same-lines : (schema : Declarations) (earlier : List (Option RequestShape)) (rs : List StatementRequest)
+-- requests have at most one list of lines
+pub same-lines : (schema : Declarations) (earlier : List (Option RequestShape)) (rs : List StatementRequest)
     (ls ks : List Line)
     → AreLines schema earlier rs ls → AreLines schema earlier rs ks → ls ≡ ks
 same-lines schema earlier [] [] [] first second = refl

@@ -34,7 +34,7 @@ fn id_of_key(
 
 /// The number of the first request that has this key, where `number` is this request's own. A new key is added to the map. A
 /// statement without a key has no id.
-pub fn id(
+pub fn request_id(
     seen: &mut BTreeMap<RequestKey, u64>,
     dialect: Dialect,
     key: Option<QueryKey>,

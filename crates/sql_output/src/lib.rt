@@ -5,5 +5,5 @@ mod known;
 mod line;
 mod object;
 
-pub use known::RequestKey;
-pub use line::request_line;
+pub use known::{RequestKey, request_id};
+pub use line::{compile_for, request_line};

@@ -10,7 +10,7 @@ ghost use Rattle.sql_output.specs.Objects.{line_object, refused as refused_data,
 ghost use Rattle.sql_output.specs.Output.{line_text, statement_request};
 ghost use Rattle.sql_output.specs.inside.Keys.{keyed, id_found, seen_at, IsKept, HasLine};
 
-use crate::known::{RequestKey, id};
+use crate::known::{RequestKey, request_id};
 use crate::object::{accepted, refused};
 use serde_json::Value as Json;
 use sql_build::statement;
@@ -23,8 +23,8 @@ use sql_schema::Schema;
 use std::alloc::{AllocError, Global};
 use std::collections::BTreeMap;
 
-/// `compile_sound` for a dialect of the product.
-fn compile_for(
+/// `compile_sound` for a dialect that is known when the program runs.
+pub fn compile_for(
     alloc: Global,
     dialect: Dialect,
     schema: &Schema,
@@ -66,7 +66,7 @@ fn accept(
         safe,
         id: key,
     } = built;
-    let id = id(seen, dialect, key, number)?;
+    let id = request_id(seen, dialect, key, number)?;
     accepted(
         alloc,
         binds.as_slice(),
