@@ -1,5 +1,5 @@
 -- Tests for ends of paths, and for leaves that may not stand beside each other, decide what they test.
-use Rattle.std.proofs.Common.{◌≡◌, ℕ, Bool, true, false, not, ◌&&◌, ◌||◌, List, [], ◌∷◌, ◌++◌, Option, Some, None, refl, sym, ap, ◌∙◌, subst}
+use Rattle.std.proofs.Common.{◌≡◌, ℕ, Bool, true, false, not, ◌&&◌, ◌||◌, List, [], ◌∷◌, ◌++◌, Option, Some, None, refl, sym, ap, ◌∙◌, subst, inl, inr}
 use Rattle.std.specs.Bool.{Decides}
 use Rattle.std.specs.Str.{bytes_eq}
 use Rattle.std.proofs.lemmas.Bool.{true≢false, false≢true}
@@ -14,6 +14,7 @@ use Rattle.sql_schema.specs.Declarations.{Declarations}
 use Rattle.sql_schema.specs.Together.{may_stand_together}
 use Rattle.sql_rules.specs.Rules.{Clash, MayNotMeet}
 use Rattle.sql_judge.specs.Ends.{path_ends, front_under, last_under, leaf_ends, leaves_clash, tables_part}
+use Rattle.sql_judge.specs.Tables.{last_alike}
 
 last_of_one : {X : Type 0} (x y : X) (front : List X) → y ∷ [] ≡ front ++ x ∷ [] → x ≡ y
 last_of_one x y [] e = cc
@@ -91,3 +92,28 @@ apart-decides s a b =
     Decides-and (not (same_table a.table b.table)) (not (may_stand_together s.together a.table b.table))
     (Decides-not (same_table a.table b.table) (table-decides a.table b.table))
     (refused (may_stand_together s.together a.table b.table))
+
+-- ---- the last names of leaves that clash are one
+
+end-last : (f : Option (List ℕ)) (x : List ℕ) (g : Option (List ℕ)) (y : List ℕ) → path_ends f x g y ≡ true
+    → bytes_eq x y ≡ true
+end-last None x g y h = h
+end-last (Some s) x None y h = absurd (false≢true h)
+end-last (Some s) x (Some t) y h = (and_parts (bytes_eq s t) (bytes_eq x y) h).1
+
+last-of : (a b : Origin) → leaf_ends a b ≡ true → last_alike a b ≡ true
+last-of a b =
+    end-last (front_under a.alias a.table) (last_under a.alias a.table) (front_under b.alias b.table)
+    (last_under b.alias b.table)
+
+last-back : (a b : Origin) → last_alike b a ≡ true → last_alike a b ≡ true
+last-back a b h =
+    (bytes_eq-Decides (last_under a.alias a.table) (last_under b.alias b.table)).1
+    (sym ((bytes_eq-Decides (last_under b.alias b.table) (last_under a.alias a.table)).0 h))
+
+pub clash-last : (a b : Origin) → Clash a b → last_alike a b ≡ true
+clash-last a b h =
+    elim h.1 [
+      | inl p ↦ last-of a b ((leaf-ends a b).1 p)
+      | inr p ↦ last-back a b (last-of b a ((leaf-ends b a).1 p))
+    ]

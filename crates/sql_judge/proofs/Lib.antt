@@ -1,11 +1,16 @@
+pub mod Alike
 pub mod Answered
 pub mod Breaking
 pub mod Clashes
+pub mod Declared
 pub mod Differing
+pub mod Fielded
 pub mod Firsts
 pub mod Flats
 pub mod Groups
 pub mod Keyed
+pub mod Meetings
 pub mod Paddings
+pub mod Scoped
 pub mod Sides
 pub mod Selections

@@ -1,6 +1,9 @@
 -- What the tests of rules look at, gathered once for each statement inside a statement.
 use Rattle.std.specs.Prelude.{◌≡◌, map}
+use Rattle.std.specs.Bool.{Decides}
+use Rattle.sql_schema.specs.Declarations.{Declarations}
 use Rattle.sql_source.specs.Lent.{origin_of}
+use Rattle.sql_rules.specs.Rules.{HasUnknownName}
 use Rattle.sql_rules.specs.Scope as scope
 use Rattle.sql_rules.specs.Scope.{a_select, a_combination}
 use Rattle.sql_places.specs.Claused.{clause_of}
@@ -25,6 +28,7 @@ abbrev pub viewed_part : Viewed → scope.Part
 viewed_part (L.Select s) = a_select (viewed_outer s) (viewed_select s)
 viewed_part (L.Combination c) = a_combination (combined_of c)
 
-abbrev pub IsViewed : Viewed → Type 0
-IsViewed (L.Select s) = IsWhole s
-IsViewed (L.Combination c) = Unit {0}
+-- and whether the schema lacks one of its names
+abbrev pub IsViewed : Declarations → Viewed → Type 0
+IsViewed schema (L.Select s) = IsWhole s × Decides s.unknown (HasUnknownName schema (viewed_outer s) (viewed_select s))
+IsViewed schema (L.Combination c) = Unit {0}

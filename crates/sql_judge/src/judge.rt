@@ -6,7 +6,7 @@ ghost use Rattle.std.specs.Bool.{Decides};
 ghost use Rattle.sql_node.specs.View.{statement_tree};
 ghost use Rattle.sql_rules.specs.Counted.{PlacesAreCounted};
 ghost use Rattle.sql_rules.specs.Lists.{AnyOf, Each, Selects};
-ghost use Rattle.sql_rules.specs.Rules.{AnyClause, AnyTwoLeaves, Broken, CombinationBreaks, CountsAggregate, HasUnknownName, IsEmptyList, IsEmptyOrder, IsIllTypedClause, IsMisgrouped, LacksNullable, PartBreaks, SelectBreaks, all_rules};
+ghost use Rattle.sql_rules.specs.Rules.{AnyClause, AnyTwoLeaves, Broken, Clash, CombinationBreaks, CountsAggregate, HasUnknownName, IsEmptyList, IsEmptyOrder, IsIllTypedClause, IsMisgrouped, IsOutOfScope, LacksNullable, MayNotMeet, PartBreaks, SelectBreaks, all_rules};
 ghost use Rattle.sql_rules.specs.Scope.{AnyExpr, parts as parts_in};
 ghost use Rattle.sql_rules.specs.Types.{columns as columns_of};
 ghost use Rattle.sql_places.specs.Borrowed.{combined_of};
@@ -15,13 +15,13 @@ ghost use Rattle.sql_judge.specs.Viewed.{IsViewed, IsWhole, viewed_part, viewed_
 
 use crate::grouping::{Counted, is_misgrouped};
 use crate::incompatible::is_incompatible;
-use crate::leaves::{Ambiguous, NameClash, NotTogether};
+use crate::leaves::{any_ambiguous, any_apart, any_clash};
 use crate::lists::{EmptyClause, has_no_positions, is_empty_order};
-use crate::names::{OutOfScope, UnknownColumn, any_unknown};
+use crate::names::{OutOfScope, Unseen, any_unknown, names_differ};
 use crate::nullable::BarePadded;
 use crate::order::order_differs;
 use crate::relation::from_lacks_on;
-use crate::test::{ClauseTest, InNodes, PairTest, any_clause, any_pair};
+use crate::test::{ClauseTest, InNodes, any_clause};
 use crate::typing::IllTyped;
 use crate::unsupported::{combination_unsupported, select_unsupported};
 use crate::viewed::{Viewed, ViewedSelect, view_each};
@@ -33,26 +33,32 @@ use sql_schema::{NoMemory, Schema};
 use sql_types::{columns, has_too_many_binds};
 use std::alloc::Global;
 
-fn any_two<T: PairTest>(test: &T, viewed: &ViewedSelect<'_>) -> bool
+fn is_ambiguous(alloc: Global, viewed: &ViewedSelect<'_>) -> Result<bool, NoMemory>
     requires { IsWhole viewed.now }
-    ensures { Decides result
-        (AnyTwoLeaves (T.holds test.now) (viewed_outer viewed.now) (viewed_select viewed.now)) }
+    ensures { IfOk result (λ b. Decides b
+        (AnyTwoLeaves (λ a b. a ≡ b) (viewed_outer viewed.now) (viewed_select viewed.now))) }
 {
-    any_pair(test, viewed.widest.as_slice())
+    any_ambiguous(alloc, viewed.widest.as_slice())
 }
 
-fn has_unknown_name(
+fn is_not_together(
     alloc: Global,
     schema: &Schema,
     viewed: &ViewedSelect<'_>,
 ) -> Result<bool, NoMemory>
     requires { IsWhole viewed.now }
     ensures { IfOk result (λ b. Decides b
-        (HasUnknownName schema.now (viewed_outer viewed.now) (viewed_select viewed.now))) }
+        (AnyTwoLeaves (MayNotMeet schema.now) (viewed_outer viewed.now) (viewed_select viewed.now))) }
 {
-    let column = any_in(&InNodes(UnknownColumn { schema }), alloc, viewed)?;
-    let table = any_unknown(schema, viewed.own.as_slice());
-    Ok(table || column)
+    any_apart(alloc, schema, viewed.widest.as_slice())
+}
+
+fn has_name_clash(alloc: Global, viewed: &ViewedSelect<'_>) -> Result<bool, NoMemory>
+    requires { IsWhole viewed.now }
+    ensures { IfOk result (λ b. Decides b
+        (AnyTwoLeaves Clash (viewed_outer viewed.now) (viewed_select viewed.now))) }
+{
+    any_clash(alloc, viewed.widest.as_slice())
 }
 
 /// Whether the test holds of a clause.
@@ -66,6 +72,27 @@ fn any_in<T: ClauseTest>(
         (AnyClause (T.holds test.now) (viewed_outer viewed.now) (viewed_select viewed.now))) }
 {
     any_clause(test, alloc, viewed.clauses.as_slice())
+}
+
+/// Whether a column is out of scope. Where all tables are the schema's, names tell.
+fn is_out_of_scope(
+    alloc: Global,
+    schema: &Schema,
+    viewed: &ViewedSelect<'_>,
+) -> Result<bool, NoMemory>
+    requires whole { IsWhole viewed.now }
+    requires unknown { Decides viewed.now.unknown
+        (HasUnknownName schema.now (viewed_outer viewed.now) (viewed_select viewed.now)) }
+    ensures { IfOk result (λ b. Decides b
+        (AnyExpr IsOutOfScope (viewed_outer viewed.now) (viewed_select viewed.now))) }
+{
+    names_differ(schema);
+    let outer_unknown = any_unknown(schema, viewed.outer.as_slice());
+    if viewed.unknown || outer_unknown {
+        any_in(&InNodes(OutOfScope), alloc, viewed)
+    } else {
+        any_in(&InNodes(Unseen), alloc, viewed)
+    }
 }
 
 fn has_empty_list(alloc: Global, viewed: &ViewedSelect<'_>) -> Result<bool, NoMemory>
@@ -95,7 +122,8 @@ fn breaks_grouping(alloc: Global, viewed: &ViewedSelect<'_>) -> Result<bool, NoM
         ⊎ IsMisgrouped (viewed_select viewed.now))) }
 {
     let counted = any_in(&InNodes(Counted), alloc, viewed)?;
-    Ok(counted || is_misgrouped(viewed.select))
+    let misgrouped = is_misgrouped(alloc, viewed.select)?;
+    Ok(counted || misgrouped)
 }
 
 fn needs_nullable(alloc: Global, viewed: &ViewedSelect<'_>) -> Result<bool, NoMemory>
@@ -117,20 +145,22 @@ fn select_breaks<DB: Backend>(
     schema: &Schema,
     viewed: &ViewedSelect<'_>,
 ) -> Result<bool, NoMemory>
-    requires { IsWhole viewed.now }
+    requires whole { IsWhole viewed.now }
+    requires unknown { Decides viewed.now.unknown
+        (HasUnknownName schema.now (viewed_outer viewed.now) (viewed_select viewed.now)) }
     ensures { IfOk result (λ b. Decides b
         (SelectBreaks rule schema.now DB.speaks (viewed_outer viewed.now) (viewed_select viewed.now))) }
 {
     let select = viewed.select;
     match rule {
-        Rule::UnknownName => has_unknown_name(alloc, schema, viewed),
+        Rule::UnknownName => Ok(viewed.unknown),
         Rule::Incompatible => Ok(is_incompatible(select)),
         Rule::EmptyList => has_empty_list(alloc, viewed),
         Rule::NoRelation => Ok(from_lacks_on(select.source)),
-        Rule::Ambiguous => Ok(any_two(&Ambiguous, viewed)),
-        Rule::NotTogether => Ok(any_two(&NotTogether { schema }, viewed)),
-        Rule::NameClash => Ok(any_two(&NameClash, viewed)),
-        Rule::NotInScope => any_in(&InNodes(OutOfScope), alloc, viewed),
+        Rule::Ambiguous => is_ambiguous(alloc, viewed),
+        Rule::NotTogether => is_not_together(alloc, schema, viewed),
+        Rule::NameClash => has_name_clash(alloc, viewed),
+        Rule::NotInScope => is_out_of_scope(alloc, schema, viewed),
         Rule::TypeMismatch => has_type_mismatch(alloc, viewed),
         Rule::NeedsNullable => needs_nullable(alloc, viewed),
         Rule::Grouping => breaks_grouping(alloc, viewed),
@@ -174,7 +204,7 @@ fn part_breaks<DB: Backend>(
     schema: &Schema,
     part: &Viewed<'_>,
 ) -> Result<bool, NoMemory>
-    requires { IsViewed part.now }
+    requires { IsViewed schema.now part.now }
     ensures { IfOk result (λ b. Decides b
         (PartBreaks rule schema.now DB.speaks (viewed_part part.now))) }
 {
@@ -191,7 +221,7 @@ fn any_breaks<DB: Backend>(
     schema: &Schema,
     parts: &[Viewed<'_>],
 ) -> Result<bool, NoMemory>
-    requires { Each IsViewed parts.now }
+    requires { Each (IsViewed schema.now) parts.now }
     ensures { IfOk result (λ b. Decides b
         (AnyOf (PartBreaks rule schema.now DB.speaks) (map viewed_part parts.now))) }
 {
@@ -212,7 +242,7 @@ fn breaks<DB: Backend>(
     statement: &Statement,
     parts: &[Viewed<'_>],
 ) -> Result<bool, NoMemory>
-    requires whole { Each IsViewed parts.now }
+    requires whole { Each (IsViewed schema.now) parts.now }
     requires parts { map viewed_part parts.now ≡ parts_in [] (statement_tree statement.now) }
     ensures { IfOk result (λ b. Decides b
         (Broken rule schema.now DB.speaks (statement_tree statement.now))) }
@@ -234,7 +264,7 @@ fn broken_among<DB: Backend>(
     ensures { IfOk result (λ v. Selects
         (λ r. Broken r schema.now DB.speaks (statement_tree statement.now)) rules.now v.items) }
 {
-    let parts = view_each(alloc, parts(alloc, statement)?)?;
+    let parts = view_each(alloc, schema, parts(alloc, statement)?)?;
     let mut broken = Vec::new(alloc);
     for rule in rules {
         if breaks(alloc, *rule, backend, schema, statement, parts.as_slice())? {
@@ -266,7 +296,7 @@ fn first_among<DB: Backend>(
     statement: &Statement,
     parts: &[Viewed<'_>],
 ) -> Result<Option<Rule>, NoMemory>
-    requires whole { Each IsViewed parts.now }
+    requires whole { Each (IsViewed schema.now) parts.now }
     requires parts { map viewed_part parts.now ≡ parts_in [] (statement_tree statement.now) }
     ensures { IfOk result (λ o. IsFirst
         (λ r. Broken r schema.now DB.speaks (statement_tree statement.now)) rules.now o) }
@@ -293,7 +323,7 @@ pub fn first_broken<DB: Backend>(
 {
     let parts = parts(alloc, statement)?;
     places_are_counted(parts.as_slice());
-    let viewed = view_each(alloc, parts)?;
+    let viewed = view_each(alloc, schema, parts)?;
     first_among(
         alloc,
         &RULES[..13],

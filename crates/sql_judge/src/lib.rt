@@ -1,6 +1,7 @@
 //! Which rules a statement breaks.
 #![tactic(auto)]
 
+mod group;
 mod grouping;
 mod incompatible;
 mod judge;

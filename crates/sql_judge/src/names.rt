@@ -4,10 +4,13 @@
 ghost use Rattle.std.specs.Prelude.{◌≡◌, IfOk, map};
 ghost use Rattle.std.specs.Bool.{Decides};
 ghost use Rattle.std.specs.List.{list_any};
+ghost use Rattle.sql_schema.specs.Refusals.{any_two, tables_clash};
 ghost use Rattle.sql_source.specs.Lent.{origin_of};
 ghost use Rattle.sql_rules.specs.Lists.{AnyOf};
 ghost use Rattle.sql_rules.specs.Rules.{IsColumn, IsOutOfScope, IsSeen, IsTable, IsUnknownColumn};
 ghost use Rattle.sql_source.specs.Origins.{same_column as one_column, same_table};
+ghost use Rattle.sql_judge.specs.Tables.{named_alike};
+ghost use Rattle.sql_judge.specs.Seen.{IsUnseen};
 
 use crate::test::NodeTest;
 use sql_node::Expr;
@@ -30,17 +33,22 @@ pub(crate) fn is_one_table(one: &Table, other: &Table) -> bool
     Origin::of_table(one).is_same(Origin::of_table(other))
 }
 
-fn stands_among(table: &Table, tables: &[Table]) -> bool
-    ensures { result ≡ list_any (λ u. same_table u table.now) tables.now }
+/// The tables of a schema have different names, since no refusal holds of it.
+pub(crate) fn names_differ(schema: &Schema)
+    ensures { any_two tables_clash schema.now.tables ≡ false }
 {
-    tables.iter().any(|declared| is_one_table(declared, table))
+    let _tables = schema.tables();
 }
 
-/// Whether the schema declares the table.
+/// Whether the schema declares the table. The declared table of its name alone is compared with it.
 pub(crate) fn is_table(schema: &Schema, table: &Table) -> bool
     ensures { Decides result (IsTable schema.now table.now) }
 {
-    stands_among(table, schema.tables())
+    names_differ(schema);
+    match schema.table(table.name()) {
+        None => false,
+        Some(declared) => is_one_table(declared, table),
+    }
 }
 
 fn is_declared(column: &Column, columns: &[ColumnDecl]) -> bool
@@ -102,6 +110,36 @@ impl NodeTest for UnknownColumn<'_> {
         match expr {
             Expr::Column(column) => is_unknown(self.schema, column),
             Expr::Field(field) => is_unknown(self.schema, &field.column),
+            _ => false,
+        }
+    }
+}
+
+/// Whether both have one alias, or none, and tables of one name.
+fn are_named_alike(one: Origin<'_>, other: Origin<'_>) -> bool
+    ensures { result ≡ named_alike (origin_of one.entry) (origin_of other.entry) }
+{
+    one.alias == other.alias && one.table.name() == other.table.name()
+}
+
+/// Whether a leaf of these is named as this one.
+fn is_named(view: &[Origin<'_>], origin: Origin<'_>) -> bool
+    ensures { result ≡ list_any (λ l. named_alike (origin_of l) (origin_of origin.entry)) view.now }
+{
+    view.iter().any(|leaf| are_named_alike(*leaf, origin))
+}
+
+/// That a column is of a source of whose names its clause sees none.
+#[derive(Drop)]
+pub(crate) struct Unseen;
+
+impl NodeTest for Unseen {
+    ghost holds = { λ t v e. IsUnseen v e };
+
+    fn test(&self, view: &[Origin<'_>], expr: &Expr) -> bool {
+        match expr {
+            Expr::Column(column) => !is_named(view, Origin::of_table(column.table())),
+            Expr::Field(field) => !is_named(view, Origin::of_field(field)),
             _ => false,
         }
     }

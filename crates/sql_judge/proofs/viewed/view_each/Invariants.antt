@@ -6,6 +6,6 @@ use Rattle.sql_judge.proofs.viewed.view_each.Given as goal
 
 abbrev pub invariant-loop-part : goal.invariant-loop-part
 invariant-loop-part l = record {
-  whole : Each IsViewed l.all.items;
+  whole : Each (IsViewed l.schema) l.all.items;
   parts : map viewed_part l.all.items ≡ map part_of l.yielded;
 }
