@@ -1,8 +1,9 @@
 -- Pairs that pass a test only where a cheaper one lets them, and answers of ordered sets.
-use Rattle.std.proofs.Common.{◌≡◌, Bool, true, false, not, ◌&&◌, ◌||◌, List, [], ◌∷◌, refl, sym, ap, ◌∙◌, inl, inr}
-use Rattle.std.specs.Bool.{Decides}
+use Rattle.std.proofs.Common.{◌≡◌, ℕ, Bool, true, false, not, ◌&&◌, ◌||◌, List, [], ◌∷◌, Option, Some, None, refl, sym, ap, ◌∙◌, inl, inr}
 use Rattle.std.specs.List.{list_any}
-use Rattle.std.proofs.lemmas.Bool.{false≢true}
+use Rattle.std.specs.Option.{option_eq}
+use Rattle.std.specs.Str.{bytes_eq}
+use Rattle.std.proofs.lemmas.Cmp.{nat_list_eq_equiv}
 use Rattle.sql_schema.specs.Refusals.{any_two}
 use Rattle.sql_rules.specs.Lists.{AnyOf, AnyPair}
 
@@ -21,11 +22,6 @@ module _ {X : Type 0} (R : X → X → Type 0) (test : X → X → Bool) (passes
   two-pass (x ∷ xs) (inl h) = ap (λ b. b || any_two test xs) (one-passes x xs h)
   two-pass (x ∷ xs) (inr h) = ap (λ b. list_any (test x) xs || b) (two-pass xs h) ∙ or-true (list_any (test x) xs)
 
--- a test that decides where the cheaper one passes
-pub filtered : {P : Type 0} (a b : Bool) → (P → a ≡ true) → Decides b P → Decides (a && b) P
-filtered true b f d = d
-filtered false b f d = (λ e. absurd (false≢true e), λ p. f p)
-
 -- what a set answers as it takes a key
 pub was-known : (new known : Bool) → new ≡ not known → new ≡ false → known ≡ true
 was-known new true e f = refl
@@ -40,3 +36,7 @@ and-swapped true true = refl
 and-swapped true false = refl
 and-swapped false true = refl
 and-swapped false false = refl
+
+pub same-alias : (o : Option (List ℕ)) → option_eq bytes_eq o o ≡ true
+same-alias None = refl
+same-alias (Some a) = nat_list_eq_equiv.refl a

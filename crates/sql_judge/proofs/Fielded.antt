@@ -19,10 +19,10 @@ use Rattle.sql_node.specs.Tree.{MaybeExpr}
 use Rattle.sql_source.specs.Lent.{origin_of}
 use Rattle.sql_source.specs.Origins.{same_origin}
 use Rattle.sql_source.specs.declared.origin.Origin.{Origin}
-use Rattle.sql_source.proofs.OriginLaws.{exact-origin, same-alias, same-origin_itself}
+use Rattle.sql_source.proofs.OriginLaws.{exact-origin, same-origin_itself}
 use Rattle.sql_rules.specs.Verdicts.{Field, holds_column}
 use Rattle.sql_judge.specs.Fields.{Named, named_field, listed, is_field, has_field, Key, key_cmp, is_under, Finds}
-use Rattle.sql_judge.proofs.Alike.{and-swapped}
+use Rattle.sql_judge.proofs.Alike.{and-swapped, same-alias}
 
 or-true : (b : Bool) → (b || true) ≡ true
 or-true true = refl
@@ -162,3 +162,12 @@ held (f ∷ g) o n =
 pub told : (fs : List Named) (g : MaybeExpr) (o : t.Origin) (n : List ℕ) (b : Bool) → fs ≡ map named_field (listed g)
     → b ≡ has_field fs o n → b ≡ holds_column (listed g) o n
 told fs g o n b e h = h ∙ ap (λ x. has_field x o n) e ∙ held (listed g) o n
+
+-- a column found by its names is the column itself, or tells nothing
+pub found-told : (p o : t.Origin) (fs : List Named) (n : List ℕ) → has_field fs p n ≡ true
+    → (same_origin p o || has_field fs o n) ≡ has_field fs o n
+found-told p o fs n h = by-test (same_origin p o) refl
+  where
+    by-test : (b : Bool) → same_origin p o ≡ b → (b || has_field fs o n) ≡ has_field fs o n
+    by-test true e = sym (ap (λ q. has_field fs q n) (sym (exact-origin p o e)) ∙ h)
+    by-test false e = refl

@@ -15,7 +15,6 @@ use Rattle.sql_schema.specs.declared.declaration.TableDecl.{TableDecl}
 use Rattle.sql_schema.proofs.Exact.{exact-option}
 use Rattle.sql_schema.proofs.ExactTypes.{exact-text}
 use Rattle.sql_node.specs.Tree.{Origin, Form, unboxed, boxed, Expr, column, value, list, count_star, nullable, not_of, null_test, count, compared, joined, exists, single, among_values, among_rows, Items, no_items, more_items, MaybeExpr, no_expr, an_expr, Source, of_table, of_alias, join, From, no_source, from, Distinct, every, distinct, distinct_on, Order, no_order, order_by}
-use Rattle.sql_source.proofs.OriginLaws.{same-alias}
 use Rattle.sql_rules.specs.Lists.{AnyOf, Each}
 use Rattle.sql_rules.specs.Rules.{IsTable, IsColumn, IsUnknownColumn, HasUnknownName, IsSeen, IsOutOfScope}
 use Rattle.sql_rules.specs.Scope.{View, Select, Clause, Place, AnyExpr, clauses, clauses_by, own, widest, origins, origins_of, nodes, maybe_clause, ons, ons_of, distinct_clause, item_clauses, order_clauses}
@@ -23,6 +22,7 @@ use Rattle.sql_rules.proofs.Loops.{any_map}
 use Rattle.sql_places.proofs.Views.{origins-join}
 use Rattle.sql_judge.specs.Seen.{IsUnseen}
 use Rattle.sql_judge.specs.Tables.{named_alike}
+use Rattle.sql_judge.proofs.Alike.{same-alias}
 use Rattle.sql_judge.proofs.Declared.{one-of-name}
 
 -- ---- lists

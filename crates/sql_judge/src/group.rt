@@ -1,12 +1,14 @@
 //! The columns of a group by list, found by their names.
 #![tactic(auto, using(sql_places::proofs::Gathering::gathering, sql_node::proofs::Trees::opens_expr))]
 
-ghost use Rattle.std.specs.Prelude.{◌≡◌, IfOk, map, option_map};
+ghost use Rattle.std.specs.Prelude.{◌≡◌, ◌||◌, IfOk, map, option_map};
+ghost use Rattle.std.specs.List.{list_any};
 ghost use Rattle.sql_node.specs.View.{expr_tree, exprs_of, maybe_of};
 ghost use Rattle.sql_source.specs.Lent.{origin_of};
-ghost use Rattle.sql_rules.specs.Verdicts.{fields as fields_in, fields_of, holds_column, holds_key as holds_whole_key};
+ghost use Rattle.sql_source.specs.Origins.{same_origin};
+ghost use Rattle.sql_rules.specs.Verdicts.{fields as fields_in, fields_of};
 ghost use Rattle.sql_places.specs.Gathers.{Gathers};
-ghost use Rattle.sql_judge.specs.Fields.{Finds, field_of, has_field, is_field as is_that, listed, named_field};
+ghost use Rattle.sql_judge.specs.Fields.{Finds, field_of, is_field as is_that, listed, named_field};
 
 use sql_node::Expr;
 use sql_schema::NoMemory;
@@ -95,9 +97,19 @@ fn is_field(field: Field<'_>, origin: Origin<'_>, name: &str) -> bool
 }
 
 fn any_is(fields: &[Field<'_>], origin: Origin<'_>, name: &str) -> bool
-    ensures { result ≡ has_field (map field_of fields.now) (origin_of origin.entry) name.now }
+    ensures { result
+        ≡ list_any (λ f. is_that (origin_of origin.entry) name.now (field_of f)) fields.now }
 {
     fields.iter().any(|field| is_field(*field, origin, name))
+}
+
+/// Whether what was found by names is this, or else another of the columns is.
+fn is_found(fields: &[Field<'_>], found: Origin<'_>, origin: Origin<'_>, name: &str) -> bool
+    ensures { result
+        ≡ (same_origin (origin_of found.entry) (origin_of origin.entry)
+        || list_any (λ f. is_that (origin_of origin.entry) name.now (field_of f)) fields.now) }
+{
+    found.is_same(origin) || any_is(fields, origin, name)
 }
 
 /// A group by list, where there is one, with its columns by their names. Contracts see it as the list.
@@ -125,10 +137,8 @@ impl<'g> Model for Group<'g> {
 
 impl<'g> Group<'g> {
     ghost use Rattle.std.specs.Prelude.{◌≡◌, IfOk, option_map};
-    ghost use Rattle.std.specs.Option.{is_some};
     ghost use Rattle.sql_node.specs.View.{expr_tree, maybe_of};
     ghost use Rattle.sql_source.specs.Lent.{origin_of};
-    ghost use Rattle.sql_rules.specs.Rules.{Present};
     ghost use Rattle.sql_rules.specs.Verdicts.{holds_column};
     ghost use Rattle.sql_judge.specs.Fields.{listed};
 
@@ -152,7 +162,7 @@ impl<'g> Group<'g> {
     }
 
     /// Whether the list has the column of that name. Whole tables are compared where it has one of the same names.
-    pub(crate) fn holds(&self, origin: Origin<'_>, name: &str) -> bool
+    pub(crate) fn holds<'n>(&self, origin: Origin<'n>, name: &'n str) -> bool
         ensures { result ≡ holds_column (listed self.now) (origin_of origin.entry) name.now }
     {
         let key = ((origin.alias, origin.table.name()), name);

@@ -1,7 +1,7 @@
 //! Names that the schema lacks, and columns that their clause does not see.
 #![tactic(auto, using(sql_node::proofs::Trees::opens_expr))]
 
-ghost use Rattle.std.specs.Prelude.{◌≡◌, IfOk, map};
+ghost use Rattle.std.specs.Prelude.{◌≡◌, false, map};
 ghost use Rattle.std.specs.Bool.{Decides};
 ghost use Rattle.std.specs.List.{list_any};
 ghost use Rattle.sql_schema.specs.Refusals.{any_two, tables_clash};

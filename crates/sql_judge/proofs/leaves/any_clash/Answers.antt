@@ -10,7 +10,7 @@ use Rattle.sql_judge.proofs.leaves.any_clash.Goals as goal
 
 pub returns-else-alike : goal.returns-else-alike
 returns-else-alike c = (
-  λ e. absurd (false≢true e),
+  λ e. absurd (false≢true (sym c.if-alike.false ∙ e)),
   λ h. absurd (false≢true (sym c.if-alike.false ∙ c.in_ok-alike.ensures
       ∙ two-pass (λ x y. Clash (origin_of x) (origin_of y)) (λ a b. last_alike (origin_of a) (origin_of b))
       (λ x y p. clash-last (origin_of x) (origin_of y) p) c.args.leaves.now
