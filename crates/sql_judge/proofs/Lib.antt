@@ -4,7 +4,6 @@ pub mod Breaking
 pub mod Clashes
 pub mod Declared
 pub mod Differing
-pub mod Fielded
 pub mod Firsts
 pub mod Flats
 pub mod Groups

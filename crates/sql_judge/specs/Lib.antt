@@ -2,7 +2,6 @@
 pub mod First
 -- Devices of proofs alone: the rules are defined in `sql_rules` (`Rules`).
 pub mod Ends
-pub mod Fields
 pub mod Grouped
 pub mod Keyed
 pub mod Padded

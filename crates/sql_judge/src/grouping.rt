@@ -1,26 +1,25 @@
 //! Aggregates and groups.
 #![tactic(auto, using(sql_node::proofs::Trees::opens_expr, sql_node::proofs::Trees::opens_distinct_clause, crate::proofs::Groups::groups))]
 
-ghost use Rattle.std.specs.Prelude.{◌≡◌, IfOk, map, option_map};
+ghost use Rattle.std.specs.Prelude.{◌≡◌, ◌&&◌, IfOk, map, option_map};
 ghost use Rattle.std.specs.Bool.{Decides};
 ghost use Rattle.std.specs.List.{list_any};
 ghost use Rattle.sql_node.specs.View.{distinct_clause_tree, expr_tree, exprs_of, items_of, maybe_of, order_item_tree};
+ghost use Rattle.std.specs.Str.{bytes_eq};
 ghost use Rattle.sql_source.specs.Lent.{origin_of};
+ghost use Rattle.sql_source.specs.Origins.{same_origin};
 ghost use Rattle.sql_rules.specs.Scope.{nodes_of};
 ghost use Rattle.sql_rules.specs.Rules.{CountsAggregate, HasAggregate, IsMisgrouped, distinct_verdict as distinct_gives, items_verdict as items_give, order_verdict as order_gives};
-ghost use Rattle.sql_rules.specs.Verdicts.{column_verdict as column_gives, holds_aggregate, holds_key as holds_whole_key, is_aggregate, NoVerdict, mix as mixed, verdict as gives, verdict_of};
+ghost use Rattle.sql_rules.specs.Verdicts.{column_verdict as column_gives, fields, fields_of, holds_aggregate, holds_column, holds_key as holds_whole_key, is_aggregate, NoVerdict, mix as mixed, verdict as gives, verdict_of};
 ghost use Rattle.sql_places.specs.Borrowed.{order_of, select_of};
-ghost use Rattle.sql_judge.specs.Fields.{listed};
 ghost use Rattle.sql_judge.specs.Grouped.{count_gives, verdict_tree};
 
-use crate::group::Group;
 use crate::test::NodeTest;
 use crate::unsupported::is_unboxed;
 use sql_node::{DistinctClause, Expr, OrderItem};
 use sql_places::SelectView;
-use sql_schema::{Column, NoMemory};
+use sql_schema::Column;
 use sql_source::Origin;
-use std::alloc::Global;
 
 /// Whether an expression has a value for each row, one for each group, either, or neither.
 #[derive(Debug, Clone, Copy, PartialEq, Eq)]
@@ -84,22 +83,63 @@ fn has_aggregate(expr: &Expr) -> bool
     }
 }
 
-fn holds_key(group: &Group<'_>, origin: Origin<'_>) -> bool
-    ensures { result ≡ holds_whole_key (listed group.now) (origin_of origin.entry) }
+#[cycle(holds)]
+fn any_holds(exprs: &[Expr], origin: Origin<'_>, name: &str) -> bool
+    ensures { result
+        ≡ holds_column (fields_of (exprs_of (map expr_tree exprs.now))) (origin_of origin.entry)
+        name.now }
 {
-    let key = origin.table.primary_key();
-    key.iter().all(|name| group.holds(origin, name.as_str()))
+    for expr in exprs {
+        if holds(expr, origin, name) {
+            return true;
+        }
+    }
+    false
 }
 
-fn column_verdict(group: &Group<'_>, origin: Origin<'_>, column: &Column) -> Verdict
+/// Whether a column is the one of that name. Names are compared first: whole tables, only where they agree.
+fn is_field(of: Origin<'_>, own: &str, origin: Origin<'_>, name: &str) -> bool
+    ensures { result
+        ≡ (same_origin (origin_of of.entry) (origin_of origin.entry) && bytes_eq own.now name.now) }
+{
+    own == name && of.is_same(origin)
+}
+
+/// Whether a group by list has the column of that name.
+#[cycle(holds)]
+fn holds(group: &Expr, origin: Origin<'_>, name: &str) -> bool
+    ensures { result
+        ≡ holds_column (fields (expr_tree group.now)) (origin_of origin.entry) name.now }
+{
+    match group {
+        Expr::Column(column) => {
+            is_field(Origin::of_table(column.table()), column.name(), origin, name)
+        }
+        Expr::Field(field) => is_field(
+            Origin::of_field(field), field.column.name(), origin, name,
+        ),
+        Expr::List(exprs) => any_holds(exprs.as_slice(), origin, name),
+        Expr::Nullable(a) => holds(a, origin, name),
+        _ => false,
+    }
+}
+
+fn holds_key(group: &Expr, origin: Origin<'_>) -> bool
+    ensures { result ≡ holds_whole_key (fields (expr_tree group.now)) (origin_of origin.entry) }
+{
+    let key = origin.table.primary_key();
+    key.iter().all(|name| holds(group, origin, name.as_str()))
+}
+
+fn column_verdict(group: Option<&Expr>, origin: Origin<'_>, column: &Column) -> Verdict
     ensures { verdict_tree result
-        ≡ column_gives group.now
+        ≡ column_gives (maybe_of (option_map (λ e. expr_tree e.now) group.entry))
         (origin_of origin.entry) column.now.decl }
 {
-    match group.list() {
+    match group {
         None => Verdict::No,
-        Some(_) => {
-            if group.holds(origin, column.name()) || holds_key(group, origin) {
+        Some(group) => {
+            if holds(group, origin, column.name()) || holds_key(group, origin) {
                 Verdict::Yes
             } else {
                 Verdict::NoVerdict
@@ -109,9 +149,9 @@ fn column_verdict(group: &Group<'_>, origin: Origin<'_>, column: &Column) -> Ver
 }
 
 #[cycle(verdict)]
-fn verdict_of_each(exprs: &[Expr], group: &Group<'_>) -> Verdict
+fn verdict_of_each(exprs: &[Expr], group: Option<&Expr>) -> Verdict
     ensures { verdict_tree result
-        ≡ verdict_of group.now
+        ≡ verdict_of (maybe_of (option_map (λ e. expr_tree e.now) group.entry))
         (exprs_of (map expr_tree exprs.now)) }
 {
     let mut all = Verdict::Never;
@@ -132,9 +172,9 @@ fn count_verdict(counted: &Expr) -> Verdict
 }
 
 #[cycle(verdict)]
-fn expr_verdict(expr: &Expr, group: &Group<'_>) -> Verdict
+fn expr_verdict(expr: &Expr, group: Option<&Expr>) -> Verdict
     ensures { verdict_tree result
-        ≡ gives group.now (expr_tree expr.now) }
+        ≡ gives (maybe_of (option_map (λ e. expr_tree e.now) group.entry)) (expr_tree expr.now) }
 {
     match expr {
         Expr::Column(column) => column_verdict(group, Origin::of_table(column.table()), column),
@@ -158,9 +198,9 @@ fn expr_verdict(expr: &Expr, group: &Group<'_>) -> Verdict
     }
 }
 
-fn order_verdict(order: Option<&[OrderItem]>, group: &Group<'_>) -> Verdict
+fn order_verdict(order: Option<&[OrderItem]>, group: Option<&Expr>) -> Verdict
     ensures { verdict_tree result
-        ≡ order_gives group.now
+        ≡ order_gives (maybe_of (option_map (λ e. expr_tree e.now) group.entry))
         (order_of (option_map (λ is. map order_item_tree is.now) order.entry)) }
 {
     match order {
@@ -169,17 +209,17 @@ fn order_verdict(order: Option<&[OrderItem]>, group: &Group<'_>) -> Verdict
     }
 }
 
-fn item_verdict(item: &OrderItem, group: &Group<'_>) -> Verdict
+fn item_verdict(item: &OrderItem, group: Option<&Expr>) -> Verdict
     ensures { verdict_tree result
-        ≡ gives group.now
+        ≡ gives (maybe_of (option_map (λ e. expr_tree e.now) group.entry))
         (order_item_tree item.now).0 }
 {
     expr_verdict(&item.expr, group)
 }
 
-fn items_verdict(items: &[OrderItem], group: &Group<'_>) -> Verdict
+fn items_verdict(items: &[OrderItem], group: Option<&Expr>) -> Verdict
     ensures { verdict_tree result
-        ≡ items_give group.now
+        ≡ items_give (maybe_of (option_map (λ e. expr_tree e.now) group.entry))
         (items_of (map order_item_tree items.now)) }
 {
     let mut all = Verdict::Never;
@@ -189,9 +229,9 @@ fn items_verdict(items: &[OrderItem], group: &Group<'_>) -> Verdict
     all
 }
 
-fn distinct_verdict(distinct: &DistinctClause, group: &Group<'_>) -> Verdict
+fn distinct_verdict(distinct: &DistinctClause, group: Option<&Expr>) -> Verdict
     ensures { verdict_tree result
-        ≡ distinct_gives group.now
+        ≡ distinct_gives (maybe_of (option_map (λ e. expr_tree e.now) group.entry))
         (distinct_clause_tree distinct.now) }
 {
     match distinct {
@@ -221,21 +261,14 @@ fn is_none(verdict: Verdict) -> bool
 }
 
 /// Whether an aggregate stands in a condition or a group by list, or what is selected has no one value in a group.
-pub(crate) fn is_misgrouped(alloc: Global, select: SelectView<'_>) -> Result<bool, NoMemory>
-    ensures { IfOk result (λ b. Decides b (IsMisgrouped (select_of select.entry))) }
-{
-    let group = Group::new(alloc, select.group_by)?;
-    Ok(is_misgrouped_by(&group, select))
-}
-
-fn is_misgrouped_by(group: &Group<'_>, select: SelectView<'_>) -> bool
-    requires { group.now ≡ (select_of select.entry).group_by }
+pub(crate) fn is_misgrouped(select: SelectView<'_>) -> bool
     ensures { Decides result (IsMisgrouped (select_of select.entry)) }
 {
+    let group = select.group_by;
     let selected = expr_verdict(select.selection, group);
     let distinct = distinct_verdict(select.distinct, group);
     let ordered = order_verdict(select.order, group);
-    (clause_has_aggregate(select.condition) || clause_has_aggregate(select.group_by))
+    (clause_has_aggregate(select.condition) || clause_has_aggregate(group))
         || (is_none(selected) || is_none(distinct))
         || (is_unboxed(select.form)
             && (is_none(mix(selected, ordered)) || is_none(mix(selected, distinct))))

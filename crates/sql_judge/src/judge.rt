@@ -122,8 +122,7 @@ fn breaks_grouping(alloc: Global, viewed: &ViewedSelect<'_>) -> Result<bool, NoM
         ⊎ IsMisgrouped (viewed_select viewed.now))) }
 {
     let counted = any_in(&InNodes(Counted), alloc, viewed)?;
-    let misgrouped = is_misgrouped(alloc, viewed.select)?;
-    Ok(counted || misgrouped)
+    Ok(counted || is_misgrouped(viewed.select))
 }
 
 fn needs_nullable(alloc: Global, viewed: &ViewedSelect<'_>) -> Result<bool, NoMemory>

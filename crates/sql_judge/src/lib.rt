@@ -1,7 +1,6 @@
 //! Which rules a statement breaks.
 #![tactic(auto)]
 
-mod group;
 mod grouping;
 mod incompatible;
 mod judge;

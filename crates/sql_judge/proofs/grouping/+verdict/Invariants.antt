@@ -7,6 +7,6 @@ use Rattle.sql_judge.proofs.grouping.+verdict.Given as goal
 abbrev pub invariant-verdict_of_each-loop-expr : goal.invariant-verdict_of_each-loop-expr
 invariant-verdict_of_each-loop-expr l =
     mix (verdict_tree l.all)
-    (verdict_of l.group
+    (verdict_of (maybe_of (option_map (λ e. expr_tree e.now) l.group))
     (exprs_of (map expr_tree (drop l.expr-index l.exprs))))
-    ≡ verdict_of l.group (exprs_of (map expr_tree l.exprs))
+    ≡ verdict_of (maybe_of (option_map (λ e. expr_tree e.now) l.group)) (exprs_of (map expr_tree l.exprs))

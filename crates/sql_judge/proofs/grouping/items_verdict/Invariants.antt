@@ -8,6 +8,6 @@ use Rattle.sql_judge.proofs.grouping.items_verdict.Given as goal
 abbrev pub invariant-loop-item : goal.invariant-loop-item
 invariant-loop-item l =
     mix (verdict_tree l.all)
-    (items_verdict l.group
+    (items_verdict (maybe_of (option_map (λ e. expr_tree e.now) l.group))
     (items_of (map order_item_tree (drop l.item-index l.items))))
-    ≡ items_verdict l.group (items_of (map order_item_tree l.items))
+    ≡ items_verdict (maybe_of (option_map (λ e. expr_tree e.now) l.group)) (items_of (map order_item_tree l.items))
