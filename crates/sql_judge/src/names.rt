@@ -129,6 +129,14 @@ fn is_named(view: &[Origin<'_>], origin: Origin<'_>) -> bool
     view.iter().any(|leaf| are_named_alike(*leaf, origin))
 }
 
+/// Whether no leaf of these is named as this one.
+fn lacks_names(view: &[Origin<'_>], origin: Origin<'_>) -> bool
+    ensures { Decides result
+        (list_any (λ l. named_alike l (origin_of origin.entry)) (map origin_of view.now) ≡ false) }
+{
+    !is_named(view, origin)
+}
+
 /// That a column is of a source of whose names its clause sees none.
 #[derive(Drop)]
 pub(crate) struct Unseen;
@@ -138,8 +146,8 @@ impl NodeTest for Unseen {
 
     fn test(&self, view: &[Origin<'_>], expr: &Expr) -> bool {
         match expr {
-            Expr::Column(column) => !is_named(view, Origin::of_table(column.table())),
-            Expr::Field(field) => !is_named(view, Origin::of_field(field)),
+            Expr::Column(column) => lacks_names(view, Origin::of_table(column.table())),
+            Expr::Field(field) => lacks_names(view, Origin::of_field(field)),
             _ => false,
         }
     }

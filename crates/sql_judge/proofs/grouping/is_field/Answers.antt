@@ -14,5 +14,5 @@ returns-then-eq c =
 pub returns-else-eq : goal.returns-else-eq
 returns-else-eq c =
     let same = same_origin (origin_of c.args.of) (origin_of c.args.origin) in
-    ap (λ b. b && same) (sym c.if-eq.false ∙ c.eq.ensures)
+    c.if-eq.false ∙ ap (λ b. b && same) (sym c.if-eq.false ∙ c.eq.ensures)
     ∙ and-swapped (bytes_eq c.args.own.now c.args.name.now) same

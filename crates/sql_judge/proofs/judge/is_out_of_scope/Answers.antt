@@ -12,10 +12,10 @@ pub returns-else-outer_unknown : goal.returns-else-outer_unknown
 returns-else-outer_unknown c =
     let s = c.args.schema.now in
     let outer = viewed_outer c.args.viewed.now in
-    ok-like c.any_in.result
+    ok-like c.any_in-else-outer_unknown.result
     (by-names s c.names_differ.ensures outer (viewed_select c.args.viewed.now)
-    (λ h. false≢true (sym c.if-outer_unknown.false.0 ∙ c.requires.unknown.1 h))
-    (λ h. false≢true (sym c.if-outer_unknown.false.1
-    ∙ c.any_unknown.ensures.1 (subst (AnyOf (λ o. ¬ IsTable s o.table))
+    (λ h. false≢true (sym c.if-viewed.false ∙ c.requires.unknown.1 h))
+    (λ h. false≢true (sym c.if-outer_unknown.false
+    ∙ c.any_unknown-outer_unknown.ensures.1 (subst (AnyOf (λ o. ¬ IsTable s o.table))
     (sym (ap (map origin_of) c.as_slice.ensures.value)) h))))
-    c.any_in.ensures
+    c.any_in-else-outer_unknown.ensures
