@@ -1,10 +1,8 @@
 -- Pairs that pass a test only where a cheaper one lets them, and answers of ordered sets.
 use Rattle.std.proofs.Common.{◌≡◌, ℕ, Bool, true, false, not, ◌&&◌, ◌||◌, List, [], ◌∷◌, Option, Some, None, refl, sym, ap, ◌∙◌, inl, inr}
-use Rattle.std.specs.Bool.{Decides}
 use Rattle.std.specs.List.{list_any}
 use Rattle.std.specs.Option.{option_eq}
 use Rattle.std.specs.Str.{bytes_eq}
-use Rattle.std.proofs.lemmas.Bool.{false≢true, true≢false}
 use Rattle.std.proofs.lemmas.Cmp.{nat_list_eq_equiv}
 use Rattle.sql_schema.specs.Refusals.{any_two}
 use Rattle.sql_rules.specs.Lists.{AnyOf, AnyPair}
@@ -42,7 +40,3 @@ and-swapped false false = refl
 pub same-alias : (o : Option (List ℕ)) → option_eq bytes_eq o o ≡ true
 same-alias None = refl
 same-alias (Some a) = nat_list_eq_equiv.refl a
-
-pub denied : (b : Bool) → Decides (not b) (b ≡ false)
-denied true = (λ e. absurd (false≢true e), λ e. absurd (true≢false e))
-denied false = (λ e. refl, λ e. refl)

@@ -1,11 +1,9 @@
 -- Where all tables are the schema's, the names of leaves tell what the leaves do.
 use Rattle.std.proofs.Common.{◌≡◌, Bool, true, false, ◌&&◌, ◌||◌, ℕ, List, [], ◌∷◌, ◌++◌, map, Option, Some, None, refl, sym, ap, ◌∙◌, subst, inl, inr}
 use Rattle.std.specs.Bool.{Decides}
-use Rattle.std.specs.List.{list_any}
 use Rattle.std.specs.Option.{option_eq}
 use Rattle.std.specs.Str.{bytes_eq}
 use Rattle.std.specs.Cmp.{first_so, second_so}
-use Rattle.std.proofs.lemmas.Bool.{false≢true, false_from_ne_true}
 use Rattle.std.proofs.lemmas.Bool.Decides.{Decides-like}
 use Rattle.std.proofs.lemmas.Cmp.{nat_list_eq_equiv}
 use Rattle.sql_schema.specs.Declarations.{Declarations}
@@ -18,9 +16,9 @@ use Rattle.sql_node.specs.Tree.{Origin, Form, unboxed, boxed, Expr, column, valu
 use Rattle.sql_rules.specs.Lists.{AnyOf, Each}
 use Rattle.sql_rules.specs.Rules.{IsTable, IsColumn, IsUnknownColumn, HasUnknownName, IsSeen, IsOutOfScope}
 use Rattle.sql_rules.specs.Scope.{View, Select, Clause, Place, AnyExpr, clauses, clauses_by, own, widest, origins, origins_of, nodes, maybe_clause, ons, ons_of, distinct_clause, item_clauses, order_clauses}
-use Rattle.sql_rules.proofs.Loops.{any_map}
+use Rattle.sql_rules.proofs.Loops.{any_each}
 use Rattle.sql_places.proofs.Views.{origins-join}
-use Rattle.sql_judge.specs.Seen.{IsUnseen}
+use Rattle.sql_judge.specs.Seen.{IsUnseen, SeesNames}
 use Rattle.sql_judge.specs.Tables.{named_alike}
 use Rattle.sql_judge.proofs.Alike.{same-alias}
 use Rattle.sql_judge.proofs.Declared.{one-of-name}
@@ -119,15 +117,8 @@ names-of-one l o e = subst (λ p. named_alike l p ≡ true) e (both (same-alias 
     both a b = ap (λ x. x && bytes_eq l.table.name l.table.name) a ∙ b
 
 -- a column whose names are not seen is not seen
-unseen-out : (v : View) (o : Origin) → list_any (λ l. named_alike l o) v ≡ false → ¬ IsSeen v o
-unseen-out [] o n h = h
-unseen-out (l ∷ v) o n (inl e) =
-    false≢true (sym n ∙ ap (λ b. b || list_any (λ m. named_alike m o) v) (names-of-one l o e))
-unseen-out (l ∷ v) o n (inr h) = unseen-out v o (rest (named_alike l o) n) h
-  where
-    rest : (b : Bool) → (b || list_any (λ m. named_alike m o) v) ≡ false → list_any (λ m. named_alike m o) v ≡ false
-    rest true e = absurd (let wrong : true ≡ false = e in cc)
-    rest false e = e
+unseen-out : (v : View) (o : Origin) → ¬ SeesNames v o → ¬ IsSeen v o
+unseen-out v o n h = n (any_each (λ l. l ≡ o) (λ l. named_alike l o ≡ true) (λ l e. names-of-one l o e) v h)
 
 module _ (s : Declarations) (apart : any_two tables_clash s.tables ≡ false) where
   -- it can't be refuted that the schema declares its table
@@ -143,21 +134,13 @@ module _ (s : Declarations) (apart : any_two tables_clash s.tables ≡ false) wh
       let t = one-of-name s.tables apart l.table o.table p q n in
       λ i. record { alias = a i; table = t i }
 
-  seen-by-names : (v : View) (o : Origin) → Each IsKnown v → IsKnown o → ¬ IsSeen v o
-      → list_any (λ l. named_alike l o) v ≡ true → ⊥
-  seen-by-names [] o k q n h = false≢true h
-  seen-by-names (l ∷ v) o k q n h =
-      by-test (named_alike l o) refl h (seen-by-names v o k.1 q (λ r. n (inr r)))
-    where
-      by-test : (b : Bool) → named_alike l o ≡ b → (b || list_any (λ m. named_alike m o) v) ≡ true
-          → (list_any (λ m. named_alike m o) v ≡ true → ⊥) → ⊥
-      by-test true e g rest = k.0 (λ p. q (λ r. n (inl (one-of-names l o e p r))))
-      by-test false e g rest = rest g
+  seen-by-names : (v : View) (o : Origin) → Each IsKnown v → IsKnown o → ¬ IsSeen v o → ¬ SeesNames v o
+  seen-by-names [] o k q n h = h
+  seen-by-names (l ∷ v) o k q n (inl e) = k.0 (λ p. q (λ r. n (inl (one-of-names l o e p r))))
+  seen-by-names (l ∷ v) o k q n (inr h) = seen-by-names v o k.1 q (λ r. n (inr r)) h
 
   unknown-not : (e : Expr) → ¬ IsUnknownColumn s e → (v : View) → Each IsKnown v → IsOutOfScope v e → IsUnseen v e
-  unknown-not (column o c) u v k n =
-      false_from_ne_true (list_any (λ l. named_alike l o) v)
-      (seen-by-names v o k (λ p. u (λ q. p q.0)) n)
+  unknown-not (column o c) u v k n = seen-by-names v o k (λ p. u (λ q. p q.0)) n
   unknown-not (value t x) u v k h = h
   unknown-not (list es) u v k h = h
   unknown-not count_star u v k h = h

@@ -87,8 +87,9 @@ fn is_out_of_scope(
         (AnyExpr IsOutOfScope (viewed_outer viewed.now) (viewed_select viewed.now))) }
 {
     names_differ(schema);
+    let unknown = viewed.unknown;
     let outer_unknown = any_unknown(schema, viewed.outer.as_slice());
-    if viewed.unknown || outer_unknown {
+    if unknown || outer_unknown {
         any_in(&InNodes(OutOfScope), alloc, viewed)
     } else {
         any_in(&InNodes(Unseen), alloc, viewed)

@@ -10,7 +10,7 @@ ghost use Rattle.sql_rules.specs.Lists.{AnyOf};
 ghost use Rattle.sql_rules.specs.Rules.{IsColumn, IsOutOfScope, IsSeen, IsTable, IsUnknownColumn};
 ghost use Rattle.sql_source.specs.Origins.{same_column as one_column, same_table};
 ghost use Rattle.sql_judge.specs.Tables.{named_alike};
-ghost use Rattle.sql_judge.specs.Seen.{IsUnseen};
+ghost use Rattle.sql_judge.specs.Seen.{IsUnseen, SeesNames};
 
 use crate::test::NodeTest;
 use sql_node::Expr;
@@ -129,12 +129,11 @@ fn is_named(view: &[Origin<'_>], origin: Origin<'_>) -> bool
     view.iter().any(|leaf| are_named_alike(*leaf, origin))
 }
 
-/// Whether no leaf of these is named as this one.
-fn lacks_names(view: &[Origin<'_>], origin: Origin<'_>) -> bool
-    ensures { Decides result
-        (list_any (λ l. named_alike l (origin_of origin.entry)) (map origin_of view.now) ≡ false) }
+/// The same, of the leaves that contracts see.
+fn sees_names(view: &[Origin<'_>], origin: Origin<'_>) -> bool
+    ensures { Decides result (SeesNames (map origin_of view.now) (origin_of origin.entry)) }
 {
-    !is_named(view, origin)
+    is_named(view, origin)
 }
 
 /// That a column is of a source of whose names its clause sees none.
@@ -146,8 +145,8 @@ impl NodeTest for Unseen {
 
     fn test(&self, view: &[Origin<'_>], expr: &Expr) -> bool {
         match expr {
-            Expr::Column(column) => lacks_names(view, Origin::of_table(column.table())),
-            Expr::Field(field) => lacks_names(view, Origin::of_field(field)),
+            Expr::Column(column) => !sees_names(view, Origin::of_table(column.table())),
+            Expr::Field(field) => !sees_names(view, Origin::of_field(field)),
             _ => false,
         }
     }

@@ -14,8 +14,8 @@ returns-else-outer_unknown c =
     let outer = viewed_outer c.args.viewed.now in
     ok-like c.any_in-else-outer_unknown.result
     (by-names s c.names_differ.ensures outer (viewed_select c.args.viewed.now)
-    (λ h. false≢true (sym c.if-viewed.false ∙ c.requires.unknown.1 h))
-    (λ h. false≢true (sym c.if-outer_unknown.false
+    (λ h. false≢true (sym c.if-outer_unknown.false.0 ∙ c.requires.unknown.1 h))
+    (λ h. false≢true (sym c.if-outer_unknown.false.1
     ∙ c.any_unknown-outer_unknown.ensures.1 (subst (AnyOf (λ o. ¬ IsTable s o.table))
     (sym (ap (map origin_of) c.as_slice.ensures.value)) h))))
     c.any_in-else-outer_unknown.ensures
