@@ -113,11 +113,14 @@ fn holds(group: &Expr, origin: Origin<'_>, name: &str) -> bool
 {
     match group {
         Expr::Column(column) => {
-            is_field(Origin::of_table(column.table()), column.name(), origin, name)
+            is_field(
+                Origin::of_table(column.table()),
+                column.name(),
+                origin,
+                name,
+            )
         }
-        Expr::Field(field) => is_field(
-            Origin::of_field(field), field.column.name(), origin, name,
-        ),
+        Expr::Field(field) => is_field(Origin::of_field(field), field.column.name(), origin, name),
         Expr::List(exprs) => any_holds(exprs.as_slice(), origin, name),
         Expr::Nullable(a) => holds(a, origin, name),
         _ => false,
