@@ -1,0 +1,5 @@
+pub mod Cuts
+pub mod Digits
+pub mod Ends
+pub mod Views
+pub mod Words

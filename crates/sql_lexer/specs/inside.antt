@@ -1,0 +1,3 @@
+-- What only the lexer and its proofs need.
+pub mod Cut
+pub mod States

@@ -1,0 +1,4 @@
+pub mod Capped
+pub mod Lists
+pub mod Paths
+pub mod Views

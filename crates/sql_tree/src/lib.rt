@@ -1,0 +1,16 @@
+//! Statements as trees, one kind of node for each production of the grammar: what a text says. Their lists stand in the order of the
+//! text. And how many placeholders a tree has.
+#![tactic(auto)]
+
+mod count;
+mod names;
+mod tree;
+mod words;
+
+pub use count::count_query;
+pub use names::Names;
+pub use tree::{Distinctness, Expression, Item, Place, Query, Source};
+pub use words::{
+    Direction, JoinKind, Lock, LockMode, LockWait, Logic, Mark, Page, Sample, SampleMethod,
+    SetOperator,
+};

@@ -1,0 +1,4 @@
+pub mod Alls
+pub mod Digits
+pub mod Lists
+pub mod Names
