@@ -141,7 +141,7 @@ def main():
     options.add_argument("--most", type=int, default=LIMIT, help="the bytes of the largest document (16777214)")
     options.add_argument("--seconds", type=int, default=120, help="a run is ended after so many seconds (120)")
     options.add_argument("--stack", action="store_true", help="find how much stack the deepest documents take")
-    given = options.parse_args()
+    given = options.parse_intermixed_args()
     if given.stack:
         measure_stack(given.program, given.directions or documents.NESTING)
         return
