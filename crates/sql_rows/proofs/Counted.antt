@@ -100,8 +100,7 @@ mutual
       let pw = in-maybe w y (first_so (maybe_keeps_id w) _ h4) in
       let po = in-order o v (first_so (order_keeps_id o) _ h5) in
       let pg = in-maybe g v (first_so (maybe_keeps_id g) (maybe_keeps_id x) h6) in
-      let px = in-maybe x v (second_so (maybe_keeps_id g) (maybe_keeps_id x) h6) in
-      (
+      let px = in-maybe x v (second_so (maybe_keeps_id g) (maybe_keeps_id x) h6) in (
         tt,
         both (in_distinct v u) _ pu
             (both (in_expr v e) _ pe
@@ -109,8 +108,7 @@ mutual
             (both (in_maybe y w) _ pw (both (in_maybe v g) _ pg (both (in_maybe v x) (in_order v o) px po))))),
       )
   in-statement (combination by all a b o rows) outer h =
-      let g = second_so (has_id a) _ h in
-      (
+      let g = second_so (has_id a) _ h in (
         no_places o (second_so (has_id b) (lacks_places o) g),
         both (parts outer a) (parts outer b) (in-statement a outer (first_so (has_id a) _ h))
             (in-statement b outer (first_so (has_id b) (lacks_places o) g)),

@@ -30,53 +30,39 @@ module _ {K V : Type 0} (test : K → Bool) where
 -- ## Behind a look-up
 
 module _ {K V : Type 0} (test : K → Bool) (k : K) (exact : (a : K) → test a ≡ true → k ≡ a) where
-  -- the keys are cut at this one
-  pub record IsCut (es : List (K × V)) (after : List K) : Type 0 where
-    pub front : List K
-    pub back : List K
-    pub was : keys_of es ≡ front ++ k ∷ back
-    pub is : after ≡ front ++ back
+  -- the keys are cut at this one, and it is gone
+  abbrev IsCut : List K → List K → Type 0
+  IsCut ks after = (front : List K) × (back : List K) × (ks ≡ front ++ k ∷ back) × (after ≡ front ++ back)
 
-  cut : (es : List (K × V)) (e : K × V) → lookup_entry test es ≡ Some e → IsCut es (keys_of (remove_entry test es))
+  -- the keys are cut at this one, and it stands in front
+  abbrev pub IsFound : List K → List K → Type 0
+  IsFound ks after = (front : List K) × (back : List K) × (ks ≡ front ++ k ∷ back) × (after ≡ k ∷ (front ++ back))
+
+  cut : (es : List (K × V)) (e : K × V) → lookup_entry test es ≡ Some e
+      → IsCut (keys_of es) (keys_of (remove_entry test es))
   cut [] e h = absurd (cc)
   cut (f ∷ es) e h =
       (elim (test f.0) as (λ y. test f.0 ≡ y → cond y (Some f) (lookup_entry test es) ≡ Some e
-      → IsCut (f ∷ es) (keys_of (cond y es (f ∷ remove_entry test es)))) [
-        | true ↦ λ t g. record { front = []; back = keys_of es; was = λ i. sym (exact f.0 t) i ∷ keys_of es; is = refl }
+      → IsCut (keys_of (f ∷ es)) (keys_of (cond y es (f ∷ remove_entry test es)))) [
+        | true ↦ λ t g. ([], keys_of es, (λ i. sym (exact f.0 t) i ∷ keys_of es), refl)
         | false ↦ λ t g.
             let on = cut es e g in
-            record {
-              front = f.0 ∷ on.front;
-              back = on.back;
-              was = ap (λ ks. f.0 ∷ ks) on.was;
-              is = ap (λ ks. f.0 ∷ ks) on.is;
-            }
+            (f.0 ∷ on.0, on.1, ap (λ ks. f.0 ∷ ks) on.2, ap (λ ks. f.0 ∷ ks) on.3)
       ])
       refl h
 
-  -- a key that is found comes to the front
-  pub record IsFound (es : List (K × V)) : Type 0 where
-    pub front : List K
-    pub back : List K
-    pub was : keys_of es ≡ front ++ k ∷ back
-    pub is : keys_of (promoted test es) ≡ k ∷ (front ++ back)
-
-  pub found : (es : List (K × V)) → is_some (lookup test es) ≡ true → IsFound es
+  pub found : (es : List (K × V)) → is_some (lookup test es) ≡ true → IsFound (keys_of es) (keys_of (promoted test es))
   found es h = go (lookup_entry test es) refl
     where
-      go : (o : Option (K × V)) → lookup_entry test es ≡ o → IsFound es
+      go : (o : Option (K × V)) → lookup_entry test es ≡ o
+          → IsFound (keys_of es) (keys_of (option_map_or (λ e. e ∷ remove_entry test es) o es))
       go None n =
           let there : is_some (lookup_entry test es) ≡ true = entry-there test es ∙ sym (is-there test es) ∙ h in
           absurd (true≢false (sym there ∙ ap is_some n))
       go (Some e) s =
           let c = cut es e s in
           let key : e.0 ≡ k = sym (exact e.0 (Contains-lookup_entry test es e s).1) in
-          record {
-            front = c.front;
-            back = c.back;
-            was = c.was;
-            is = ap (λ o. keys_of (option_map_or (λ f. f ∷ remove_entry test es) o es)) s ∙ (λ i. key i ∷ c.is i);
-          }
+          (c.0, c.1, c.2, (λ i. key i ∷ c.3 i))
 
   pub not-found : (es : List (K × V)) → is_some (lookup test es) ≡ false → promoted test es ≡ es
   not-found es h = go (lookup_entry test es) refl

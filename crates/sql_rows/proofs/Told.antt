@@ -11,21 +11,21 @@ use Rattle.lru.proofs.CallerLemmas.{IsPut}
 use Rattle.sql_rows.specs.declared.cache.Kept.{Kept}
 use Rattle.sql_rows.specs.declared.cache.RequestKey.{RequestKey}
 use Rattle.sql_rows.specs.Entries.{IsLookedUp}
-use Rattle.sql_rows.specs.inside.Served.{Serves, Tells}
+use Rattle.sql_rows.specs.inside.Served.{Serves, Tells, kept_of}
 use Rattle.sql_rows.proofs.Exact.{same_key, exact-key}
 
 pub kept-serves : (schema : Declarations) (d : Dialect) (s : Statement) (pair : RequestKey) (b : Built)
     → IsLookedUp d s pair → IsBuilt schema d s b
-    → Serves schema (pair, record { sql = b.sql; sql_types = b.sql_types; safe = b.safe })
+    → Serves schema (pair, kept_of b)
 kept-serves schema d s pair b own built = λ e t other.
-    let told : Tells schema d t (record { sql = b.sql; sql_types = b.sql_types; safe = b.safe }) =
+    let told : Tells schema d t (kept_of b) =
     record {
       accepted = ids.accepted schema d s t pair.key own.id other.id other.fit built.accepted;
       sql = built.sql ∙ ids.text d s t pair.key own.id other.id;
       sql_types = built.sql_types ∙ ids.column_types s t pair.key own.id other.id;
       safe = built.safe ∙ ids.safe d s t pair.key own.id other.id;
     } in
-    subst (λ x. Tells schema x t (record { sql = b.sql; sql_types = b.sql_types; safe = b.safe }))
+    subst (λ x. Tells schema x t (kept_of b))
     (sym own.dialect ∙ other.dialect) told
 
 -- an entry behind a put serves where what was put does

@@ -1,4 +1,5 @@
 -- What a statement cache holds, and what each call makes of it.
+pub mod Calls
 pub mod Entries
 pub mod inside
 -- What statements mean: `Rattle.sql_rows.specs.Fitting.{AnswersFit}` is that of `sql_meaning`.

@@ -9,7 +9,7 @@ ghost use Rattle.sql_check.specs.Errors.{rule_of};
 ghost use Rattle.sql_check.specs.declared.error.CompileError.TheVariants as error;
 ghost use Rattle.sql_meaning.specs.Fitting.{AnswersFit};
 ghost use Rattle.sql_rows.specs.Entries.{IsHit, IsLookedUp, IsNext, put};
-ghost use Rattle.sql_rows.specs.inside.Served.{Serves, Tells};
+ghost use Rattle.sql_rows.specs.inside.Served.{Serves, Tells, kept_of};
 
 use crate::compile_sound;
 use lru::LruCache;
@@ -213,12 +213,13 @@ impl StatementCache {
         }
     }
 
-    fn keep(&mut self, pair: RequestKey, kept: Kept) -> Result<(), AllocError>
+    fn keep(&mut self, alloc: Global, pair: RequestKey, built: &Built) -> Result<(), NoMemory>
         requires new { ¬ Contains self.old.keys pair }
-        requires serves { Serves self.old.schema (pair, kept) }
+        requires serves { Serves self.old.schema (pair, kept_of built.now) }
         ensures kept { OnOk result (self.new ≡ put self.old pair) }
         ensures unchanged { OnErr result (self.new ≡ self.old) }
     {
+        let kept = copied(alloc, &built.sql, &built.sql_types, built.safe)?;
         match self.kept.put(pair, kept) {
             Ok(_) => Ok(()),
             Err(_) => Err(AllocError),
@@ -287,10 +288,13 @@ impl StatementCache {
         ensures put { OnOk result (self.new ≡ put self.old pair) }
         ensures unchanged { OnErr result (self.new ≡ self.old) }
     {
-        let built = self.compile_alone(alloc, backend, statement)?;
-        let kept = copied(alloc, &built.sql, &built.sql_types, built.safe)?;
-        self.keep(pair, kept)?;
-        Ok(built)
+        match self.compile_alone(alloc, backend, statement) {
+            Ok(built) => {
+                self.keep(alloc, pair, &built)?;
+                Ok(built)
+            }
+            Err(error) => Err(error),
+        }
     }
 
     /// What `compile_sound` answers of the statement, whatever was asked before.

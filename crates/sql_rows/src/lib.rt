@@ -4,9 +4,11 @@
 #![tactic(auto)]
 
 mod cache;
+mod laws;
 mod sound;
 
 pub use cache::{RequestKey, StatementCache};
+pub use laws::{answered_pairs_stand_in_front, calls_are_answered_alone, one_answer};
 pub use sound::compile_sound;
 pub use sql_meaning::{
     first_is_any, last_writer_is_an_answer, left_join_has_two_answers, needs_nullable_is_needed,

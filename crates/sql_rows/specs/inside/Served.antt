@@ -6,9 +6,14 @@ use Rattle.sql_node.specs.Tree.{Statement}
 use Rattle.sql_rules.specs.Rules.{Accepted}
 use Rattle.sql_rules.specs.Types.{columns}
 use Rattle.sql_check.specs.Compiled.{sql_of, is_safe_in}
+use Rattle.sql_check.specs.declared.built.Built.{Built}
 use Rattle.sql_rows.specs.Entries.{IsLookedUp}
 use Rattle.sql_rows.specs.declared.cache.Kept.{Kept}
 use Rattle.sql_rows.specs.declared.cache.RequestKey.{RequestKey}
+
+-- what of an answer is the same for all statements of one key
+abbrev pub kept_of : Built → Kept
+kept_of b = record { sql = b.sql; sql_types = b.sql_types; safe = b.safe }
 
 pub record Tells (schema : Declarations) (d : Dialect) (s : Statement) (kept : Kept) : Type 0 where
   pub accepted : Accepted schema d s
