@@ -97,13 +97,15 @@ after-put {K} {V} eq c k v n = go (lookup_entry (eq k) c.entries) refl
 
 pub no-first : {K V : Type 0} (es : List (K × V)) → None ≡ slice_get es 0 → keys_of es ≡ []
 no-first [] h = refl
-no-first (e ∷ es) h = absurd (cc)
+no-first (e ∷ es) h = let a : None ≡ Some e = h in absurd (cc)
 
 -- the first entry is there, under the first key
 pub first-there : {K V : Type 0} (es : List (K × V)) (e : K × V) (k : K) → Some e ≡ slice_get es 0
     → slice_get (keys_of es) 0 ≡ Some k → Contains es (k, e.1)
 first-there [] e k h g = absurd (cc)
 first-there (f ∷ es) e k h g =
+    let a : Some e ≡ Some f = h in
+    let b : Some f.0 ≡ Some k = g in
     let same : e ≡ f = cc in
     let key : f.0 ≡ k = cc in
     (0, omega arith, λ i. (key i, sym (ap (λ p. p.1) same) i))
