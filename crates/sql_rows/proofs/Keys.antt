@@ -102,7 +102,7 @@ no-first (e ∷ es) h = let a : None ≡ Some e = h in absurd (cc)
 -- the first entry is there, under the first key
 pub first-there : {K V : Type 0} (es : List (K × V)) (e : K × V) (k : K) → Some e ≡ slice_get es 0
     → slice_get (keys_of es) 0 ≡ Some k → Contains es (k, e.1)
-first-there [] e k h g = absurd (cc)
+first-there [] e k h g = let a : Some e ≡ None = h in absurd (cc)
 first-there (f ∷ es) e k h g =
     let a : Some e ≡ Some f = h in
     let b : Some f.0 ≡ Some k = g in

@@ -93,7 +93,8 @@ fn pair_of<DB: Backend>(
     ensures { IfOk result (λ found. (pair : RequestKey)
         → (found ≡ Some pair) ↔ IsLookedUp DB.speaks (statement_tree statement.now) pair) }
 {
-    if !values_fit(statement) {
+    let fit = values_fit(statement);
+    if !fit {
         return Ok(None);
     }
     let dialect = backend.dialect();
