@@ -54,9 +54,9 @@ returns-clause-found c =
     let pair = c.args.pair.now in
     let es = c.self.inside.kept.entries in (
       (λ t. absurd (true≢false (sym t))),
-      (λ h. sym (list_any-from_Contains laws-law pair (keys_of es)
-          (subst (λ (w : Entries). Contains w.keys pair) (sym c.self.view_is) h))
-          ∙ sym (is-there (same_key pair) es) ∙ sym c.if-promote.ensures.value),
+      (λ h. c.if-promote.ensures.value ∙ is-there (same_key pair) es
+          ∙ list_any-from_Contains laws-law pair (keys_of es)
+          (subst (λ (w : Entries). Contains w.keys pair) (sym c.self.view_is) h)),
     )
 
 pub returns-clause-unchanged : goal.returns-clause-unchanged
