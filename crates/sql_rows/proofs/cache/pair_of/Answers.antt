@@ -1,4 +1,4 @@
-use Rattle.std.proofs.Common.{◌≡◌, Some, None, sym, ◌∙◌}
+use Rattle.std.proofs.Common.{sym, ◌∙◌}
 use Rattle.sql_node.specs.View.{statement_tree}
 use Rattle.sql_rows.proofs.Next.{looked-up, misfit, no-pair, own-pair, without-id}
 use Rattle.sql_rows.proofs.cache.pair_of.Goals as goal

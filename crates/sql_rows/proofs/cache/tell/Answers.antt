@@ -1,4 +1,4 @@
-use Rattle.std.proofs.Common.{◌∙◌, sym}
+use Rattle.std.proofs.Common.{◌∙◌}
 use Rattle.sql_node.specs.View.{statement_tree}
 use Rattle.sql_rules.specs.declared.rule.Rule.TheVariants.{Ambiguous, NameClash, NotInScope, UnknownName}
 use Rattle.sql_check.proofs.Reading.{is_read}

@@ -1,4 +1,4 @@
-use Rattle.std.proofs.Common.{◌≡◌, false, true≢false, None, Some, Contains, IfErr, IfOk, OnErr, OnOk, refl, sym, ap, ◌∙◌, subst}
+use Rattle.std.proofs.Common.{◌≡◌, true≢false, None, Some, Contains, IfErr, IfOk, OnErr, OnOk, refl, sym, ap, ◌∙◌, subst}
 use Rattle.std.proofs.lemmas.Result.{IfErr-weaker}
 use Rattle.std.specs.List.{slice_get}
 use Rattle.sql_schema.specs.Declarations.{Declarations}
@@ -8,7 +8,7 @@ use Rattle.sql_check.specs.Compiled.{IsBuilt, IsLeast}
 use Rattle.sql_check.specs.Errors.{rule_of}
 use Rattle.sql_meaning.specs.Fitting.{AnswersFit}
 use Rattle.sql_rows.specs.Entries.{Entries, put}
-use Rattle.sql_rows.proofs.Next.{hit-next, new-next, new-schema, none-next, out-of-memory}
+use Rattle.sql_rows.proofs.Next.{hit-next, new-next, new-schema, none-next}
 use Rattle.sql_rows.proofs.cache.StatementCache.compile_cached.Goals as goal
 
 -- ## No pair is looked up
