@@ -1,0 +1,113 @@
+"""What is asked of a server about each accepted line of a document."""
+import servers
+import values
+from meaning import Meaning, NoMeaning, TooManyAnswers, as_servers_read
+from statements import expression, python_value, statement, tables_of
+
+
+class Fault(Exception):
+    """A server does not do what the line says; the text says what."""
+
+
+class Line:
+    """An accepted line, and what it answers."""
+
+    def __init__(self, schema, request, answer):
+        self.request = request
+        self.sql = answer["sql"]
+        self.columns = answer["columns"]
+        self.kinds = [values.kind(told, value) for told, value in answer["binds"]]
+        self.values = [python_value(told, value) for told, value in answer["binds"]]
+        self.answer = answer
+        self.statement = statement(schema, request["query"])
+
+
+def cut(schema, database, guard):
+    """The database in which the guarded table keeps the rows for which the predicate is true."""
+    meaning = Meaning(schema, database)
+    predicate, origin = expression(schema, guard["predicate"]), (None, guard["table"])
+    kept = [row for row in database[guard["table"]] if meaning.values(predicate, {origin: row}) == (True,)]
+    return {**database, guard["table"]: kept}
+
+
+class Checker:
+    """Asks one server about the lines of one document, over one database."""
+
+    def __init__(self, server, schema, database, refused_tables):
+        self.server = server
+        self.schema = schema
+        self.meaning = Meaning(schema, database)
+        self.refused_tables = refused_tables
+        self.counts = {}
+
+    def count(self, what):
+        self.counts[what] = self.counts.get(what, 0) + 1
+
+    def missing_table(self, line):
+        """A table of the line that the server did not make, with its message."""
+        for name in sorted(tables_of(line.statement) & set(self.refused_tables)):
+            return self.refused_tables[name]
+        return None
+
+    def check(self, line, other):
+        """Asks about a line, and with the same prepared text about one that has other values. A Fault or a Refused where it fails."""
+        try:
+            placeholders, columns = self.server.prepare(line.sql, line.kinds)
+            if placeholders != len(line.values):
+                raise Fault(f"{placeholders} placeholders and {len(line.values)} values")
+            self.check_columns(line, columns)
+            self.execute(line)
+            if other is not None:
+                check_same(line, other)
+                self.execute(other)
+                self.count("other values")
+        finally:
+            self.server.close()
+
+    def execute(self, line):
+        columns, rows = self.server.execute(line.kinds, line.values)
+        self.check_columns(line, columns, rows)
+        for row in rows:
+            for told, value in zip(line.columns, row):
+                wrong = values.fault(told, value)
+                if wrong is not None:
+                    raise Fault(wrong)
+        self.count("executed")
+        seen = [tuple(values.seen(told, value) for told, value in zip(line.columns, row)) for row in rows]
+        self.check_rows(line, seen)
+
+    def check_columns(self, line, columns, rows=()):
+        """As many columns as told, and of the types told: PostgreSQL's are exact, MariaDB's a class, and SQLite has none."""
+        if columns is None:
+            return
+        if len(columns) != len(line.columns):
+            raise Fault(f"{len(columns)} columns, told {len(line.columns)}")
+        for at, (told, column) in enumerate(zip(line.columns, columns)):
+            base = told.rstrip("?")
+            classes = {base, {"Text": "text", "Binary": "binary"}.get(base, "number")}
+            if column is not None and column not in classes and any(row[at] is not None for row in rows or [(0,) * len(columns)]):
+                raise Fault(f"column {at + 1} is of type {column}, told {told}")
+
+    def check_rows(self, line, rows):
+        """The rows are among the answers that docs/MEANING.md allows."""
+        try:
+            if self.meaning.allows(line.statement, rows):
+                self.count("rows allowed")
+            elif self.meaning.allows(as_servers_read(line.statement), rows):
+                self.count("rows allowed as servers read NOT")
+            else:
+                raise Fault(f"rows {rows}, an answer is {self.meaning.an_answer(line.statement)}")
+        except NoMeaning:
+            self.count("rows without a meaning (COUNT, GROUP BY, HAVING)")
+        except TooManyAnswers:
+            self.count("rows with too many answers to follow")
+
+
+def check_same(line, other):
+    """What was prepared for the one line serves for the other: one text, values and columns of the same types, one flag and one id."""
+    told = [(each.sql, each.columns, each.kinds, each.answer["safe"], each.answer["id"]) for each in (line, other)]
+    if told[0] != told[1]:
+        raise Fault(f"with other values: {told[1]} in place of {told[0]}")
+
+
+__all__ = ["Checker", "Fault", "Line", "cut", "servers"]
