@@ -1,7 +1,8 @@
 """What is asked of a server about each accepted line of a document."""
 import servers
 import values
-from meaning import Meaning, NoMeaning, TooManyAnswers, as_servers_read
+from meaning import Meaning, NoMeaning, TooManyAnswers
+from readings import as_servers_read, by_position
 from statements import expression, python_value, statement, tables_of
 
 
@@ -77,30 +78,42 @@ class Checker:
         self.check_rows(line, seen)
 
     def check_columns(self, line, columns, rows=()):
-        """As many columns as told, and of the types told: PostgreSQL's are exact, MariaDB's a class, and SQLite has none."""
+        """As many columns as told, and of the types told: PostgreSQL's are exact, MariaDB's a class, and SQLite has none. MariaDB tells a
+        bound NULL as binary, so there a column is looked at where it has a value."""
         if columns is None:
             return
         if len(columns) != len(line.columns):
             raise Fault(f"{len(columns)} columns, told {len(line.columns)}")
         for at, (told, column) in enumerate(zip(line.columns, columns)):
             base = told.rstrip("?")
-            classes = {base, {"Text": "text", "Binary": "binary"}.get(base, "number")}
-            if column is not None and column not in classes and any(row[at] is not None for row in rows or [(0,) * len(columns)]):
+            wanted = base if self.server.has_types else {"Text": "text", "Binary": "binary"}.get(base, "number")
+            is_seen = self.server.has_types or any(row[at] is not None for row in rows)
+            if column is not None and column != wanted and is_seen:
                 raise Fault(f"column {at + 1} is of type {column}, told {told}")
 
     def check_rows(self, line, rows):
         """The rows are among the answers that docs/MEANING.md allows."""
         try:
-            if self.meaning.allows(line.statement, rows):
-                self.count("rows allowed")
-            elif self.meaning.allows(as_servers_read(line.statement), rows):
-                self.count("rows allowed as servers read NOT")
-            else:
-                raise Fault(f"rows {rows}, an answer is {self.meaning.an_answer(line.statement)}")
+            for what, nulls_by_size, change in self.readings():
+                if self.meaning.allows(change(line.statement), rows, nulls_by_size):
+                    self.count("rows allowed" + what)
+                    return
+            raise Fault(f"rows {rows}, an answer is {self.meaning.an_answer(line.statement)}")
         except NoMeaning:
             self.count("rows without a meaning (COUNT, GROUP BY, HAVING)")
         except TooManyAnswers:
             self.count("rows with too many answers to follow")
+
+
+    def readings(self):
+        """The statement itself, and known differences from it (docs/SERVERS.md)."""
+        changes = [("", lambda s: s), (", as servers read NOT", as_servers_read)]
+        if self.server.dialect == "Mysql":
+            changes += [(f"{what}, a bound number in ORDER BY being a position", lambda s, c=change: by_position(c(s))) for what, change in changes]
+        for what, change in changes:
+            yield what, False, change
+        for what, change in changes:
+            yield what + ", NULL being the least or the greatest value", True, change
 
 
 def check_same(line, other):

@@ -133,7 +133,7 @@ class Writer:
         if not is_nullable:
             ways += ["is_null", "is_not_null"] + ["exists"] * 2 * (depth > 0)
         way = self.chance.choice(ways)
-        base = self.chance.choice(BASES)
+        base = self.base(seen)
         if way == "compare":
             return {self.chance.choice(COMPARISONS): [self.expr(seen, base, is_nullable, depth - 1, selects) for _ in range(2)]}
         if way in ("and", "or"):
@@ -155,8 +155,14 @@ class Writer:
         kind = told(base, is_nullable)
         return {"list": [kind, [some(self.chance, kind) for _ in range(self.chance.randint(0, 3))]]}
 
-    def any_type(self):
-        return self.chance.choice(BASES), self.happens(0.5)
+    def base(self, seen):
+        """A base, mostly one of a column that is seen."""
+        if seen and self.happens(0.8):
+            return self.chance.choice(self.chance.choice(seen).columns())[1]
+        return self.chance.choice(BASES)
+
+    def any_type(self, seen=()):
+        return self.base(seen), self.happens(0.5)
 
     # ---- sources
 
@@ -185,6 +191,8 @@ class Writer:
                 others = self.columns_of(right, base, is_nullable, False)
                 if others:
                     return [{"eq": [column, self.chance.choice(others)]}]
+        if self.happens(0.01):
+            return [{"gt": ["count_star", self.bind("BigInt", False)]}]
         return [self.truth(seen, self.happens(0.3), min(depth, 1))]
 
     def source(self, taken, depth):
@@ -261,28 +269,32 @@ class Writer:
         """A selection of values for each row, how it is distinct and ordered, and a lock."""
         calls, selection = [], None
         if wanted is not None or self.happens(0.7):
-            types = wanted or [self.any_type() for _ in range(self.chance.randint(1, 3))]
+            types = wanted or [self.any_type(leaves) for _ in range(self.chance.randint(1, 3))]
             selection = [self.expr(leaves, *each, min(depth, 1), selects=True) for each in types]
-            calls.append(["select", selection[0] if len(selection) == 1 and self.happens(0.5) else selection])
+            calls.append(["select", selection[0] if len(selection) == 1 and self.happens(0.5) else self.nested(selection)])
         if wanted is None and self.happens(0.05):
             return calls + [[self.chance.choice(("count", "nullable"))]]
         order = self.order(leaves, depth, selection)
         if self.happens(0.12):
             calls.append(["distinct"])
-            order = [self.item(each) for each in selection or [] if self.happens(0.5)]
+            order = [self.item(each) for each in selection or [] if self.happens(0.5) and ("bind" not in each or self.happens(0.1))]
         elif self.dialect == "Pg" and not boxed and self.happens(0.15):
-            key = [self.expr(leaves, *self.any_type(), 0, selects=True) for _ in range(self.chance.randint(1, 2))]
+            key = [self.expr(leaves, *self.any_type(leaves), 0, selects=True) for _ in range(self.chance.randint(1, 2))]
             key = [each for each in key if "bind" not in each] or [self.columns_of(leaves, *leaves[0].columns()[0][1:], False)[0]]
             key = [{"nullable": each} if leaves[0].is_padded and "nullable" not in each else each for each in key]
             calls.append(["distinct_on", key])
             order = [self.item(each) for each in key] + order if self.happens(0.6) else []
-        elif self.dialect in ("Pg", "Mysql") and not boxed and self.happens(0.08):
+        elif self.dialect in ("Pg", "Mysql") and not boxed and self.happens(0.08 if wanted is None else 0.01):
             calls += self.lock()
         if order:
             at = self.chance.randint(1, len(order)) if self.happens(0.3) else len(order)
             calls.append([self.chance.choice(("order", "order_by")), order[:at]])
             calls += [["then_order_by", order[at:]]] if order[at:] else []
         return calls
+
+    def nested(self, selection):
+        """The same list, now and then with lists in it."""
+        return [selection[0], [[], selection[1:]]] if self.happens(0.05) else selection
 
     def order(self, leaves, depth, selection):
         if not self.happens(0.45):
@@ -311,8 +323,12 @@ class Writer:
             return [["select", self.chance.choice((counts[:1], counts, counts[1]))]]
         group = self.chance.sample(columns, min(len(columns), self.chance.randint(1, 2)))
         shown = self.chance.sample(group + counts, self.chance.randint(1, len(group)))
+        if self.happens(0.15):
+            group = group + [self.expr(leaves, *self.any_type(leaves), min(depth, 1), selects=True)]
         calls = [["group_by", group], ["select", shown]]
-        if self.happens(0.3):
+        if self.happens(0.05):
+            calls.append(["having", self.truth(leaves, self.happens(0.3), 0)])
+        elif self.happens(0.3):
             calls.append(["having", {self.chance.choice(COMPARISONS): [self.chance.choice(counts), self.bind("BigInt", False)]}])
         if self.happens(0.3):
             calls.append(["order", [self.item(self.chance.choice(shown))]])
@@ -344,14 +360,22 @@ class Writer:
         return query
 
 
-def document(chance, requests=REQUESTS):
+def guard(chance, declared):
+    """A guard: a table, and a predicate over its columns alone."""
+    guarded = chance.choice(declared["tables"])
+    writer = Writer(chance, declared, "Pg")
+    return {"table": guarded["name"], "predicate": writer.truth([Leaf(None, guarded)], chance.random() < 0.3, 0)}
+
+
+def document(chance, requests=REQUESTS, is_guarded=False):
     declared = schema(chance)
     made = []
     for _ in range(requests):
         dialect = chance.choice(DIALECTS)
         writer = Writer(chance, declared, dialect)
         made.append({"dialect": dialect, "query": writer.query([], chance.choice((0, 1, 1, 2)))})
-    return {"schema": declared, "requests": made}
+    guarded = {"guard": guard(chance, declared)} if is_guarded else {}
+    return {"schema": declared, "requests": made, **guarded}
 
 
 if __name__ == "__main__":

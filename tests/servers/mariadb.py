@@ -84,6 +84,7 @@ def length_at(data, at):
 class Mariadb:
     name = "MariaDB"
     dialect = "Mysql"
+    has_types = False
     types = {"SmallInt": "smallint", "Integer": "int", "BigInt": "bigint", "Text": "varchar(190)", "Binary": "varbinary(190)", "Bool": "boolean"}
 
     def __init__(self):

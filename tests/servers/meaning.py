@@ -10,7 +10,7 @@ import itertools
 import math
 from collections import Counter
 
-from statements import Combination, Select, is_grouped, leaves, replace
+from statements import Combination, is_grouped, leaves
 
 BUDGET = 20000
 
@@ -58,9 +58,9 @@ def distinct(values):
 # ---- orders and pages
 
 def comes_before(nulls_first, descends, x, y):
-    """[comes_before]"""
+    """[comes_before] `nulls_first` is a truth value for each direction."""
     if x is None or y is None:
-        return x is not y and (nulls_first if x is None else not nulls_first)
+        return x is not y and (nulls_first[descends] if x is None else not nulls_first[descends])
     return y < x if descends else x < y
 
 
@@ -93,11 +93,12 @@ def cells_of(groups, limit, offset):
     return cells
 
 
-def ordered_pages(lines, descending, limit, offset):
-    """The cells of each answer: all NULLs come first, or all last. [IsOrdered]"""
+def ordered_pages(lines, descending, limit, offset, nulls_by_size):
+    """The cells of each answer: all NULLs come first, or all last. [IsOrdered] Where `nulls_by_size`, NULL is the least value or the
+    greatest one, so NULLs that come first in ascending order come last in descending order."""
     has_null = any(x is None for key, _ in lines for x in key)
-    for nulls_first in (True, False) if has_null else (True,):
-        yield cells_of(tied(lines, descending, nulls_first), limit, offset)
+    for first in (True, False) if has_null else (True,):
+        yield cells_of(tied(lines, descending, (first, first != nulls_by_size)), limit, offset)
 
 
 def is_page(cells, rows):
@@ -137,12 +138,14 @@ class Meaning:
         self.schema = schema
         self.database = database
         self.budget = BUDGET
+        self.nulls_by_size = False
 
-    def allows(self, statement, rows):
+    def allows(self, statement, rows, nulls_by_size=False):
         """Whether these rows, in this order, are an answer of the statement."""
         if is_grouped(statement):
             raise NoMeaning
         self.budget = BUDGET
+        self.nulls_by_size = nulls_by_size
         return any(is_page(cells, rows) for cells in self.pages(statement, {}))
 
     def an_answer(self, statement):
@@ -250,7 +253,7 @@ class Meaning:
         for lines in self.lines(s, outer):
             for left in self.left_by(s.distinct, lines):
                 self.spend(len(left) + 1)
-                yield from ordered_pages([(order, shown) for shown, _, order in left], descending, s.limit, s.offset)
+                yield from ordered_pages([(order, shown) for shown, _, order in left], descending, s.limit, s.offset, self.nulls_by_size)
 
     def combination_pages(self, s, outer):
         descending = [descends for _, descends in s.order]
@@ -258,7 +261,7 @@ class Meaning:
             for ys in self.bags(s.right, outer):
                 rows = [row for row in {**xs, **ys} for _ in range(combined(s.operator, s.keeps_all, xs[row], ys[row]))]
                 lines = [(tuple(value_at(number, row) for number, _ in s.order), row) for row in rows]
-                yield from ordered_pages(lines, descending, s.limit, s.offset)
+                yield from ordered_pages(lines, descending, s.limit, s.offset, self.nulls_by_size)
 
     def bags(self, s, outer):
         seen = set()
@@ -331,45 +334,3 @@ def found_in(x, cells):
         if all(taken <= other for taken, _, _, other in counts):
             found.append(False)
     return found
-
-
-# ---- as servers read NOT
-
-def as_servers_read(s):
-    """The statement as servers read its text: `NOT (a)` as the left operand of a comparison, a null test or a membership takes the whole
-    of it (docs/DIFFERENCES.md)."""
-    if isinstance(s, Combination):
-        return replace(s, left=as_servers_read(s.left), right=as_servers_read(s.right))
-    distinct_by = reread(s.distinct) if isinstance(s.distinct, tuple) else s.distinct
-    order = None if s.order is None else [(reread(e), descends) for e, descends in s.order]
-    return replace(s, selection=reread(s.selection), source=reread_source(s.source), distinct=distinct_by, where=reread(s.where),
-                   group_by=reread(s.group_by), having=reread(s.having), order=order)
-
-
-def reread_source(source):
-    if source is None or source[0] != "join":
-        return source
-    return (*source[:2], reread_source(source[2]), reread_source(source[3]), reread(source[4]))
-
-
-def reread(e):
-    if e is None or e[0] in ("column", "value", "count_star"):
-        return e
-    if e[0] == "list":
-        return "list", [reread(each) for each in e[1]]
-    if e[0] in ("exists", "single"):
-        return e[0], as_servers_read(e[1])
-    if e[0] in ("not", "nullable", "count"):
-        return e[0], reread(e[1])
-    at = 2
-    rest = (reread(e[3]),) if e[0] in ("compare", "connect") else (as_servers_read(e[3]),) if e[0] == "among_rows" else e[3:]
-    operand = reread(e[at])
-    inner = operand
-    while inner[0] == "nullable":
-        inner = inner[1]
-    if inner[0] == "not" and e[0] != "connect":
-        return "not", (e[0], e[1], inner[1], *rest)
-    return (e[0], e[1], operand, *rest)
-
-
-__all__ = ["Meaning", "NoMeaning", "TooManyAnswers", "as_servers_read", "Select"]

@@ -43,7 +43,7 @@ def decoded(base, data):
 class Postgres:
     name = "PostgreSQL"
     dialect = "Pg"
-    quote = '"'
+    has_types = True
     types = {"SmallInt": "smallint", "Integer": "integer", "BigInt": "bigint", "Text": "text", "Binary": "bytea", "Bool": "boolean"}
 
     def __init__(self):

@@ -5,14 +5,29 @@ import re
 KNOWN = [
     ("PostgreSQL", r"(LIMIT|OFFSET) must not be negative", None, "a negative limit or offset"),
     ("PostgreSQL", r"zero-length delimited identifier", None, "an empty name"),
-    ("PostgreSQL", r"sample percentage must be between", None, "a portion below 0 or above 100"),
+    ("PostgreSQL", r"sample percentage must be between", "TABLESAMPLE", "a portion below 0 or above 100"),
     ("PostgreSQL", r"invalid byte sequence for encoding", None, "a NUL in a text value"),
+    ("PostgreSQL", r"FOR .* is not allowed with UNION/INTERSECT/EXCEPT", " FOR ", "a lock in a side of a combination"),
+    ("PostgreSQL", r"FOR .* is not allowed with aggregate functions", " FOR ", "a lock beside COUNT"),
+    ("PostgreSQL", r"cannot be applied to the nullable side of an outer join", " FOR ", "a lock over the right side of a left join"),
+    ("PostgreSQL", r"for SELECT DISTINCT, ORDER BY expressions must appear in select list", "DISTINCT",
+     "DISTINCT, and an order by an expression that is not selected, or that holds a value"),
+    ("PostgreSQL", r"SELECT DISTINCT ON expressions must match initial ORDER BY", "DISTINCT ON",
+     "DISTINCT ON, and an order by an expression that holds a value"),
+    ("PostgreSQL", r"aggregate functions are not allowed in JOIN conditions", "COUNT", "COUNT in ON"),
+    ("MariaDB", r"syntax to use near 'SHARE", " FOR SHARE", "FOR SHARE, which MySQL has from 8.0 on and MariaDB not"),
+    ("MariaDB", r"doesn't yet support 'LIMIT & IN/ALL/ANY/SOME subquery'", r" IN \(.* LIMIT ", "a limit in the subselect of a membership"),
+    ("MariaDB", r"Unknown column '-?\d+' in '(ORDER BY|GROUP BY|order clause|group statement)'", r"(ORDER|GROUP) BY ",
+     "a bound whole number alone in ORDER BY or GROUP BY, which is the position of a column"),
+    ("MariaDB", r"Duplicate column name", r"UNION|INTERSECT|EXCEPT",
+     "a combination as a side of a combination, with two columns of one name"),
 ]
 
 
 def template(message):
     """A message without the names, numbers and places that it quotes."""
-    message = re.sub(r"'.*'|\".*\"", "..", message, flags=re.S)
+    message = re.sub(r"near '(\w*).*'", r"near \1 ..", message, flags=re.S)
+    message = re.sub(r"(?<!\w)'[^']*'|\".*\"", "..", message, flags=re.S)
     return re.sub(r"\d+", "N", message)
 
 

@@ -13,7 +13,6 @@ docs/MEANING.md. Ends with a table of what each server refused, and with 'N pass
 docs/SERVERS.md) does not fail. A server whose package is missing is skipped. Bracket has no server.
 """
 import argparse
-import copy
 import json
 import os
 import pathlib
@@ -22,6 +21,7 @@ import subprocess
 import sys
 import time
 
+sys.dont_write_bytecode = True
 HERE = pathlib.Path(__file__).resolve().parent
 TOP = HERE.parent.parent
 sys.path.insert(0, str(HERE))
@@ -32,6 +32,7 @@ import refusals  # noqa: E402
 import schema as schemas  # noqa: E402
 import servers  # noqa: E402
 import values  # noqa: E402
+import worked  # noqa: E402
 from checks import Checker, Fault, Line, cut  # noqa: E402
 from mariadb import Mariadb  # noqa: E402
 from postgres import Postgres  # noqa: E402
@@ -64,6 +65,13 @@ class Report:
             self.fail(name, line, f"{server} refuses it: {message}")
         else:
             self.refused += 1
+
+    def check_evaluator(self):
+        wrong, asked = worked.faults()
+        for query, rows in wrong:
+            print(f"FAILED the evaluator on {json.dumps(query)}: {rows}")
+        self.failed += len(wrong)
+        self.passed += asked - len(wrong)
 
     def add(self, server, counts):
         for what, count in counts.items():
@@ -170,11 +178,11 @@ def stored():
     yield "documents.tsv", in_each_dialect({"schema": users, "requests": requests})
 
 
-def run_random(runner, count, seed):
+def run_random(runner, count, seed, is_guarded):
     """Random documents, until so many lines were accepted. Each is made from a seed of its own."""
     done, requests = 0, 0
     while done < count:
-        document = documents.document(random.Random(seed))
+        document = documents.document(random.Random(seed), is_guarded=is_guarded)
         requests += len(document["requests"])
         done += runner.run(f"document of --seed {seed}", document, random.Random(seed))
         seed += 1
@@ -186,6 +194,7 @@ def main():
     parser.add_argument("documents", nargs="*", type=pathlib.Path)
     parser.add_argument("--random", type=int, metavar="COUNT", help="random documents, until so many lines were accepted")
     parser.add_argument("--seed", type=int, default=1, help="of the first random document, and of the random rows")
+    parser.add_argument("--guard", action="store_true", help="random documents have a guard, and are run by the command guard")
     parser.add_argument("--program", default=str(TOP / "crates/sql_tool/out/sql_tool"))
     parser.add_argument("--dialect", action="append", choices=sorted(DIALECTS), help="on this one's server alone")
     parser.add_argument("--rows", type=int, default=3, help="a table has at most so many")
@@ -196,10 +205,11 @@ def main():
         return 0
     started = start(given.dialect or DIALECTS)
     report = Report(given.show)
+    report.check_evaluator()
     try:
         runner = Runner(given.program, started, report, given.rows)
         if given.random is not None:
-            run_random(runner, given.random, given.seed)
+            run_random(runner, given.random, given.seed, given.guard)
         else:
             chosen = [(path.name, json.loads(path.read_text())) for path in given.documents] or stored()
             for name, document in chosen:

@@ -7,6 +7,7 @@ import servers
 class Sqlite:
     name = "SQLite"
     dialect = "Sqlite"
+    has_types = False
     types = {"SmallInt": "smallint", "Integer": "integer", "BigInt": "bigint", "Text": "text", "Binary": "blob", "Bool": "boolean"}
 
     def __init__(self):
