@@ -15,12 +15,15 @@ KNOWN = [
     ("PostgreSQL", r"SELECT DISTINCT ON expressions must match initial ORDER BY", "DISTINCT ON",
      "DISTINCT ON, and an order by an expression that holds a value"),
     ("PostgreSQL", r"aggregate functions are not allowed in JOIN conditions", "COUNT", "COUNT in ON"),
+    ("MariaDB", r"Incorrect (table|column|database) name ''", None, "an empty name"),
     ("MariaDB", r"syntax to use near 'SHARE", " FOR SHARE", "FOR SHARE, which MySQL has from 8.0 on and MariaDB not"),
     ("MariaDB", r"doesn't yet support 'LIMIT & IN/ALL/ANY/SOME subquery'", r" IN \(.* LIMIT ", "a limit in the subselect of a membership"),
     ("MariaDB", r"Unknown column '-?\d+' in '(ORDER BY|GROUP BY|order clause|group statement)'", r"(ORDER|GROUP) BY ",
      "a bound whole number alone in ORDER BY or GROUP BY, which is the position of a column"),
     ("MariaDB", r"Duplicate column name", r"UNION|INTERSECT|EXCEPT",
      "a combination as a side of a combination, with two columns of one name"),
+    ("SQLite", r"ambiguous column name", None, "two names that differ in the case of letters alone"),
+    ("SQLite", r"parser stack overflow", None, "a text that nests deeper than SQLite's parser goes"),
 ]
 
 

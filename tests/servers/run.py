@@ -17,6 +17,7 @@ import json
 import os
 import pathlib
 import random
+import signal
 import subprocess
 import sys
 import time
@@ -120,7 +121,11 @@ class Runner:
         schema = Schema(document["schema"])
         accepted = {}
         for at, (request, first, second) in enumerate(zip(document["requests"], lines, lines[len(others):])):
-            if "sql" in first and request["dialect"] in self.started:
+            if "sql" not in first:
+                continue
+            if request["dialect"] not in self.started:
+                self.report.add(request["dialect"], {"lines without a server": 1})
+            else:
                 second = Line(schema, others[at], second) if "sql" in second else second
                 accepted.setdefault(request["dialect"], []).append((at + 1, Line(schema, request, first), second))
         for dialect, found in accepted.items():
@@ -203,6 +208,7 @@ def main():
     if not os.access(given.program, os.X_OK):
         print(f"skipped: no program {given.program}")
         return 0
+    signal.signal(signal.SIGTERM, lambda *_: sys.exit("stopped"))  # so that the servers are ended
     started = start(given.dialect or DIALECTS)
     report = Report(given.show)
     report.check_evaluator()
