@@ -223,7 +223,7 @@ def main():
     finally:
         for server in started.values():
             server.stop()
-    report.show()
+        report.show()
     return report.failed != 0
 
 

@@ -14,7 +14,7 @@ import time
 USERS = ("postgres", "nobody")
 PATIENCE = 60
 POSTGRES_OPTIONS = ("fsync=off", "full_page_writes=off", "synchronous_commit=off", "shared_buffers=16MB", "max_connections=10",
-                    "listen_addresses=", "autovacuum=off", "lc_messages=C", "statement_timeout=10s")
+                    "listen_addresses=", "autovacuum=off", "jit=off", "lc_messages=C", "statement_timeout=120s")
 MARIADB_OPTIONS = ("skip-networking", "skip-grant-tables", "skip-log-bin", "innodb-flush-log-at-trx-commit=0", "innodb-flush-method=nosync",
                    "innodb-buffer-pool-size=16M", "character-set-server=utf8mb4", "collation-server=utf8mb4_nopad_bin")
 
