@@ -1,9 +1,19 @@
 """What is asked of a server about each accepted line of a document."""
+import functools
+
 import servers
 import values
 from meaning import Meaning, NoMeaning, TooManyAnswers
-from readings import as_servers_read, by_position
+from readings import as_servers_read, by_position, without_negative_offsets
 from statements import expression, python_value, statement, tables_of
+
+
+# What servers are known to answer otherwise: by the dialect, "" being each.
+DIFFERENCES = {
+    "": [("as servers read NOT", as_servers_read)],
+    "Mysql": [("a bound number in ORDER BY being a position", by_position), ("a negative offset being past all rows", without_negative_offsets)],
+}
+NULLS = ", NULL being the least or the greatest value"
 
 
 class Fault(Exception):
@@ -104,16 +114,18 @@ class Checker:
         except TooManyAnswers:
             self.count("rows with too many answers to follow")
 
-
     def readings(self):
-        """The statement itself, and known differences from it (docs/SERVERS.md)."""
-        changes = [("", lambda s: s), (", as servers read NOT", as_servers_read)]
-        if self.server.dialect == "Mysql":
-            changes += [(f"{what}, a bound number in ORDER BY being a position", lambda s, c=change: by_position(c(s))) for what, change in changes]
-        for what, change in changes:
-            yield what, False, change
-        for what, change in changes:
-            yield what + ", NULL being the least or the greatest value", True, change
+        """The statement itself, and then what is known to differ from it (docs/SERVERS.md): each alone, and all at once."""
+        known = DIFFERENCES[""] + DIFFERENCES.get(self.server.dialect, [])
+        changes = [("", []), *((f", {what}", [change]) for what, change in known), (", several of these", [change for _, change in known])]
+        for nulls_by_size in (False, True):
+            for what, chosen in changes:
+                yield what + nulls_by_size * NULLS, nulls_by_size, functools.partial(changed, chosen)
+
+
+def changed(changes, statement):
+    """The statement after these changes."""
+    return functools.reduce(lambda s, change: change(s), changes, statement)
 
 
 def check_same(line, other):

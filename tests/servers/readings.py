@@ -7,10 +7,10 @@ WHOLE = ("SmallInt", "Integer", "BigInt")
 
 
 def mapped(s, of_statement, of_expression):
-    """The statement with each select statement changed by the one function, after each expression by the other, from the inside out."""
+    """The statement with each statement in it changed by the one function, and each expression by the other, from the inside out."""
     def statement(s):
         if isinstance(s, Combination):
-            return replace(s, left=statement(s.left), right=statement(s.right))
+            return of_statement(replace(s, left=statement(s.left), right=statement(s.right)))
         order = None if s.order is None else [(expression(e), descends) for e, descends in s.order]
         distinct = expression(s.distinct) if isinstance(s.distinct, tuple) else s.distinct
         return of_statement(replace(
@@ -62,6 +62,8 @@ def by_position(s):
         return [found for each in e[1] for found in elements(each)] if e[0] == "list" else [e]
 
     def statement(s):
+        if isinstance(s, Combination):
+            return s
         columns = elements(s.selection)
 
         def item(e):
@@ -70,5 +72,13 @@ def by_position(s):
             return columns[number[2] - 1] if is_position and 1 <= number[2] <= len(columns) else e
 
         return s if s.order is None else replace(s, order=[(item(e), descends) for e, descends in s.order])
+
+    return mapped(s, statement, lambda e: e)
+
+
+def without_negative_offsets(s):
+    """A negative offset is read as one of 64 bits without a sign."""
+    def statement(s):
+        return replace(s, offset=s.offset + (1 << 64)) if s.offset is not None and s.offset < 0 else s
 
     return mapped(s, statement, lambda e: e)

@@ -14,7 +14,10 @@ KNOWN = [
      "DISTINCT, and an order by an expression that is not selected, or that holds a value"),
     ("PostgreSQL", r"SELECT DISTINCT ON expressions must match initial ORDER BY", "DISTINCT ON",
      "DISTINCT ON, and an order by an expression that holds a value"),
+    ("PostgreSQL", r"must appear in the GROUP BY clause or be used in an aggregate", "HAVING", "a column in HAVING that is not grouped"),
     ("PostgreSQL", r"aggregate functions are not allowed in JOIN conditions", "COUNT", "COUNT in ON"),
+    ("MariaDB", r"Unknown column '.*' in 'HAVING'", "HAVING", "a column in HAVING that is not grouped"),
+    ("MariaDB", r"Can't group on", r"GROUP BY", "a bound whole number alone in GROUP BY, which is the position of a column"),
     ("MariaDB", r"Invalid use of group function", r"ON .*COUNT", "COUNT in ON"),
     ("MariaDB", r"Incorrect (table|column|database) name ''", None, "an empty name"),
     ("MariaDB", r"syntax to use near 'SHARE", " FOR SHARE", "FOR SHARE, which MySQL has from 8.0 on and MariaDB not"),
@@ -24,6 +27,7 @@ KNOWN = [
      "a bound whole number alone in ORDER BY or GROUP BY, which is the position of a column"),
     ("MariaDB", r"Duplicate column name", r"UNION|INTERSECT|EXCEPT",
      "a combination as a side of a combination, with two columns of one name"),
+    ("SQLite", r"misuse of aggregate", r"ON .*COUNT", "COUNT in ON"),
     ("SQLite", r"ambiguous column name", None, "two names that differ in the case of letters alone"),
     ("SQLite", r"parser stack overflow", None, "a text that nests deeper than SQLite's parser goes"),
 ]
