@@ -84,6 +84,7 @@ class Checker:
                 if wrong is not None:
                     raise Fault(wrong)
         self.count("executed")
+        self.count("executed, with rows" if rows else "executed, without rows")
         seen = [tuple(values.seen(told, value) for told, value in zip(line.columns, row)) for row in rows]
         self.check_rows(line, seen)
 

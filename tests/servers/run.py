@@ -202,7 +202,7 @@ def main():
     parser.add_argument("--guard", action="store_true", help="random documents have a guard, and are run by the command guard")
     parser.add_argument("--program", default=str(TOP / "crates/sql_tool/out/sql_tool"))
     parser.add_argument("--dialect", action="append", choices=sorted(DIALECTS), help="on this one's server alone")
-    parser.add_argument("--rows", type=int, default=3, help="a table has at most so many")
+    parser.add_argument("--rows", type=int, default=4, help="a table has at most so many")
     parser.add_argument("--show", type=int, default=20, help="so many failures are shown")
     given = parser.parse_args()
     if not os.access(given.program, os.X_OK):
