@@ -36,7 +36,7 @@ KNOWN = [
 def template(message):
     """A message without the names, numbers and places that it quotes; a keyword stays."""
     message = re.sub(r"near '(\w*).*'", r"near \1 ..", message, flags=re.S)
-    message = re.sub(r"column (name: |['\"]).* (in|must) ", r"column .. \2 ", message, flags=re.S)
+    message = re.sub(r"column (name: |['\"]).*? (in|must) ", r"column .. \2 ", message, flags=re.S)
     message = re.sub(r"(?<!\w)'(?![A-Z ]+')[^']*'|\".*\"", "..", message, flags=re.S)
     return re.sub(r"\d+", "N", message)
 
