@@ -4,14 +4,15 @@ import functools
 import servers
 import values
 from meaning import Meaning, NoMeaning, TooManyAnswers
-from readings import as_servers_read, by_position, without_negative_offsets
+from readings import as_servers_read, by_position, with_either_exists, without_negative_offsets
 from statements import expression, python_value, statement, tables_of
 
 
 # What servers are known to answer otherwise: by the dialect, "" being each.
 DIFFERENCES = {
     "": [("as servers read NOT", as_servers_read)],
-    "Mysql": [("a bound number in ORDER BY being a position", by_position), ("a negative offset being past all rows", without_negative_offsets)],
+    "Mysql": [("a bound number in ORDER BY being a position", by_position), ("a negative offset being past all rows", without_negative_offsets),
+              ("EXISTS of a combination in a combination being true or false", with_either_exists)],
 }
 NULLS = ", NULL being the least or the greatest value"
 

@@ -27,7 +27,7 @@ def mapped(s, of_statement, of_expression):
         if e[0] == "list":
             return "list", [expression(each) for each in e[1]]
         if e[0] in ("exists", "single"):
-            return e[0], statement(e[1])
+            return of_expression((e[0], statement(e[1])))
         if e[0] in ("not", "nullable", "count"):
             return e[0], expression(e[1])
         if e[0] in ("compare", "connect"):
@@ -49,8 +49,9 @@ def as_servers_read(s):
     """`NOT (a)` as the left operand of a comparison, a null test or a membership takes the whole of it, since for servers NOT binds less
     tightly than these."""
     def expression(e):
-        operand = bare(e[2])
-        return ("not", (*e[:2], operand[1], *e[3:])) if operand[0] == "not" and e[0] != "connect" else e
+        if e[0] in ("exists", "single", "connect") or bare(e[2])[0] != "not":
+            return e
+        return "not", (*e[:2], bare(e[2])[1], *e[3:])
 
     return mapped(s, lambda s: s, expression)
 
@@ -82,3 +83,13 @@ def without_negative_offsets(s):
         return replace(s, offset=s.offset + (1 << 64)) if s.offset is not None and s.offset < 0 else s
 
     return mapped(s, statement, lambda e: e)
+
+
+def with_either_exists(s):
+    """EXISTS of a combination, of which a side is a combination, is true or false: a fault of MariaDB."""
+    def expression(e):
+        if e[0] == "exists" and isinstance(e[1], Combination) and any(isinstance(side, Combination) for side in (e[1].left, e[1].right)):
+            return ("either",)
+        return e
+
+    return mapped(s, lambda s: s, expression)
