@@ -4,7 +4,7 @@ import functools
 import servers
 import values
 from meaning import Meaning, NoMeaning, TooManyAnswers
-from readings import as_servers_read, by_position, with_either_exists, without_negative_offsets
+from readings import as_servers_read, by_position, distinct_after_page, with_open_combinations, without_negative_offsets
 from statements import expression, python_value, statement, tables_of
 
 
@@ -12,7 +12,8 @@ from statements import expression, python_value, statement, tables_of
 DIFFERENCES = {
     "": [("as servers read NOT", as_servers_read)],
     "Mysql": [("a bound number in ORDER BY being a position", by_position), ("a negative offset being past all rows", without_negative_offsets),
-              ("EXISTS of a combination in a combination being true or false", with_either_exists)],
+              ("EXISTS of, or a membership in, a combination being open", with_open_combinations),
+              ("DISTINCT over values being a limit after the offset", distinct_after_page)],
 }
 NULLS = ", NULL being the least or the greatest value"
 

@@ -187,7 +187,7 @@ class Meaning:
 
     def subselect_values(self, tag, e, frame):
         if tag == "either":
-            return True, False
+            return True, False, None
         if tag == "exists":
             return distinct(bool(cells) for cells in self.pages(e[1], frame))
         if tag == "single":

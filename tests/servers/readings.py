@@ -1,9 +1,11 @@
 """Known differences between what a text means and what servers make of it, as changes of the statement (docs/SERVERS.md)."""
 from dataclasses import replace
 
-from statements import Combination
+from statements import Combination, nodes, statements_in
 
 WHOLE = ("SmallInt", "Integer", "BigInt")
+# What depends on a row, or on a subselect.
+ROWS = ("column", "exists", "single", "among_rows")
 
 
 def mapped(s, of_statement, of_expression):
@@ -85,11 +87,25 @@ def without_negative_offsets(s):
     return mapped(s, statement, lambda e: e)
 
 
-def with_either_exists(s):
-    """EXISTS of a combination, of which a side is a combination, is true or false: a fault of MariaDB."""
-    def expression(e):
-        if e[0] == "exists" and isinstance(e[1], Combination) and any(isinstance(side, Combination) for side in (e[1].left, e[1].right)):
-            return ("either",)
-        return e
+def with_open_combinations(s):
+    """EXISTS of a combination of which a side is a combination, and a membership in an INTERSECT or EXCEPT, give any value: MariaDB pushes
+    into the sides what it should ask of the whole."""
+    def is_open(e):
+        if e[0] == "exists":
+            return isinstance(e[1], Combination) and any(isinstance(side, Combination) for side in (e[1].left, e[1].right))
+        return e[0] == "among_rows" and any(is_difference(inner) for inner in statements_in(e[3]))
 
-    return mapped(s, lambda s: s, expression)
+    def is_difference(s):
+        return isinstance(s, Combination) and s.operator != "union"
+
+    return mapped(s, lambda s: s, lambda e: ("either",) if is_open(e) else e)
+
+
+def distinct_after_page(s):
+    """DISTINCT over values alone is a limit of one row, after the offset."""
+    def statement(s):
+        if isinstance(s, Combination) or s.distinct != "distinct" or any(node[0] in ROWS for node in nodes(s.selection)):
+            return s
+        return replace(s, distinct=None, limit=0 if s.limit == 0 else 1)
+
+    return mapped(s, statement, lambda e: e)
