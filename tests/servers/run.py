@@ -110,8 +110,9 @@ class Runner:
         self.report = report
         self.most = most
 
-    def run(self, name, document, chance):
+    def run(self, name, document, seed):
         """Asks each server about each accepted line of its dialect. How many lines were accepted."""
+        chance = random.Random(seed)
         command = "guard" if "guard" in document else "build"
         others = [values.other_values(chance, request) for request in document["requests"]]
         lines = answers(self.program, command, {**document, "requests": document["requests"] + others})
@@ -129,7 +130,7 @@ class Runner:
                 second = Line(schema, others[at], second) if "sql" in second else second
                 accepted.setdefault(request["dialect"], []).append((at + 1, Line(schema, request, first), second))
         for dialect, found in accepted.items():
-            self.run_on(self.started[dialect], name, schema, document.get("guard"), found, chance)
+            self.run_on(self.started[dialect], name, schema, document.get("guard"), found, random.Random(f"{seed} {dialect}"))
         return sum("sql" in line for line in lines[:len(others)])
 
     def run_on(self, server, name, schema, guard, found, chance):
@@ -189,7 +190,7 @@ def run_random(runner, count, seed, is_guarded):
     while done < count:
         document = documents.document(random.Random(seed), is_guarded=is_guarded)
         requests += len(document["requests"])
-        done += runner.run(f"document of --seed {seed}", document, random.Random(seed))
+        done += runner.run(f"document of --seed {seed}", document, seed)
         seed += 1
     print(f"{done} lines accepted of {requests}, up to seed {seed - 1}")
 
@@ -219,7 +220,7 @@ def main():
         else:
             chosen = [(path.name, json.loads(path.read_text())) for path in given.documents] or stored()
             for name, document in chosen:
-                runner.run(name, document, random.Random(given.seed))
+                runner.run(name, document, given.seed)
     finally:
         for server in started.values():
             server.stop()
