@@ -51,6 +51,7 @@ class Checker:
         self.schema = schema
         self.meaning = Meaning(schema, database)
         self.refused_tables = refused_tables
+        self.asked = None
         self.counts = {}
 
     def count(self, what):
@@ -63,7 +64,8 @@ class Checker:
         return None
 
     def check(self, line, other):
-        """Asks about a line, and with the same prepared text about one that has other values. A Fault or a Refused where it fails."""
+        """Asks about a line, and with the same prepared text about one that has other values. A Fault or a Refused where it fails, and
+        then `asked` is the one of the two."""
         try:
             placeholders, columns = self.server.prepare(line.sql, line.kinds)
             if placeholders != len(line.values):
@@ -72,6 +74,7 @@ class Checker:
             self.execute(line)
             if other is not None:
                 check_same(line, other)
+                self.asked = other
                 self.execute(other)
                 self.count("other values")
         finally:

@@ -151,14 +151,15 @@ class Runner:
             report.refuse(server, name, line, "CREATE: " + missing)
             return
         try:
+            checker.asked = line
             if isinstance(other, dict):
                 raise Fault(f"with other values: {other}")
             checker.check(line, other)
             report.passed += 1
         except servers.Refused as error:
-            report.refuse(server, name, line, str(error))
+            report.refuse(server, name, checker.asked, str(error))
         except Fault as error:
-            report.fail(name, line, f"{error}\n    request: {json.dumps(line.request, ensure_ascii=False)}")
+            report.fail(name, checker.asked, f"{error}\n    request: {json.dumps(checker.asked.request, ensure_ascii=False)}")
 
 
 def start(wanted):
