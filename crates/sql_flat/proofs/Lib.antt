@@ -1,0 +1,5 @@
+pub mod Among
+pub mod Clauses
+pub mod Lists
+pub mod Reads
+pub mod Stacking

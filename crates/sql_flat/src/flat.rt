@@ -1,0 +1,64 @@
+ghost use Rattle.std.specs.Prelude.{◌≡◌, IfOk};
+ghost use Rattle.sql_node.specs.View.{statement_tree};
+ghost use Rattle.sql_flat.specs.Flat.{flat_of};
+
+use crate::FlatNode;
+use crate::reading::read_statement;
+use crate::statement::push_statement;
+use sql_node::Statement;
+use sql_schema::NoMemory;
+use std::alloc::Global;
+use std::marker::Model;
+
+/// The flat list of a statement: its nodes, each before its children, with all their values. It is made by `flatten` alone, so it
+/// always is the list of a statement.
+#[derive(Debug, Drop)]
+pub struct Flat {
+    nodes: Vec<FlatNode>,
+}
+
+impl Model for Flat {
+    ghost use Rattle.std.specs.Prelude.{◌≡◌, List};
+    ghost use Rattle.sql_node.specs.Tree.{Statement};
+    ghost use Rattle.sql_flat.specs.Flat.{flat_of};
+    ghost use Rattle.sql_flat.specs.declared.kind.FlatNode.{FlatNode};
+
+    ghost Value = { List FlatNode };
+
+    ghost view = { λ f. f.nodes.items };
+
+    ghost invariant = { λ f. (s : Statement) × (f.nodes.items ≡ flat_of s) };
+}
+
+/// The flat list of the statement.
+#[tactic(auto, using(sql_rose::proofs::Adding::alone))]
+pub fn flatten(alloc: Global, statement: &Statement) -> Result<Flat, NoMemory>
+    ensures { IfOk result (λ f. f ≡ flat_of (statement_tree statement.now)) }
+{
+    let mut nodes = Vec::new(alloc);
+    push_statement(alloc, statement, &mut nodes)?;
+    Ok(Flat { nodes })
+}
+
+impl Flat {
+    ghost use Rattle.std.specs.Prelude.{◌≡◌, IfOk};
+    ghost use Rattle.sql_node.specs.Tree.{Statement};
+    ghost use Rattle.sql_node.specs.View.{statement_tree};
+    ghost use Rattle.sql_flat.specs.Flat.{flat_of};
+
+    /// The nodes, borrowed.
+    pub fn nodes(&self) -> &[FlatNode]
+        ensures nodes { result.now ≡ self.now }
+        // Every flat list is that of a statement.
+        ensures statement { (s : Statement) × (self.now ≡ flat_of s) }
+    {
+        self.nodes.as_slice()
+    }
+
+    /// The statement whose flat list it is.
+    pub fn unflatten(&self, alloc: Global) -> Result<Statement, NoMemory>
+        ensures { IfOk result (λ s. flat_of (statement_tree s) ≡ self.now) }
+    {
+        read_statement(alloc, self.nodes())
+    }
+}
