@@ -1,5 +1,5 @@
 -- A statement as a tree of nodes of one kind, in writing order, and its flat list: each node before its children, with the
--- place after its last descendant.
+-- index after its last descendant.
 use Rattle.std.specs.Prelude.{true, false, Bool, ℕ, Option, None, Some, List, []}
 use Rattle.sql_leaf.specs.declared.limit_offset.LimitOffsetClause.{LimitOffsetClause}
 use Rattle.sql_leaf.specs.declared.marks.Marks.{Marks}

@@ -8,7 +8,7 @@ ghost use Rattle.sql_flat.specs.Flat.{flat_node};
 use crate::{FlatKind, FlatNode};
 use sql_schema::NoMemory;
 
-/// Appends a node and returns its place. Its end isn't known yet.
+/// Appends a node and returns its index. Its end isn't known yet.
 pub(crate) fn open(nodes: &mut Vec<FlatNode>, kind: FlatKind) -> Result<usize, NoMemory>
     ensures { IfOk result (λ at. Opens flat_node nodes.old.items kind none at nodes.new.items) }
 {
@@ -17,7 +17,7 @@ pub(crate) fn open(nodes: &mut Vec<FlatNode>, kind: FlatKind) -> Result<usize, N
     Ok(at)
 }
 
-/// Ends the node at that place after the last one.
+/// Ends the node at that index after the last one.
 pub(crate) fn close(nodes: &mut Vec<FlatNode>, at: usize)
     ensures { Closes flat_node nodes.old.items at nodes.new.items }
 {

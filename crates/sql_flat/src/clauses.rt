@@ -39,10 +39,6 @@ fn plain_distinct(unique: Uniqueness) -> DistinctClause
 
 #[tactic(auto, using(sql_node::proofs::Trees::opens_from_clause, sql_node::proofs::Trees::opens_distinct_clause, sql_node::proofs::Trees::opens_where_clause, sql_node::proofs::Trees::opens_group_by_clause, sql_node::proofs::Trees::opens_having_clause, sql_node::proofs::Trees::opens_order_clause))]
 impl Clauses {
-    ghost use Rattle.std.specs.Prelude.{◌≡◌};
-    ghost use Rattle.sql_flat.specs.inside.Parts.{no_clauses, put_clause};
-    ghost use Rattle.sql_flat.specs.inside.Stacks.{clauses_of, part_of};
-
     /// None yet.
     pub(crate) fn none(unique: Uniqueness) -> Clauses
         ensures { clauses_of result ≡ no_clauses unique }

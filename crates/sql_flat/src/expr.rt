@@ -118,7 +118,7 @@ pub(crate) fn push_over(
     Ok(())
 }
 
-/// Pushes a node over the expression and a second part, which the caller pushes next; returns the node's place.
+/// Pushes a node over the expression and a second part, which the caller pushes next; returns the node's index.
 #[cycle(walk)]
 fn push_first(
     alloc: Global,
@@ -134,7 +134,7 @@ fn push_first(
     Ok(at)
 }
 
-/// Pushes the last expression under the node at that place.
+/// Pushes the last expression under the node at that index.
 #[cycle(walk)]
 fn push_last(alloc: Global, at: usize, b: &Expr, nodes: &mut Vec<FlatNode>) -> Result<(), NoMemory>
     ensures { OnOk result
@@ -188,7 +188,7 @@ fn push_sought(alloc: Global, among: &InValues, nodes: &mut Vec<FlatNode>) -> Re
     }
 }
 
-/// Pushes what a membership looks in as the last part under the node at that place.
+/// Pushes what a membership looks in as the last part under the node at that index.
 #[cycle(walk)]
 fn push_among(
     alloc: Global,

@@ -1,4 +1,5 @@
 ghost use Rattle.std.specs.Prelude.{◌≡◌, IfOk};
+ghost use Rattle.sql_node.specs.Tree as t;
 ghost use Rattle.sql_node.specs.View.{statement_tree};
 ghost use Rattle.sql_flat.specs.Flat.{flat_of};
 
@@ -41,16 +42,11 @@ pub fn flatten(alloc: Global, statement: &Statement) -> Result<Flat, NoMemory>
 }
 
 impl Flat {
-    ghost use Rattle.std.specs.Prelude.{◌≡◌, IfOk};
-    ghost use Rattle.sql_node.specs.Tree.{Statement};
-    ghost use Rattle.sql_node.specs.View.{statement_tree};
-    ghost use Rattle.sql_flat.specs.Flat.{flat_of};
-
     /// The nodes, borrowed.
     pub fn nodes(&self) -> &[FlatNode]
         ensures nodes { result.now ≡ self.now }
         // Every flat list is that of a statement.
-        ensures statement { (s : Statement) × (self.now ≡ flat_of s) }
+        ensures statement { (s : t.Statement) × (self.now ≡ flat_of s) }
     {
         self.nodes.as_slice()
     }

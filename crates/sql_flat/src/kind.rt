@@ -106,7 +106,7 @@ pub enum FlatKind {
     Position(PositionalItem),
 }
 
-/// A node in a flat list, with the place after its last descendant.
+/// A node in a flat list, with the index after its last descendant.
 #[derive(Debug, Drop)]
 pub struct FlatNode {
     pub kind: FlatKind,

@@ -2,8 +2,8 @@
 #![tactic(auto)]
 
 ghost use Rattle.std.specs.Prelude.{◌≡◌, ◌++◌, OnOk, option_map, map};
-ghost use Rattle.sql_node.specs.View.{expr_tree, in_values_tree, order_item_tree, source_tree, statement_tree};
-ghost use Rattle.sql_flat.specs.inside.Parts.{among_in, expr_of, exprs_at, items_at, on_of, positions_at, positions_of, source_of, statement_of, values_at};
+ghost use Rattle.sql_node.specs.View.{expr_tree, order_item_tree, source_tree, statement_tree};
+ghost use Rattle.sql_flat.specs.inside.Parts.{expr_of, exprs_at, items_at, on_of, positions_at, positions_of, source_of, statement_of, values_at};
 ghost use Rattle.sql_flat.specs.inside.Stacks.{part_of};
 
 use sql_leaf::PositionalItem;
@@ -35,11 +35,6 @@ pub(crate) enum Part {
 }
 
 impl Part {
-    ghost use Rattle.std.specs.Prelude.{◌≡◌, option_map};
-    ghost use Rattle.sql_node.specs.View.{expr_tree, source_tree, statement_tree};
-    ghost use Rattle.sql_flat.specs.inside.Parts.{expr_of, on_of, positions_of, source_of, statement_of};
-    ghost use Rattle.sql_flat.specs.inside.Stacks.{part_of};
-
     pub(crate) fn expr(self) -> Option<Expr>
         ensures { option_map expr_tree result ≡ expr_of (part_of self) }
     {

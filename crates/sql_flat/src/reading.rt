@@ -6,7 +6,7 @@ ghost use Rattle.sql_node.specs.Tree.{Statement as Tree};
 ghost use Rattle.sql_node.specs.View.{statement_tree};
 ghost use Rattle.sql_flat.specs.Flat.{flat_of};
 ghost use Rattle.sql_flat.specs.declared.kind.FlatKind.TheVariants as K;
-ghost use Rattle.sql_flat.specs.inside.Parts.{first, others, over, over_few};
+ghost use Rattle.sql_flat.specs.inside.Parts.{over, over_three};
 ghost use Rattle.sql_flat.specs.inside.Stacks.{part_of, put_at, read_from, split, stack};
 
 use crate::clauses::select_part;
@@ -65,8 +65,8 @@ fn few_part(
     end: usize,
     done: &mut Vec<Done>,
 ) -> Result<Part, NoMemory>
-    ensures part { IfOk result (λ p. let ps = (split end done.old.items).0
-        in part_of p ≡ over_few kind.now (first ps) (first (others ps)) (first (others (others ps)))) }
+    ensures part { IfOk result (λ p. part_of p
+        ≡ over_three kind.now (split end done.old.items).0) }
     ensures left { OnOk result (stack done.new.items ≡ (split end done.old.items).1) }
 {
     let one = next(done, end);
@@ -99,12 +99,12 @@ fn part_over(
     }
 }
 
-fn put(alloc: Global, place: usize, node: &FlatNode, done: &mut Vec<Done>) -> Result<(), NoMemory>
+fn put(alloc: Global, index: usize, node: &FlatNode, done: &mut Vec<Done>) -> Result<(), NoMemory>
     ensures { OnOk result (stack done.new.items
-        ≡ put_at place node.now.kind (split node.now.end done.old.items)) }
+        ≡ put_at index node.now.kind (split node.now.end done.old.items)) }
 {
     let part = part_over(alloc, &node.kind, node.end, done)?;
-    done.push(Done { start: place, part })?;
+    done.push(Done { start: index, part })?;
     Ok(())
 }
 
@@ -112,10 +112,10 @@ fn read(alloc: Global, nodes: &[FlatNode]) -> Result<Vec<Done>, NoMemory>
     ensures { IfOk result (λ v. stack v.items ≡ read_from 0 nodes.now) }
 {
     let mut done = Vec::new(alloc);
-    let mut place = nodes.len();
-    while place > 0 {
-        place -= 1;
-        put(alloc, place, &nodes[place], &mut done)?;
+    let mut index = nodes.len();
+    while index > 0 {
+        index -= 1;
+        put(alloc, index, &nodes[index], &mut done)?;
     }
     Ok(done)
 }

@@ -20,7 +20,7 @@ module _ {K N B : Type 0} (make : K → ℕ → N) (kind : N → K) (end : N →
   gather-stops e u i [] h = refl
   gather-stops e u i (x ∷ xs) h = rw (le-ltb i e h) refl
 
-  -- a place that was reached holds nothing back
+  -- an index that was reached holds nothing back
   pub gather-reached : (e u w i : ℕ) (xs : List N) → u ≤ i → w ≤ i → gather e u i xs ≡ gather e w i xs
   gather-reached e u w i [] h g = refl
   gather-reached e u w i (x ∷ xs) h g =
@@ -33,7 +33,7 @@ module _ {K N B : Type 0} (make : K → ℕ → N) (kind : N → K) (end : N →
       by_test true g = refl
       by_test false g = g
 
-  -- nothing is gathered before the place u
+  -- nothing is gathered before the index u
   gather-jumps : (k e u i : ℕ) (xs : List N) → i + k ≡ u → gather e u i xs ≡ gather e u u (drop k xs)
   gather-jumps zero e u i xs h = ap (λ j. gather e u j xs) (omega arith)
   gather-jumps (suc k) e u i [] h = ap (gather e u u) (sym (drop_all (suc k) [] (omega arith)))
@@ -83,7 +83,7 @@ module _ {K N B : Type 0} (make : K → ℕ → N) (kind : N → K) (end : N →
 
   module _ (kind-make : (k : K) (e : ℕ) → kind (make k e) ≡ k) (end-make : (k : K) (e : ℕ) → end (make k e) ≡ e) where
     mutual
-      -- a tree before the place u is passed over
+      -- a tree before the index u is passed over
       pub passes : (e u n : ℕ) (t : Rose K) (rest : List N) → n + size t ≤ u → u ≤ e
           → gather e u n (flat make n t rest) ≡ gather e u (n + size t) rest
       passes e u n (node k ts) rest h g =

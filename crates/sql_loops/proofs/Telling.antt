@@ -103,7 +103,7 @@ module _ {K N A : Type 0} (make : K → ℕ → N) (kind : N → K) (end : N →
       ≡ begin (reads i x xs) (is_list (kind x)) (kind x) (end x) (λ w gs c. tell w gs c (i + 1) xs) [] b
   begins-alone b i x xs = here 0 [] b i x xs (omega arith)
 
-  -- nothing is written before the place u, which lies k further on
+  -- nothing is written before the index u, which lies k further on
   pub jumps : (k u : ℕ) (fs : Frames) (b : Bool) (i : ℕ) (xs : List N) → i + k ≡ u
       → tell u fs b i xs ≡ tell 0 fs b u (drop k xs)
   jumps zero u fs b i xs h = ap (λ j. tell u fs b j xs) (omega arith) ∙ reached u 0 fs b u xs (omega arith) (omega arith)
@@ -137,7 +137,7 @@ module _ {K N A : Type 0} (make : K → ℕ → N) (kind : N → K) (end : N →
     writes = told whole is_list before between after comma
 
     mutual
-      -- a tree before the place u is passed over
+      -- a tree before the index u is passed over
       passes : (u n : ℕ) (t : Rose K) (rest : List N) (fs : Frames) (b : Bool) → n + size t ≤ u
           → tell u fs b n (flat make n t rest) ≡ tell u fs b (n + size t) rest
       passes u n (node k ts) rest fs b h =

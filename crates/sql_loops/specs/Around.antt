@@ -10,7 +10,7 @@ module _ {V K N : Type 0} (kind : N → K) (end : N → ℕ) (outer : V) (keeps 
   abbrev pub Open : Type 0
   Open = List (ℕ × V)
 
-  -- those that are open still at the place i
+  -- those that are open still at the index i
   abbrev pub opened : ℕ → Open → Open
   opened i [] = []
   opened i (p ∷ σ) = cond (ltb i p.0) (p ∷ σ) (opened i σ)
@@ -28,7 +28,7 @@ module _ {V K N : Type 0} (kind : N → K) (end : N → ℕ) (outer : V) (keeps 
       record { around = top σ; kind = kind x; within = reads (top σ) i x xs }
       ∷ behind (entered (keeps (kind x)) (end x) (reads (top σ) i x xs) σ)
 
-  -- the sites of the nodes from the place i on
+  -- the sites of the nodes from the index i on
   abbrev pub walk : Open → ℕ → List N → List (Site V K)
   walk σ i [] = []
   walk σ i (x ∷ xs) = visit i x xs (λ τ. walk τ (i + 1) xs) (opened i σ)

@@ -4,7 +4,7 @@ use Rattle.std.proofs.Common.{ltb}
 
 -- `over` says what a node of a kind gives over what its children give
 module _ {K N A : Type 0} (kind : N → K) (end : N → ℕ) (over : K → List A → A) where
-  -- the places where trees begin, and what they give
+  -- the indices where trees begin, and what they give
   abbrev pub Given : Type 0
   Given = List (ℕ × A)
 
@@ -19,7 +19,7 @@ module _ {K N A : Type 0} (kind : N → K) (end : N → ℕ) (over : K → List 
   abbrev pub put : ℕ → K → List A × Given → Given
   put i k p = (i, over k p.0) ∷ p.1
 
-  -- the stack when the nodes from the place i on are done
+  -- the stack when the nodes from the index i on are done
   abbrev pub run : ℕ → List N → Given
   run i [] = []
   run i (x ∷ xs) = put i (kind x) (before (end x) (run (i + 1) xs))

@@ -8,7 +8,7 @@ module _ {K N B : Type 0} (kind : N → K) (end : N → ℕ) (at : K → List B)
   next true e u = e
   next false e u = u
 
-  -- what is gathered from the place i to the end e, where nothing is before the place u
+  -- what is gathered from the index i to the end e, where nothing is before the index u
   abbrev pub gather : ℕ → ℕ → ℕ → List N → List B
   gather e u i [] = []
   gather e u i (x ∷ xs) =
@@ -17,6 +17,6 @@ module _ {K N B : Type 0} (kind : N → K) (end : N → ℕ) (at : K → List B)
       (at (kind x) ++ gather e (next (passed (kind x)) (end x) u) (i + 1) xs))
       []
 
-  -- the place of the node after the one at p that is not passed over
+  -- the index of the node after the one at p that is not passed over
   abbrev pub after : ℕ → N → ℕ
   after p x = if passed (kind x) && ltb p (end x) then end x else p + 1

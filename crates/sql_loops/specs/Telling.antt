@@ -56,7 +56,7 @@ module _ {K N A : Type 0} (kind : N → K) (end : N → ℕ) (reads : ℕ → N 
       leads fs
       ++ ((part (firsts fs b) ++ before k) ++ behind 0 (record { kind = k; begun = 0; end = e } ∷ counted fs) true)
 
-  -- what is written from the place i on, and nothing before the place u
+  -- what is written from the index i on, and nothing before the index u
   abbrev pub tell : ℕ → Frames → Bool → ℕ → List N → List A
   tell u fs b i [] = last fs b
   tell u fs b i (x ∷ xs) =

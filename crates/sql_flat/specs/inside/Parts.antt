@@ -243,10 +243,13 @@ selected s (Some e) c =
 abbrev pub over_clauses : Selecting → Clauses → Part
 over_clauses s c = selected s c.selection c
 
+abbrev pub over_three : FlatKind → List Part → Part
+over_three k ps = over_few k (first ps) (first (others ps)) (first (others (others ps)))
+
 abbrev pub over : FlatKind → List Part → Part
 over K.List ps = expr_part (list (exprs_of (exprs_in ps)))
 over (K.Values t) ps = values_part t (values_in ps)
 over K.OrderBy ps = order_part (items_of (items_in ps))
 over K.Positions ps = positions_part (positions_in ps)
 over (K.Select s) ps = over_clauses s (put_clauses (no_clauses s.unique) ps)
-over k ps = over_few k (first ps) (first (others ps)) (first (others (others ps)))
+over k ps = over_three k ps

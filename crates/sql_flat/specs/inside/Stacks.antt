@@ -59,10 +59,10 @@ stack ds = map done_of (reverse ds)
 abbrev pub split : ℕ → List Done → List Part × List (ℕ × Part)
 split e ds = before kind_of end_of over e (stack ds)
 
--- the stack with the tree of a node of a kind at a place, over those that were split off
+-- the stack with the tree of a node of a kind at an index, over those that were split off
 abbrev pub put_at : ℕ → FlatKind → List Part × List (ℕ × Part) → List (ℕ × Part)
 put_at = put kind_of end_of over
 
--- the stack when the nodes from a place on are done
+-- the stack when the nodes from an index on are done
 abbrev pub read_from : ℕ → List FlatNode → List (ℕ × Part)
 read_from = run kind_of end_of over
