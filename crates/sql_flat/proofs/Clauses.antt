@@ -1,5 +1,5 @@
 -- The nodes of clauses that may be there, before those that follow.
-use Rattle.std.proofs.Common.{◌≡◌, List, append-nil, subst, sym, ◌∙◌}
+use Rattle.std.proofs.Common.{List, append-nil, subst, ◌∙◌}
 use Rattle.sql_node.specs.Tree.{MaybeExpr, no_expr, an_expr, From, no_source, from, Distinct, every, distinct, distinct_on}
 use Rattle.sql_rose.specs.Building.{Adds, adds}
 use Rattle.sql_rose.specs.Rose.{Roses, none}

@@ -4,7 +4,7 @@
 ghost use Rattle.std.specs.Prelude.{◌≡◌, OnOk};
 ghost use Rattle.sql_node.specs.View.{boxed_select_statement_tree, combination_clause_tree, distinct_clause_tree, select_clause_tree, select_statement_tree, statement_tree};
 ghost use Rattle.sql_rose.specs.Building.{Adds};
-ghost use Rattle.sql_rose.specs.Rose.{leaf, node, one, roses_of};
+ghost use Rattle.sql_rose.specs.Rose.{leaf, one, roses_of};
 ghost use Rattle.sql_flat.specs.Flat.{flat_node, positions_roses, rose, uniqueness};
 ghost use Rattle.sql_flat.specs.declared.kind.FlatKind.TheVariants as K;
 

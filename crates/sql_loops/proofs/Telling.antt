@@ -1,10 +1,10 @@
 -- The loop from the first node to the last that writes, with a stack of the nodes that are open.
-use Rattle.std.proofs.Common.{drop, zero, ◌≡◌, ℕ, suc, ◌+◌, ◌<◌, ◌≤◌, true, false, Bool, cond, List, [], ◌∷◌, ◌++◌, Option, None, Some, refl, sym, ap, ◌∙◌, arith, ltb, append_assoc, append-nil, if◌then◌else◌}
+use Rattle.std.proofs.Common.{drop, zero, ◌≡◌, ℕ, suc, ◌+◌, ◌<◌, ◌≤◌, true, false, Bool, List, [], ◌∷◌, ◌++◌, Option, None, Some, refl, sym, ap, ◌∙◌, arith, append_assoc, append-nil}
 use Rattle.std.proofs.lemmas.Bool.{lt-ltb, le-ltb}
 use Rattle.sql_rose.specs.Rose.{Rose, node, Roses, none, more, size, sizes, flat, flats}
 use Rattle.sql_loops.specs.Telling as loop
 use Rattle.sql_loops.specs.Telling.{Frame}
-use Rattle.sql_loops.specs.Told.{parted, still_by, told_by, still, stills, told, told_elements, told_kids}
+use Rattle.sql_loops.specs.Told.{still_by, told_by, still, stills, told, told_elements, told_kids}
 
 module _ {K N A : Type 0} (make : K → ℕ → N) (kind : N → K) (end : N → ℕ) (reads : ℕ → N → List N → Option (List A)) (is_list : K → Bool) (before : K → List A) (between : K → ℕ → List A) (after : K → List A) (comma : List A) where
   abbrev Frames : Type 0
