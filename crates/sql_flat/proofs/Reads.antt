@@ -12,10 +12,9 @@ use Rattle.sql_node.specs.View.{exprs_of, items_of, maybe_of}
 use Rattle.sql_flat.specs.declared.kind.FlatKind.{FlatKind}
 use Rattle.sql_flat.specs.declared.kind.FlatKind.TheVariants as K
 use Rattle.sql_flat.specs.declared.kind.FlatNode.{FlatNode}
-use Rattle.sql_flat.specs.declared.stack.Done.{Done}
 use Rattle.sql_flat.specs.Flat.{flat_node, flat_of, comparison_of, logic_of, form_of, uniqueness, expr_rose, exprs_roses, items_roses, maybe_roses, source_rose, from_roses, distinct_roses, order_roses, positions_roses, rose, selecting_of}
 use Rattle.sql_flat.specs.inside.Parts.{Part, expr_part, source_part, statement_part, order_part, Clauses, no_clauses, comparison_in, logic_in, form_in, exprs_in, items_in, values_in, positions_in, first, on_of, positions_of, statement_of, put_clauses, over_clauses, over}
-use Rattle.sql_flat.specs.inside.Stacks.{kind_of, end_of, split, stack, read_from}
+use Rattle.sql_flat.specs.inside.Stacks.{kind_of, end_of, read_from, root_of}
 
 -- what a tree of nodes stands for, and each of some
 abbrev read : Rose FlatKind → Part
@@ -220,10 +219,9 @@ all-read s =
     run-flat flat_node kind_of end_of over (λ _ _. refl) (λ _ _. refl) (rose s)
     ∙ ap (λ p. (0, p) ∷ []) (statement-read s)
 
--- the one that is left on the stack
-pub root : (s : Statement) (nodes : List FlatNode) (ds : List Done) → nodes ≡ flat_of s → stack ds ≡ read_from 0 nodes
-    → first (split 1 ds).0 ≡ statement_part s
-root s nodes ds h g = rw (g, h, all-read s) refl
+-- the list of a statement stands for it
+pub root-read : (s : Statement) (nodes : List FlatNode) → nodes ≡ flat_of s → root_of (read_from 0 nodes) ≡ Some s
+root-read s nodes h = rw (h, all-read s) refl
 
 -- one statement to a list
 pub one-statement : (a b : Statement) → flat_of a ≡ flat_of b → a ≡ b

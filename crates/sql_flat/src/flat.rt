@@ -55,6 +55,9 @@ impl Flat {
     pub fn unflatten(&self, alloc: Global) -> Result<Statement, NoMemory>
         ensures { IfOk result (λ s. flat_of (statement_tree s) ≡ self.now) }
     {
-        read_statement(alloc, self.nodes())
+        match read_statement(alloc, self.nodes())? {
+            Some(statement) => Ok(statement),
+            None => unreachable!(),
+        }
     }
 }

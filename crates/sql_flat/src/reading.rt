@@ -1,13 +1,11 @@
 //! The statement of a flat list, by one loop from the last node to the first.
 #![tactic(auto, using(crate::proofs::Stacking::stacking))]
 
-ghost use Rattle.std.specs.Prelude.{◌≡◌, IfOk, OnOk};
-ghost use Rattle.sql_node.specs.Tree.{Statement as Tree};
+ghost use Rattle.std.specs.Prelude.{◌≡◌, IfOk, OnOk, option_map};
 ghost use Rattle.sql_node.specs.View.{statement_tree};
-ghost use Rattle.sql_flat.specs.Flat.{flat_of};
 ghost use Rattle.sql_flat.specs.declared.kind.FlatKind.TheVariants as K;
 ghost use Rattle.sql_flat.specs.inside.Parts.{over, over_three};
-ghost use Rattle.sql_flat.specs.inside.Stacks.{part_of, put_at, read_from, split, stack};
+ghost use Rattle.sql_flat.specs.inside.Stacks.{part_of, put_at, read_from, root_of, split, stack};
 
 use crate::clauses::select_part;
 use crate::over::part_over_few;
@@ -120,14 +118,13 @@ fn read(alloc: Global, nodes: &[FlatNode]) -> Result<Vec<Done>, NoMemory>
     Ok(done)
 }
 
-/// The statement whose flat list this is.
-pub(crate) fn read_statement(alloc: Global, nodes: &[FlatNode]) -> Result<Statement, NoMemory>
-    requires { (s : Tree) × (nodes.now ≡ flat_of s) }
-    ensures { IfOk result (λ s. flat_of (statement_tree s) ≡ nodes.now) }
+/// The statement that the whole list stands for, where it stands for one.
+pub(crate) fn read_statement(
+    alloc: Global,
+    nodes: &[FlatNode],
+) -> Result<Option<Statement>, NoMemory>
+    ensures { IfOk result (λ s. option_map statement_tree s ≡ root_of (read_from 0 nodes.now)) }
 {
     let mut done = read(alloc, nodes)?;
-    match next(&mut done, 1).statement() {
-        None => unreachable!(),
-        Some(statement) => Ok(statement),
-    }
+    Ok(next(&mut done, 1).statement())
 }

@@ -1,6 +1,7 @@
 -- What the loop from the last node to the first has on its stack: what the trees stand for that begin behind.
-use Rattle.std.specs.Prelude.{ℕ, List, map, option_map, reverse}
+use Rattle.std.specs.Prelude.{ℕ, Option, List, map, option_map, reverse}
 use Rattle.sql_loops.specs.Backward.{before, put, run}
+use Rattle.sql_node.specs.Tree.{Statement}
 use Rattle.sql_node.specs.View.{distinct_clause_tree, expr_tree, from_clause_tree, group_by_clause_tree, having_clause_tree, items_of, order_clause_tree, order_item_tree, source_tree, statement_tree, where_clause_tree}
 use Rattle.sql_flat.specs.declared.clauses.Clauses as declared_clauses
 use Rattle.sql_flat.specs.declared.kind.FlatKind.{FlatKind}
@@ -8,7 +9,7 @@ use Rattle.sql_flat.specs.declared.kind.FlatNode.{FlatNode}
 use Rattle.sql_flat.specs.declared.part.Part as declared_part
 use Rattle.sql_flat.specs.declared.part.Part.TheVariants as P
 use Rattle.sql_flat.specs.declared.stack.Done.{Done}
-use Rattle.sql_flat.specs.inside.Parts.{Clauses, Part, expr_part, element_part, values_part, source_part, on_part, from_part, distinct_on_part, where_part, group_by_part, having_part, item_part, order_part, statement_part, position_part, positions_part, unfit, over}
+use Rattle.sql_flat.specs.inside.Parts.{Clauses, Part, expr_part, element_part, values_part, source_part, on_part, from_part, distinct_on_part, where_part, group_by_part, having_part, item_part, order_part, statement_part, position_part, positions_part, unfit, first, over, statement_of}
 
 abbrev pub part_of : declared_part.Part → Part
 part_of (P.Expr e) = expr_part (expr_tree e)
@@ -66,3 +67,7 @@ put_at = put kind_of end_of over
 -- the stack when the nodes from an index on are done
 abbrev pub read_from : ℕ → List FlatNode → List (ℕ × Part)
 read_from = run kind_of end_of over
+
+-- the statement that the first tree on a stack stands for, where it begins before 1
+abbrev pub root_of : List (ℕ × Part) → Option Statement
+root_of σ = statement_of (first (before kind_of end_of over 1 σ).0)
