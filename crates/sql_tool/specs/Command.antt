@@ -1,5 +1,5 @@
 -- What the program can be told to do. Each command has a line in each definition here that takes one.
-use Rattle.std.specs.Prelude.{◌≡◌, ◌≤◌, ℕ, List, [], ◌∷◌, ◌++◌, length, codes, Bool, true, false, ◌&&◌, Option, Some, None, option_map, nat_le, if◌then◌else◌}
+use Rattle.std.specs.Prelude.{◌≡◌, ◌≤◌, ℕ, List, [], ◌∷◌, ◌++◌, codes, Bool, true, false, ◌&&◌, Option, Some, None, option_map, nat_le, if◌then◌else◌}
 use Rattle.std.specs.Fmt.{decimal}
 use Rattle.std.specs.Str.{bytes_eq}
 use Rattle.std.specs.Str.Parse.{digits_value}
@@ -12,7 +12,6 @@ use Rattle.sql_read_output.specs.Line.{IsReadingLine}
 use Rattle.sql_tool.specs.declared.command.Command.{Command}
 use Rattle.sql_tool.specs.declared.command.Command.TheVariants.{Build, Generate, Read}
 use Rattle.sql_tool.specs.declared.command.TheConstants.{MAX_REQUESTS}
-use Rattle.sql_tool.specs.declared.run.TheConstants.{LIMIT}
 
 -- ---- words
 

@@ -1,4 +1,4 @@
-ghost use Rattle.std.specs.Prelude.{◌≡◌, ◌<◌, ◌+◌, ◌↔◌, length, ◌⊎◌, ◌++◌, ◌∷◌, List, ℕ, map, codes, IfSome, OnOk, OnErr, IfErr, false, Some, None, string_bytes, []};
+ghost use Rattle.std.specs.Prelude.{◌≡◌, ◌<◌, ◌+◌, ◌↔◌, length, ◌⊎◌, ◌++◌, List, ℕ, map, IfSome, OnOk, OnErr, IfErr, false, Some, None, string_bytes, []};
 ghost use Rattle.std.specs.Io.KnownBytes.{Appends, Consumes, IsAtEnd, Keeps};
 ghost use Rattle.sql_schema.specs.Declarations.{Declarations};
 ghost use Rattle.sql_stream.specs.Causes.{HasRisen};

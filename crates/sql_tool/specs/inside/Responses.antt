@@ -1,5 +1,5 @@
 -- What the functions inside `run` promise.
-use Rattle.std.specs.Prelude.{◌≡◌, ◌⊎◌, ◌++◌, ℕ, List, []}
+use Rattle.std.specs.Prelude.{◌≡◌, ◌⊎◌, ℕ, List, []}
 use Rattle.sql_tool.specs.Command.{IsBadInput, IsOutputOf, IsOutputPrefixOf, IsFrontOf}
 use Rattle.sql_tool.specs.declared.command.Command.{Command}
 use Rattle.sql_tool.specs.declared.status.Status.{Status}
