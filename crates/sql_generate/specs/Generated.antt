@@ -83,27 +83,60 @@ user_ids = selected (column_of users id) from_users
 abbrev pub is_of_user : Expr
 is_of_user = tree.compared Eq (column_of posts user_id) (column_of users id)
 
-abbrev pub statement_with : Form → Dialect → ℕ → Statement
+-- posts filter posts.user_id = users.id
+abbrev pub posts_of_user : Statement
+posts_of_user = filtered And is_of_user (simple (table posts))
+
+abbrev pub has_id : ℕ → Expr
+has_id i = tree.compared Eq (column_of users id) (tree.value whole_number (integer i))
+
+abbrev pub has_one_of : ℕ → Expr
+has_one_of many = tree.among_values false (column_of users id) whole_number (integers many)
+
+abbrev pub names_and_titles : Expr
+names_and_titles = tree.list (exprs_of (column_of users name ∷ (column_of posts title ∷ [])))
+
 -- users filter users.id = i
-statement_with ById d i =
-    filtered And (tree.compared Eq (column_of users id) (tree.value whole_number (integer i))) from_users
+abbrev pub by_id : ℕ → Statement
+by_id i = filtered And (has_id i) from_users
+
 -- users inner join posts, select [users.name, posts.title], limit i
-statement_with InnerJoin d i =
-    limited (pos i)
-    (selected (tree.list (exprs_of (column_of users name ∷ (column_of posts title ∷ [])))) (joined_posts Inner))
+abbrev pub inner_join : ℕ → Statement
+inner_join i = limited (pos i) (selected names_and_titles (joined_posts Inner))
+
 -- users left join posts, select posts.title
-statement_with LeftJoin d i = selected (column_of posts title) (joined_posts LeftOuter)
+abbrev pub left_join : Statement
+left_join = selected (column_of posts title) (joined_posts LeftOuter)
+
 -- users select users.id, union of itself
-statement_with SelfUnion d i = combined Union Distinct user_ids user_ids
+abbrev pub self_union : Statement
+self_union = combined Union Distinct user_ids user_ids
+
 -- users filter users.id eq_any [0, 1, ..] of length i mod 4
-statement_with Membership d i =
-    filtered And (tree.among_values false (column_of users id) whole_number (integers (i % 4))) from_users
+abbrev pub membership : ℕ → Statement
+membership i = filtered And (has_one_of (i % 4)) from_users
+
 -- users boxed for the dialect, offset i
-statement_with Boxed d i = offset_by (pos i) (boxed_for d from_users)
+abbrev pub boxed : Dialect → ℕ → Statement
+boxed d i = offset_by (pos i) (boxed_for d from_users)
+
 -- users for_key_share
-statement_with KeyShare d i = locked ForKeyShare from_users
+abbrev pub key_share : Statement
+key_share = locked ForKeyShare from_users
+
 -- users filter exists(posts filter posts.user_id = users.id)
-statement_with WithPosts d i = filtered And (tree.exists (filtered And is_of_user (simple (table posts)))) from_users
+abbrev pub with_posts : Statement
+with_posts = filtered And (tree.exists posts_of_user) from_users
+
+abbrev pub statement_with : Form → Dialect → ℕ → Statement
+statement_with ById d i = by_id i
+statement_with InnerJoin d i = inner_join i
+statement_with LeftJoin d i = left_join
+statement_with SelfUnion d i = self_union
+statement_with Membership d i = membership i
+statement_with Boxed d i = boxed d i
+statement_with KeyShare d i = key_share
+statement_with WithPosts d i = with_posts
 
 -- ---- requests
 

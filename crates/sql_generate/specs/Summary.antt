@@ -10,31 +10,36 @@ use Rattle.sql_generate.specs.Counts.{accepted, binds, bytes, ids, refused_as}
 use Rattle.sql_generate.specs.Generated.{generated}
 use Rattle.sql_generate.specs.Schema.{declarations}
 
--- a number, cut at the last of 64 bits
+-- a count, cut at the last number of 64 bits
 abbrev pub cut : ℕ → ℕ
 cut n = min n (2 ^ 64 - 1)
 
-abbrev pub counted : ℕ → Data
-counted n = number (unsigned (cut n))
+abbrev pub count : ℕ → Data
+count n = number (unsigned n)
 
 -- the members, with this count at its name in their order, unless it is zero
 abbrev pub tallied : List ℕ → ℕ → Members → Members
 tallied name zero ms = ms
-tallied name (suc n) ms = put name (counted (suc n)) ms
+tallied name (suc n) ms = put name (count (suc n)) ms
 
 -- the members, with how many lines each of these rules refused
 abbrev pub refusals : List Rule → List Line → Members → Members
 refusals [] ls ms = ms
-refusals (r ∷ rs) ls ms = refusals rs ls (tallied (rule_text r) (refused_as (rule_text r) ls) ms)
+refusals (r ∷ rs) ls ms = refusals rs ls (tallied (rule_text r) (cut (refused_as (rule_text r) ls)) ms)
+
+abbrev pub summary_object : ℕ → ℕ → ℕ → ℕ → Members → ℕ → Data
+summary_object accepted binds bytes ids refused requests =
+    object (member (codes "accepted") (count accepted)
+    (member (codes "binds") (count binds)
+    (member (codes "bytes") (count bytes)
+    (member (codes "ids") (count ids)
+    (member (codes "refused") (object refused)
+    (member (codes "requests") (count requests) no_members))))))
 
 abbrev pub summary : List Line → Data
 summary ls =
-    object (member (codes "accepted") (counted (accepted ls))
-    (member (codes "binds") (counted (binds ls))
-    (member (codes "bytes") (counted (bytes ls))
-    (member (codes "ids") (counted (ids ls))
-    (member (codes "refused") (object (refusals all_rules ls no_members))
-    (member (codes "requests") (counted (length ls)) no_members))))))
+    summary_object (cut (accepted ls)) (cut (binds ls)) (cut (bytes ls)) (cut (ids ls)) (refusals all_rules ls no_members)
+    (cut (length ls))
 
 -- compact JSON, and a newline
 unfoldable pub summary_text : List Line → List ℕ

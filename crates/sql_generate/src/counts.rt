@@ -1,16 +1,20 @@
-ghost use Rattle.std.specs.Prelude.{◌≡◌, ◌+◌, ◌++◌, ◌∷◌, [], min, ◌^◌, ◌-◌, IfOk, OnOk, if◌then◌else◌};
-ghost use Rattle.sql_generate.specs.inside.Counting.{Tell, TellMore};
+ghost use Rattle.std.specs.Prelude.{◌≡◌, [], OnOk};
+ghost use Rattle.sql_rules.specs.Texts.{rule_text};
+ghost use Rattle.sql_generate.specs.inside.Counting.{IsWithRefused, Tell, with_accepted};
 
 use sql_rules::Rule;
 use std::alloc::{AllocError, Global};
 use std::collections::BTreeMap;
 
-/// What is counted of the requests so far. Each number stays at the last of its type where it would pass it.
+/// What is counted of the requests so far. A number stays at the last of 64 bits where it would pass it.
 #[derive(Drop)]
 pub(crate) struct Counts {
     pub(crate) accepted: u64,
+    /// How many values all accepted statements have.
     pub(crate) binds: u64,
+    /// How many bytes their texts have.
     pub(crate) bytes: u64,
+    /// How many requests are the first with their id.
     pub(crate) ids: u64,
     /// How many requests each rule refused, by its name.
     pub(crate) refused: BTreeMap<String, u64>,
@@ -32,17 +36,21 @@ impl Counts {
         }
     }
 
-    /// Counts an accepted request, with so many values and bytes; `is_new` where its id is its own number.
-    pub(crate) fn accept(&mut self, binds: usize, bytes: usize, is_new: bool) {
+    /// Counts an accepted request, with so many values and bytes, and whether its id is its own number.
+    pub(crate) fn accept(&mut self, binds: usize, bytes: usize, is_own: bool)
+        ensures { self.new ≡ with_accepted binds bytes is_own self.old }
+    {
         self.accepted = self.accepted.saturating_add(1);
         self.binds = self.binds.saturating_add(binds as u64);
         self.bytes = self.bytes.saturating_add(bytes as u64);
-        self.ids = self.ids.saturating_add(u64::from(is_new));
+        self.ids = self.ids.saturating_add(if is_own { 1 } else { 0 });
         self.requests = self.requests.saturating_add(1);
     }
 
     /// Counts a request that the rule refuses.
-    pub(crate) fn refuse(&mut self, alloc: Global, rule: Rule) -> Result<(), AllocError> {
+    pub(crate) fn refuse(&mut self, alloc: Global, rule: Rule) -> Result<(), AllocError>
+        ensures { OnOk result (IsWithRefused (rule_text rule) self.old self.new) }
+    {
         let before = self.refused.get(rule.name()).copied().unwrap_or(0);
         let name = String::from_str(alloc, rule.name())?;
         self.refused.insert(name, before.saturating_add(1))?;

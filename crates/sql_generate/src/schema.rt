@@ -13,12 +13,7 @@ fn text(alloc: Global, text: &str) -> Result<SqlText, NoMemory>
     Ok(SqlText::from(text))
 }
 
-fn column_as(
-    alloc: Global,
-    name: &str,
-    sql_name: &str,
-    base: Base,
-) -> Result<ColumnDecl, NoMemory>
+fn column_as(alloc: Global, name: &str, sql_name: &str, base: Base) -> Result<ColumnDecl, NoMemory>
     ensures { IfOk result (λ c. c ≡ given.column_as name.now sql_name.now base) }
 {
     let name = text(alloc, name)?;

@@ -1,17 +1,21 @@
 //! The statement of each form.
-#![tactic(auto, using(sql_node::proofs::Trees::opens_expr, sql_node::proofs::Trees::opens_source))]
+#![tactic(auto, using(sql_node::proofs::Trees::opens_expr, sql_node::proofs::Trees::opens_source, sql_node::proofs::Trees::opens_statement))]
 
-ghost use Rattle.std.specs.Prelude.{◌≡◌, [], ◌∷◌, IfOk, map};
-ghost use Rattle.sql_generate.specs.Generated.{from_users, integer as whole, integers as wholes, is_of_user, joined_posts, statement_with, user_ids, whole_number};
-ghost use Rattle.sql_generate.specs.Schema as given;
-ghost use Rattle.sql_generate.specs.declared.form.Form.TheVariants as form;
-ghost use Rattle.sql_generate.specs.inside.Counting.{AreNamed};
+ghost use Rattle.std.specs.Prelude.{◌≡◌, IfOk, Some};
+ghost use Rattle.sql_schema.specs.Columns.{column_in, table_named};
+ghost use Rattle.sql_dialect.specs.declared.backend.Dialect.{Dialect};
 ghost use Rattle.sql_expr.specs.Joining.{side_tree};
-ghost use Rattle.sql_node.specs.Tree as tree;
-ghost use Rattle.sql_node.specs.View.{expr_tree, select_statement_tree, source_tree, statement_tree};
+ghost use Rattle.sql_leaf.specs.declared.table_source.JoinKind.TheVariants as join_kind;
+ghost use Rattle.sql_node.specs.View.{boxed_select_statement_tree, expr_tree, select_statement_tree, statement_tree};
+ghost use Rattle.sql_select.specs.Changes.{boxed_for};
+ghost use Rattle.sql_source.specs.Joins.{alone};
+ghost use Rattle.sql_generate.specs.Generated as asked;
+ghost use Rattle.sql_generate.specs.Schema as given;
+ghost use Rattle.sql_generate.specs.inside.Counting.{AreNamed};
 
 use crate::form::Form;
-use sql_dialect::{Dialect, Mysql, Pg, Sqlite};
+use crate::schema::schema;
+use sql_dialect::{Bracket, Dialect, Mysql, Pg, Sqlite};
 use sql_expr::{
     BoxedSelectStatement, Expr, ExpressionMethods, InValues, JoinRhs, SelectStatement, Source,
     Statement, TableSource, exists,
@@ -21,7 +25,6 @@ use sql_schema::{Base, Column, NoMemory, Schema, SqlList, SqlType, Table};
 use sql_select::{AsQuery, CombineDsl, Query as _, QueryDsl};
 use sql_source::NewTableSource;
 use std::alloc::{AllocError, Global};
-use std::cmp::min;
 
 const WHOLE_NUMBER: SqlType = SqlType {
     base: Base::Integer,
@@ -40,14 +43,18 @@ pub(crate) struct Named {
     title: Column,
 }
 
-fn table(alloc: Global, schema: &Schema, name: &str) -> Result<Table, NoMemory> {
+fn table(alloc: Global, schema: &Schema, name: &str) -> Result<Table, NoMemory>
+    ensures { IfOk result (λ t. Some t ≡ table_named schema.now.tables name.now) }
+{
     match schema.table(name) {
         Some(table) => table.try_clone(alloc),
         None => Err(AllocError),
     }
 }
 
-fn column(alloc: Global, table: &Table, name: &str) -> Result<Column, NoMemory> {
+fn column(alloc: Global, table: &Table, name: &str) -> Result<Column, NoMemory>
+    ensures { IfOk result (λ c. Some c ≡ column_in table.now name.now) }
+{
     match table.column(alloc, name)? {
         Some(column) => Ok(column),
         None => Err(AllocError),
@@ -56,144 +63,239 @@ fn column(alloc: Global, table: &Table, name: &str) -> Result<Column, NoMemory> 
 
 /// The number as an Integer; one that an Integer can't be is cut at the last that it can.
 fn integer(number: u32) -> Value
-    ensures { result ≡ whole number }
+    ensures { result ≡ asked.integer number }
 {
-    Value::Integer(i32::try_from(number).unwrap_or(i32::MAX))
+    if number < 2147483647 {
+        Value::Integer(number as i32)
+    } else {
+        Value::Integer(2147483647)
+    }
 }
 
 /// `[0, 1, ..]`, so many.
 fn integers(alloc: Global, many: u32) -> Result<Vec<Value>, NoMemory>
-    ensures { IfOk result (λ v. v.items ≡ wholes many) }
+    requires { many < 4 }
+    ensures { IfOk result (λ v. v.items ≡ asked.integers many) }
 {
     let mut all = Vec::new(alloc);
     for number in 0..many {
-        all.push(integer(number))?;
+        all.push(Value::Integer(number as i32))?;
     }
     Ok(all)
 }
 
+fn boxed_for_dialect(dialect: Dialect, select: SelectStatement) -> BoxedSelectStatement
+    ensures { boxed_select_statement_tree result
+        ≡ boxed_for dialect (select_statement_tree select) }
+{
+    match dialect {
+        Dialect::Pg => select.into_boxed(&Pg),
+        Dialect::Mysql => select.into_boxed(&Mysql),
+        Dialect::Sqlite => select.into_boxed(&Sqlite),
+        Dialect::Bracket => select.into_boxed(&Bracket),
+    }
+}
+
+/// `SELECT "users"."id", "users"."name" FROM "users"`.
+fn from_users(alloc: Global, named: &Named) -> Result<SelectStatement, NoMemory>
+    requires { AreNamed named.now }
+    ensures { IfOk result (λ s. select_statement_tree s ≡ asked.from_users) }
+{
+    let users = named.users.try_clone(alloc)?;
+    users.as_query(alloc)
+}
+
+fn posts_side(alloc: Global, named: &Named) -> Result<JoinRhs, NoMemory>
+    requires { AreNamed named.now }
+    ensures { IfOk result (λ s. side_tree s ≡ alone (asked.table given.posts)) }
+{
+    let posts = named.posts.try_clone(alloc)?;
+    Ok(JoinRhs::Source(Source::Table(TableSource::new(posts))))
+}
+
+fn column_expr(alloc: Global, column: &Column) -> Result<Expr, NoMemory>
+    ensures { IfOk result (λ e. expr_tree e ≡ asked.column_of column.now.table column.now.decl) }
+{
+    Ok(Expr::Column(column.try_clone(alloc)?))
+}
+
+/// `("users"."id" = $1)`.
+fn has_id(alloc: Global, named: &Named, number: u32) -> Result<Expr, NoMemory>
+    requires { AreNamed named.now }
+    ensures { IfOk result (λ e. expr_tree e ≡ asked.has_id number) }
+{
+    let id = column_expr(alloc, &named.id)?;
+    id.eq(alloc, Expr::Value(WHOLE_NUMBER, integer(number)))
+}
+
+fn by_id(alloc: Global, named: &Named, number: u32) -> Result<Statement, NoMemory>
+    requires { AreNamed named.now }
+    ensures { IfOk result (λ s. statement_tree s ≡ asked.by_id number) }
+{
+    let predicate = has_id(alloc, named, number)?;
+    let select = from_users(alloc, named)?.filter(alloc, predicate)?;
+    Ok(select.into_statement())
+}
+
+/// `"users"."name", "posts"."title"`.
+fn names_and_titles(alloc: Global, named: &Named) -> Result<Expr, NoMemory>
+    requires { AreNamed named.now }
+    ensures { IfOk result (λ e. expr_tree e ≡ asked.names_and_titles) }
+{
+    let name = column_expr(alloc, &named.name)?;
+    let title = column_expr(alloc, &named.title)?;
+    let both = vec![in alloc; name, title]?;
+    Ok(Expr::List(SqlList::from(both)))
+}
+
+fn inner_join(alloc: Global, named: &Named, number: u32) -> Result<Statement, NoMemory>
+    requires { AreNamed named.now }
+    ensures { IfOk result (λ s. statement_tree s ≡ asked.inner_join number) }
+{
+    let selection = names_and_titles(alloc, named)?;
+    let side = posts_side(alloc, named)?;
+    let select = from_users(alloc, named)?.inner_join(alloc, &named.schema, side)?;
+    let select = select.select(selection).limit(i64::from(number));
+    Ok(select.into_statement())
+}
+
+fn left_join(alloc: Global, named: &Named) -> Result<Statement, NoMemory>
+    requires { AreNamed named.now }
+    ensures { IfOk result (λ s. statement_tree s ≡ asked.left_join) }
+{
+    let title = column_expr(alloc, &named.title)?;
+    let side = posts_side(alloc, named)?;
+    let select = from_users(alloc, named)?.left_join(alloc, &named.schema, side)?;
+    Ok(select.select(title).into_statement())
+}
+
+/// `SELECT "users"."id" FROM "users"`.
+fn user_ids(alloc: Global, named: &Named) -> Result<SelectStatement, NoMemory>
+    requires { AreNamed named.now }
+    ensures { IfOk result (λ s. select_statement_tree s ≡ asked.user_ids) }
+{
+    let id = column_expr(alloc, &named.id)?;
+    Ok(from_users(alloc, named)?.select(id))
+}
+
+fn self_union(alloc: Global, named: &Named) -> Result<Statement, NoMemory>
+    requires { AreNamed named.now }
+    ensures { IfOk result (λ s. statement_tree s ≡ asked.self_union) }
+{
+    let right = user_ids(alloc, named)?.into_statement();
+    let combination = user_ids(alloc, named)?.union(alloc, right)?;
+    Ok(combination.into_statement())
+}
+
+/// `("users"."id" IN (?, ?))`.
+fn has_one_of(alloc: Global, named: &Named, many: u32) -> Result<Expr, NoMemory>
+    requires named { AreNamed named.now }
+    requires few { many < 4 }
+    ensures { IfOk result (λ e. expr_tree e ≡ asked.has_one_of many) }
+{
+    let id = column_expr(alloc, &named.id)?;
+    let values = SqlList::from(integers(alloc, many)?);
+    id.eq_any(alloc, InValues::List(WHOLE_NUMBER, values))
+}
+
+fn membership(alloc: Global, named: &Named, number: u32) -> Result<Statement, NoMemory>
+    requires { AreNamed named.now }
+    ensures { IfOk result (λ s. statement_tree s ≡ asked.membership number) }
+{
+    let predicate = has_one_of(alloc, named, number % 4)?;
+    let select = from_users(alloc, named)?.filter(alloc, predicate)?;
+    Ok(select.into_statement())
+}
+
+fn boxed(alloc: Global, named: &Named, dialect: Dialect, number: u32) -> Result<Statement, NoMemory>
+    requires { AreNamed named.now }
+    ensures { IfOk result (λ s. statement_tree s ≡ asked.boxed dialect number) }
+{
+    let select = from_users(alloc, named)?;
+    let select = boxed_for_dialect(dialect, select).offset(i64::from(number));
+    Ok(select.into_statement())
+}
+
+fn key_share(alloc: Global, named: &Named) -> Result<Statement, NoMemory>
+    requires { AreNamed named.now }
+    ensures { IfOk result (λ s. statement_tree s ≡ asked.key_share) }
+{
+    let select = from_users(alloc, named)?;
+    Ok(select.for_key_share().into_statement())
+}
+
+/// `("posts"."user_id" = "users"."id")`.
+fn is_of_user(alloc: Global, named: &Named) -> Result<Expr, NoMemory>
+    requires { AreNamed named.now }
+    ensures { IfOk result (λ e. expr_tree e ≡ asked.is_of_user) }
+{
+    let user_id = column_expr(alloc, &named.user_id)?;
+    let id = column_expr(alloc, &named.id)?;
+    user_id.eq(alloc, id)
+}
+
+fn posts_of_user(alloc: Global, named: &Named) -> Result<SelectStatement, NoMemory>
+    requires { AreNamed named.now }
+    ensures { IfOk result (λ s. select_statement_tree s ≡ asked.posts_of_user) }
+{
+    let predicate = is_of_user(alloc, named)?;
+    let posts = named.posts.try_clone(alloc)?;
+    posts.as_query(alloc)?.filter(alloc, predicate)
+}
+
+fn with_posts(alloc: Global, named: &Named) -> Result<Statement, NoMemory>
+    requires { AreNamed named.now }
+    ensures { IfOk result (λ s. statement_tree s ≡ asked.with_posts) }
+{
+    let posts = posts_of_user(alloc, named)?.into_statement();
+    let predicate = exists(alloc, posts)?;
+    let select = from_users(alloc, named)?.filter(alloc, predicate)?;
+    Ok(select.into_statement())
+}
+
 impl Named {
-    pub(crate) fn new(alloc: Global, schema: Schema) -> Result<Named, NoMemory> {
+    pub(crate) fn new(alloc: Global) -> Result<Named, NoMemory>
+        ensures { IfOk result AreNamed }
+    {
+        let schema = schema(alloc)?;
         let users = table(alloc, &schema, "users")?;
+        let id = column(alloc, &users, "id")?;
+        let name = column(alloc, &users, "name")?;
         let posts = table(alloc, &schema, "posts")?;
+        let user_id = column(alloc, &posts, "user_id")?;
+        let title = column(alloc, &posts, "title")?;
         Ok(Named {
-            id: column(alloc, &users, "id")?,
-            name: column(alloc, &users, "name")?,
-            user_id: column(alloc, &posts, "user_id")?,
-            title: column(alloc, &posts, "title")?,
             schema,
             users,
+            id,
+            name,
             posts,
+            user_id,
+            title,
         })
     }
 
-    fn from_users(&self, alloc: Global) -> Result<SelectStatement, NoMemory> {
-        let users = self.users.try_clone(alloc)?;
-        users.as_query(alloc)
-    }
-
-    fn posts_side(&self, alloc: Global) -> Result<JoinRhs, NoMemory> {
-        let posts = self.posts.try_clone(alloc)?;
-        Ok(JoinRhs::Source(Source::Table(TableSource::new(posts))))
-    }
-
-    /// ` WHERE ("users"."id" = $1)`.
-    fn by_id(&self, alloc: Global, number: u32) -> Result<Statement, NoMemory> {
-        let id = Expr::Column(self.id.try_clone(alloc)?);
-        let predicate = id.eq(alloc, Expr::Value(WHOLE_NUMBER, integer(number)))?;
-        let select = self.from_users(alloc)?.filter(alloc, predicate)?;
-        Ok(select.into_statement())
-    }
-
-    fn inner_join(&self, alloc: Global, number: u32) -> Result<Statement, NoMemory> {
-        let name = Expr::Column(self.name.try_clone(alloc)?);
-        let title = Expr::Column(self.title.try_clone(alloc)?);
-        let selection = Expr::List(SqlList::from(vec![in alloc; name, title]?));
-        let side = self.posts_side(alloc)?;
-        let select = self
-            .from_users(alloc)?
-            .inner_join(alloc, &self.schema, side)?;
-        Ok(select
-            .select(selection)
-            .limit(i64::from(number))
-            .into_statement())
-    }
-
-    fn left_join(&self, alloc: Global) -> Result<Statement, NoMemory> {
-        let title = Expr::Column(self.title.try_clone(alloc)?);
-        let side = self.posts_side(alloc)?;
-        let select = self
-            .from_users(alloc)?
-            .left_join(alloc, &self.schema, side)?;
-        Ok(select.select(title).into_statement())
-    }
-
-    fn user_ids(&self, alloc: Global) -> Result<SelectStatement, NoMemory> {
-        let id = Expr::Column(self.id.try_clone(alloc)?);
-        Ok(self.from_users(alloc)?.select(id))
-    }
-
-    fn self_union(&self, alloc: Global) -> Result<Statement, NoMemory> {
-        let right = self.user_ids(alloc)?.into_statement();
-        let combination = self.user_ids(alloc)?.union(alloc, right)?;
-        Ok(combination.into_statement())
-    }
-
-    fn membership(&self, alloc: Global, number: u32) -> Result<Statement, NoMemory> {
-        let id = Expr::Column(self.id.try_clone(alloc)?);
-        let values = integers(alloc, number % 4)?;
-        let among = InValues::List(WHOLE_NUMBER, SqlList::from(values));
-        let predicate = id.eq_any(alloc, among)?;
-        let select = self.from_users(alloc)?.filter(alloc, predicate)?;
-        Ok(select.into_statement())
-    }
-
-    fn boxed(&self, alloc: Global, dialect: Dialect, number: u32) -> Result<Statement, NoMemory> {
-        let select = self.from_users(alloc)?;
-        let boxed = boxed_for(dialect, select);
-        Ok(boxed.offset(i64::from(number)).into_statement())
-    }
-
-    fn key_share(&self, alloc: Global) -> Result<Statement, NoMemory> {
-        let select = self.from_users(alloc)?;
-        Ok(select.for_key_share().into_statement())
-    }
-
-    fn with_posts(&self, alloc: Global) -> Result<Statement, NoMemory> {
-        let user_id = Expr::Column(self.user_id.try_clone(alloc)?);
-        let id = Expr::Column(self.id.try_clone(alloc)?);
-        let posts = self.posts.try_clone(alloc)?.as_query(alloc)?;
-        let posts = posts.filter(alloc, user_id.eq(alloc, id)?)?;
-        let predicate = exists(alloc, posts.into_statement())?;
-        let select = self.from_users(alloc)?.filter(alloc, predicate)?;
-        Ok(select.into_statement())
-    }
-
+    /// The statement of a form.
     pub(crate) fn statement(
         &self,
         alloc: Global,
         form: Form,
         dialect: Dialect,
         number: u32,
-    ) -> Result<Statement, NoMemory> {
+    ) -> Result<Statement, NoMemory>
+        requires { AreNamed self.now }
+        ensures { IfOk result (λ s. statement_tree s
+            ≡ asked.statement_with form dialect number) }
+    {
         match form {
-            Form::ById => self.by_id(alloc, number),
-            Form::InnerJoin => self.inner_join(alloc, number),
-            Form::LeftJoin => self.left_join(alloc),
-            Form::SelfUnion => self.self_union(alloc),
-            Form::Membership => self.membership(alloc, number),
-            Form::Boxed => self.boxed(alloc, dialect, number),
-            Form::KeyShare => self.key_share(alloc),
-            Form::WithPosts => self.with_posts(alloc),
+            Form::ById => by_id(alloc, self, number),
+            Form::InnerJoin => inner_join(alloc, self, number),
+            Form::LeftJoin => left_join(alloc, self),
+            Form::SelfUnion => self_union(alloc, self),
+            Form::Membership => membership(alloc, self, number),
+            Form::Boxed => boxed(alloc, self, dialect, number),
+            Form::KeyShare => key_share(alloc, self),
+            Form::WithPosts => with_posts(alloc, self),
         }
-    }
-}
-
-fn boxed_for(dialect: Dialect, select: SelectStatement) -> BoxedSelectStatement {
-    match dialect {
-        Dialect::Pg => select.into_boxed(&Pg),
-        Dialect::Mysql => select.into_boxed(&Mysql),
-        Dialect::Sqlite => select.into_boxed(&Sqlite),
-        Dialect::Bracket => select.into_boxed(&sql_dialect::Bracket),
     }
 }
