@@ -73,6 +73,9 @@ column_of t c = tree.column (a_table t) c
 abbrev pub from_users : Statement
 from_users = simple (table users)
 
+abbrev pub from_posts : Statement
+from_posts = simple (table posts)
+
 abbrev pub joined_posts : JoinKind → Statement
 joined_posts kind = joined declarations kind (alone (table posts)) from_users
 
@@ -85,7 +88,7 @@ is_of_user = tree.compared Eq (column_of posts user_id) (column_of users id)
 
 -- posts filter posts.user_id = users.id
 abbrev pub posts_of_user : Statement
-posts_of_user = filtered And is_of_user (simple (table posts))
+posts_of_user = filtered And is_of_user from_posts
 
 abbrev pub has_id : ℕ → Expr
 has_id i = tree.compared Eq (column_of users id) (tree.value whole_number (integer i))

@@ -15,6 +15,7 @@ use crate::statements::Named;
 use crate::summary::summary_line;
 use sql_check::{Built, CompileError};
 use sql_dialect::Dialect;
+use sql_key::QueryKey;
 use sql_output::{RequestKey, compile_for, request_id};
 use sql_schema::NoMemory;
 use std::alloc::{AllocError, Global};
@@ -28,6 +29,13 @@ fn is_own(number: u64, id: Option<u64>) -> bool
         None => false,
         Some(first) => first == number,
     }
+}
+
+/// The key of an answer whose other parts are done with.
+fn key_of(built: Built) -> Option<QueryKey>
+    ensures { result ≡ built.id }
+{
+    built.id
 }
 
 fn accept(
@@ -47,7 +55,7 @@ fn accept(
 {
     let values = built.binds.as_slice().len();
     let bytes = built.sql.as_str().len();
-    let id = request_id(seen, dialect, built.id, number)?;
+    let id = request_id(seen, dialect, key_of(built), number)?;
     counts.accept(values, bytes, is_own(number, id));
     Ok(())
 }

@@ -1,24 +1,22 @@
 //! The statement of each form.
 #![tactic(auto, using(sql_node::proofs::Trees::opens_expr, sql_node::proofs::Trees::opens_source, sql_node::proofs::Trees::opens_statement))]
 
-ghost use Rattle.std.specs.Prelude.{◌≡◌, IfOk, Some};
+ghost use Rattle.std.specs.Prelude.{◌≡◌, ◌<◌, IfOk, Some};
 ghost use Rattle.sql_schema.specs.Columns.{column_in, table_named};
-ghost use Rattle.sql_dialect.specs.declared.backend.Dialect.{Dialect};
-ghost use Rattle.sql_expr.specs.Joining.{side_tree};
-ghost use Rattle.sql_leaf.specs.declared.table_source.JoinKind.TheVariants as join_kind;
+ghost use Rattle.sql_dialect.specs.declared.combination.Combinator.TheVariants as combinator;
+ghost use Rattle.sql_dialect.specs.declared.combination.DuplicateRule.TheVariants as duplicate;
 ghost use Rattle.sql_node.specs.View.{boxed_select_statement_tree, expr_tree, select_statement_tree, statement_tree};
-ghost use Rattle.sql_select.specs.Changes.{boxed_for};
-ghost use Rattle.sql_source.specs.Joins.{alone};
+ghost use Rattle.sql_node.specs.Words as by;
+ghost use Rattle.sql_select.specs.Changes.{boxed_for, combined, filtered, selected};
 ghost use Rattle.sql_generate.specs.Generated as asked;
-ghost use Rattle.sql_generate.specs.Schema as given;
 ghost use Rattle.sql_generate.specs.inside.Counting.{AreNamed};
 
 use crate::form::Form;
 use crate::schema::schema;
 use sql_dialect::{Bracket, Dialect, Mysql, Pg, Sqlite};
 use sql_expr::{
-    BoxedSelectStatement, Expr, ExpressionMethods, InValues, JoinRhs, SelectStatement, Source,
-    Statement, TableSource, exists,
+    BoxedSelectStatement, Expr, ExpressionMethods, InValues, JoinKind, JoinRhs, SelectStatement,
+    Source, Statement, TableSource, exists,
 };
 use sql_pass::Value;
 use sql_schema::{Base, Column, NoMemory, Schema, SqlList, SqlType, Table};
@@ -105,18 +103,36 @@ fn from_users(alloc: Global, named: &Named) -> Result<SelectStatement, NoMemory>
     users.as_query(alloc)
 }
 
-fn posts_side(alloc: Global, named: &Named) -> Result<JoinRhs, NoMemory>
+/// `SELECT "posts"."id", "posts"."user_id", "posts"."title" FROM "posts"`.
+fn from_posts(alloc: Global, named: &Named) -> Result<SelectStatement, NoMemory>
     requires { AreNamed named.now }
-    ensures { IfOk result (λ s. side_tree s ≡ alone (asked.table given.posts)) }
+    ensures { IfOk result (λ s. select_statement_tree s ≡ asked.from_posts) }
 {
     let posts = named.posts.try_clone(alloc)?;
-    Ok(JoinRhs::Source(Source::Table(TableSource::new(posts))))
+    posts.as_query(alloc)
 }
 
-fn column_expr(alloc: Global, column: &Column) -> Result<Expr, NoMemory>
-    ensures { IfOk result (λ e. expr_tree e ≡ asked.column_of column.now.table column.now.decl) }
+fn filter(alloc: Global, select: SelectStatement, predicate: Expr) -> Result<Statement, NoMemory>
+    ensures { IfOk result (λ s. statement_tree s
+        ≡ filtered by.And (expr_tree predicate) (select_statement_tree select)) }
 {
-    Ok(Expr::Column(column.try_clone(alloc)?))
+    let select = select.filter(alloc, predicate)?;
+    Ok(select.into_statement())
+}
+
+/// `SELECT "users"."id", "users"."name" FROM "users" WHERE ..`.
+fn users_where(alloc: Global, named: &Named, predicate: Expr) -> Result<Statement, NoMemory>
+    requires { AreNamed named.now }
+    ensures { IfOk result (λ s. statement_tree s
+        ≡ filtered by.And (expr_tree predicate) asked.from_users) }
+{
+    match from_users(alloc, named) {
+        Ok(users) => filter(alloc, users, predicate),
+        Err(error) => {
+            drop(predicate);
+            Err(error)
+        }
+    }
 }
 
 /// `("users"."id" = $1)`.
@@ -124,8 +140,8 @@ fn has_id(alloc: Global, named: &Named, number: u32) -> Result<Expr, NoMemory>
     requires { AreNamed named.now }
     ensures { IfOk result (λ e. expr_tree e ≡ asked.has_id number) }
 {
-    let id = column_expr(alloc, &named.id)?;
-    id.eq(alloc, Expr::Value(WHOLE_NUMBER, integer(number)))
+    let id = named.id.try_clone(alloc)?;
+    Expr::Column(id).eq(alloc, Expr::Value(WHOLE_NUMBER, integer(number)))
 }
 
 fn by_id(alloc: Global, named: &Named, number: u32) -> Result<Statement, NoMemory>
@@ -133,8 +149,37 @@ fn by_id(alloc: Global, named: &Named, number: u32) -> Result<Statement, NoMemor
     ensures { IfOk result (λ s. statement_tree s ≡ asked.by_id number) }
 {
     let predicate = has_id(alloc, named, number)?;
-    let select = from_users(alloc, named)?.filter(alloc, predicate)?;
-    Ok(select.into_statement())
+    users_where(alloc, named, predicate)
+}
+
+/// ` FROM ("users" INNER JOIN "posts" ON ..)`.
+fn joined_posts(alloc: Global, named: &Named, kind: JoinKind) -> Result<SelectStatement, NoMemory>
+    requires { AreNamed named.now }
+    ensures { IfOk result (λ s. select_statement_tree s ≡ asked.joined_posts kind) }
+{
+    let posts = named.posts.try_clone(alloc)?;
+    let users = from_users(alloc, named)?;
+    let posts = JoinRhs::Source(Source::Table(TableSource::new(posts)));
+    users.join_with_implicit_on_clause(alloc, &named.schema, posts, kind)
+}
+
+fn select_of_joined(
+    alloc: Global,
+    named: &Named,
+    kind: JoinKind,
+    selection: Expr,
+) -> Result<SelectStatement, NoMemory>
+    requires { AreNamed named.now }
+    ensures { IfOk result (λ s. select_statement_tree s
+        ≡ selected (expr_tree selection) (asked.joined_posts kind)) }
+{
+    match joined_posts(alloc, named, kind) {
+        Ok(joined) => Ok(joined.select(selection)),
+        Err(error) => {
+            drop(selection);
+            Err(error)
+        }
+    }
 }
 
 /// `"users"."name", "posts"."title"`.
@@ -142,9 +187,9 @@ fn names_and_titles(alloc: Global, named: &Named) -> Result<Expr, NoMemory>
     requires { AreNamed named.now }
     ensures { IfOk result (λ e. expr_tree e ≡ asked.names_and_titles) }
 {
-    let name = column_expr(alloc, &named.name)?;
-    let title = column_expr(alloc, &named.title)?;
-    let both = vec![in alloc; name, title]?;
+    let name = named.name.try_clone(alloc)?;
+    let title = named.title.try_clone(alloc)?;
+    let both = Vec::from_array(alloc, [Expr::Column(name), Expr::Column(title)])?;
     Ok(Expr::List(SqlList::from(both)))
 }
 
@@ -153,20 +198,17 @@ fn inner_join(alloc: Global, named: &Named, number: u32) -> Result<Statement, No
     ensures { IfOk result (λ s. statement_tree s ≡ asked.inner_join number) }
 {
     let selection = names_and_titles(alloc, named)?;
-    let side = posts_side(alloc, named)?;
-    let select = from_users(alloc, named)?.inner_join(alloc, &named.schema, side)?;
-    let select = select.select(selection).limit(i64::from(number));
-    Ok(select.into_statement())
+    let select = select_of_joined(alloc, named, JoinKind::Inner, selection)?;
+    Ok(select.limit(i64::from(number)).into_statement())
 }
 
 fn left_join(alloc: Global, named: &Named) -> Result<Statement, NoMemory>
     requires { AreNamed named.now }
     ensures { IfOk result (λ s. statement_tree s ≡ asked.left_join) }
 {
-    let title = column_expr(alloc, &named.title)?;
-    let side = posts_side(alloc, named)?;
-    let select = from_users(alloc, named)?.left_join(alloc, &named.schema, side)?;
-    Ok(select.select(title).into_statement())
+    let title = named.title.try_clone(alloc)?;
+    let select = select_of_joined(alloc, named, JoinKind::LeftOuter, Expr::Column(title))?;
+    Ok(select.into_statement())
 }
 
 /// `SELECT "users"."id" FROM "users"`.
@@ -174,17 +216,35 @@ fn user_ids(alloc: Global, named: &Named) -> Result<SelectStatement, NoMemory>
     requires { AreNamed named.now }
     ensures { IfOk result (λ s. select_statement_tree s ≡ asked.user_ids) }
 {
-    let id = column_expr(alloc, &named.id)?;
-    Ok(from_users(alloc, named)?.select(id))
+    let id = named.id.try_clone(alloc)?;
+    let users = from_users(alloc, named)?;
+    Ok(users.select(Expr::Column(id)))
+}
+
+fn union(
+    alloc: Global,
+    left: SelectStatement,
+    right: SelectStatement,
+) -> Result<Statement, NoMemory>
+    ensures { IfOk result (λ s. statement_tree s ≡ combined combinator.Union duplicate.Distinct
+        (select_statement_tree left) (select_statement_tree right)) }
+{
+    let combination = left.union(alloc, right.into_statement())?;
+    Ok(combination.into_statement())
 }
 
 fn self_union(alloc: Global, named: &Named) -> Result<Statement, NoMemory>
     requires { AreNamed named.now }
     ensures { IfOk result (λ s. statement_tree s ≡ asked.self_union) }
 {
-    let right = user_ids(alloc, named)?.into_statement();
-    let combination = user_ids(alloc, named)?.union(alloc, right)?;
-    Ok(combination.into_statement())
+    let left = user_ids(alloc, named)?;
+    match user_ids(alloc, named) {
+        Ok(right) => union(alloc, left, right),
+        Err(error) => {
+            drop(left);
+            Err(error)
+        }
+    }
 }
 
 /// `("users"."id" IN (?, ?))`.
@@ -193,9 +253,9 @@ fn has_one_of(alloc: Global, named: &Named, many: u32) -> Result<Expr, NoMemory>
     requires few { many < 4 }
     ensures { IfOk result (λ e. expr_tree e ≡ asked.has_one_of many) }
 {
-    let id = column_expr(alloc, &named.id)?;
+    let id = named.id.try_clone(alloc)?;
     let values = SqlList::from(integers(alloc, many)?);
-    id.eq_any(alloc, InValues::List(WHOLE_NUMBER, values))
+    Expr::Column(id).eq_any(alloc, InValues::List(WHOLE_NUMBER, values))
 }
 
 fn membership(alloc: Global, named: &Named, number: u32) -> Result<Statement, NoMemory>
@@ -203,8 +263,7 @@ fn membership(alloc: Global, named: &Named, number: u32) -> Result<Statement, No
     ensures { IfOk result (λ s. statement_tree s ≡ asked.membership number) }
 {
     let predicate = has_one_of(alloc, named, number % 4)?;
-    let select = from_users(alloc, named)?.filter(alloc, predicate)?;
-    Ok(select.into_statement())
+    users_where(alloc, named, predicate)
 }
 
 fn boxed(alloc: Global, named: &Named, dialect: Dialect, number: u32) -> Result<Statement, NoMemory>
@@ -229,28 +288,32 @@ fn is_of_user(alloc: Global, named: &Named) -> Result<Expr, NoMemory>
     requires { AreNamed named.now }
     ensures { IfOk result (λ e. expr_tree e ≡ asked.is_of_user) }
 {
-    let user_id = column_expr(alloc, &named.user_id)?;
-    let id = column_expr(alloc, &named.id)?;
-    user_id.eq(alloc, id)
+    let user_id = named.user_id.try_clone(alloc)?;
+    let id = named.id.try_clone(alloc)?;
+    Expr::Column(user_id).eq(alloc, Expr::Column(id))
 }
 
-fn posts_of_user(alloc: Global, named: &Named) -> Result<SelectStatement, NoMemory>
+fn posts_of_user(alloc: Global, named: &Named) -> Result<Statement, NoMemory>
     requires { AreNamed named.now }
-    ensures { IfOk result (λ s. select_statement_tree s ≡ asked.posts_of_user) }
+    ensures { IfOk result (λ s. statement_tree s ≡ asked.posts_of_user) }
 {
     let predicate = is_of_user(alloc, named)?;
-    let posts = named.posts.try_clone(alloc)?;
-    posts.as_query(alloc)?.filter(alloc, predicate)
+    match from_posts(alloc, named) {
+        Ok(posts) => filter(alloc, posts, predicate),
+        Err(error) => {
+            drop(predicate);
+            Err(error)
+        }
+    }
 }
 
 fn with_posts(alloc: Global, named: &Named) -> Result<Statement, NoMemory>
     requires { AreNamed named.now }
     ensures { IfOk result (λ s. statement_tree s ≡ asked.with_posts) }
 {
-    let posts = posts_of_user(alloc, named)?.into_statement();
+    let posts = posts_of_user(alloc, named)?;
     let predicate = exists(alloc, posts)?;
-    let select = from_users(alloc, named)?.filter(alloc, predicate)?;
-    Ok(select.into_statement())
+    users_where(alloc, named, predicate)
 }
 
 impl Named {
