@@ -43,7 +43,7 @@ impl Counts {
         self.accepted = self.accepted.saturating_add(1);
         self.binds = self.binds.saturating_add(binds as u64);
         self.bytes = self.bytes.saturating_add(bytes as u64);
-        self.ids = self.ids.saturating_add(if is_own { 1 } else { 0 });
+        self.ids = self.ids.saturating_add(u64::from(is_own));
         self.requests = self.requests.saturating_add(1);
     }
 

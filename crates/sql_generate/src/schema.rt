@@ -1,4 +1,4 @@
-ghost use Rattle.std.specs.Prelude.{◌≡◌, [], ◌∷◌, codes, IfOk, None, Some, option_map};
+ghost use Rattle.std.specs.Prelude.{◌≡◌, [], ◌∷◌, IfOk, None};
 ghost use Rattle.sql_generate.specs.Schema as given;
 
 use sql_schema::{
@@ -35,19 +35,22 @@ fn integer(alloc: Global, name: &str) -> Result<ColumnDecl, NoMemory>
     column_as(alloc, name, name, Base::Integer)
 }
 
-/// A table outside of every schema, whose name is the one that is written.
+/// A table outside of every schema.
 fn table(
     alloc: Global,
     name: &str,
+    sql_name: &str,
     columns: Vec<ColumnDecl>,
     key: Vec<SqlText>,
 ) -> Result<TableDecl, NoMemory>
     ensures { IfOk result (λ t. t
-        ≡ given.table_as name.now None name.now columns.items key.items) }
+        ≡ given.table_as name.now None sql_name.now columns.items key.items) }
 {
+    let name = text(alloc, name)?;
+    let sql_name = text(alloc, sql_name)?;
     Ok(TableDecl {
-        name: text(alloc, name)?,
-        sql_name: text(alloc, name)?,
+        name,
+        sql_name,
         schema: None,
         columns: SqlList::from(columns),
         primary_key: SqlList::from(key),
@@ -58,15 +61,15 @@ fn table(
 fn id_key(alloc: Global) -> Result<Vec<SqlText>, NoMemory>
     ensures { IfOk result (λ v. v.items ≡ given.id_key) }
 {
-    let key = vec![in alloc; text(alloc, "id")?]?;
-    Ok(key)
+    let id = text(alloc, "id")?;
+    Ok(vec![in alloc; id]?)
 }
 
 fn id_alone(alloc: Global) -> Result<Vec<ColumnDecl>, NoMemory>
     ensures { IfOk result (λ v. v.items ≡ given.id ∷ []) }
 {
-    let columns = vec![in alloc; integer(alloc, "id")?]?;
-    Ok(columns)
+    let id = integer(alloc, "id")?;
+    Ok(vec![in alloc; id]?)
 }
 
 fn foo(alloc: Global) -> Result<TableDecl, NoMemory>
@@ -75,7 +78,7 @@ fn foo(alloc: Global) -> Result<TableDecl, NoMemory>
     let mut columns = id_alone(alloc)?;
     columns.push(column_as(alloc, "mytype", "type", Base::Integer)?)?;
     columns.push(column_as(alloc, "hey", "bleh", Base::Integer)?)?;
-    table(alloc, "foo", columns, id_key(alloc)?)
+    table(alloc, "foo", "foo", columns, id_key(alloc)?)
 }
 
 fn bars(alloc: Global) -> Result<TableDecl, NoMemory>
@@ -83,58 +86,60 @@ fn bars(alloc: Global) -> Result<TableDecl, NoMemory>
 {
     let mut columns = id_alone(alloc)?;
     columns.push(column_as(alloc, "baz", "baz", Base::Text)?)?;
-    let table = table(alloc, "bars", columns, id_key(alloc)?)?;
-    Ok(TableDecl {
-        schema: Some(text(alloc, "foo")?),
-        ..table
-    })
+    let mut table = table(alloc, "bars", "bars", columns, id_key(alloc)?)?;
+    table.schema = Some(text(alloc, "foo")?);
+    Ok(table)
 }
 
 fn bar(alloc: Global) -> Result<TableDecl, NoMemory>
     ensures { IfOk result (λ t. t ≡ given.bar) }
 {
-    let table = table(alloc, "bar", id_alone(alloc)?, id_key(alloc)?)?;
-    Ok(TableDecl {
-        sql_name: text(alloc, "mod")?,
-        ..table
-    })
+    table(alloc, "bar", "mod", id_alone(alloc)?, id_key(alloc)?)
 }
 
 fn q(alloc: Global) -> Result<TableDecl, NoMemory>
     ensures { IfOk result (λ t. t ≡ given.q) }
 {
-    let table = table(alloc, "q", id_alone(alloc)?, id_key(alloc)?)?;
-    Ok(TableDecl {
-        sql_name: text(alloc, "a\"b")?,
-        ..table
-    })
+    table(alloc, "q", "a\"b", id_alone(alloc)?, id_key(alloc)?)
 }
 
+#[tactic(auto, unfolding(crate::specs::Schema::users))]
 fn users(alloc: Global) -> Result<TableDecl, NoMemory>
     ensures { IfOk result (λ t. t ≡ given.users) }
 {
     let mut columns = id_alone(alloc)?;
     columns.push(column_as(alloc, "name", "name", Base::Text)?)?;
-    table(alloc, "users", columns, id_key(alloc)?)
+    table(alloc, "users", "users", columns, id_key(alloc)?)
 }
 
+#[tactic(auto, unfolding(crate::specs::Schema::posts))]
 fn posts(alloc: Global) -> Result<TableDecl, NoMemory>
     ensures { IfOk result (λ t. t ≡ given.posts) }
 {
     let mut columns = id_alone(alloc)?;
     columns.push(integer(alloc, "user_id")?)?;
     columns.push(column_as(alloc, "title", "title", Base::Text)?)?;
-    table(alloc, "posts", columns, id_key(alloc)?)
+    table(alloc, "posts", "posts", columns, id_key(alloc)?)
+}
+
+fn member_key(alloc: Global) -> Result<Vec<SqlText>, NoMemory>
+    ensures { IfOk result (λ v. v.items ≡ given.members.primary_key) }
+{
+    let user_id = text(alloc, "user_id")?;
+    let group_id = text(alloc, "group_id")?;
+    Ok(vec![in alloc; user_id, group_id]?)
 }
 
 fn members(alloc: Global) -> Result<TableDecl, NoMemory>
     ensures { IfOk result (λ t. t ≡ given.members) }
 {
-    let columns = vec![in alloc; integer(alloc, "user_id")?, integer(alloc, "group_id")?]?;
-    let key = vec![in alloc; text(alloc, "user_id")?, text(alloc, "group_id")?]?;
-    table(alloc, "members", columns, key)
+    let user_id = integer(alloc, "user_id")?;
+    let group_id = integer(alloc, "group_id")?;
+    let columns = vec![in alloc; user_id, group_id]?;
+    table(alloc, "members", "members", columns, member_key(alloc)?)
 }
 
+#[tactic(auto, unfolding(crate::specs::Schema::declarations))]
 fn declared(alloc: Global) -> Result<SchemaBuilder, NoMemory>
     ensures { IfOk result (λ b. b ≡ given.declarations) }
 {

@@ -189,7 +189,7 @@ fn names_and_titles(alloc: Global, named: &Named) -> Result<Expr, NoMemory>
 {
     let name = named.name.try_clone(alloc)?;
     let title = named.title.try_clone(alloc)?;
-    let both = Vec::from_array(alloc, [Expr::Column(name), Expr::Column(title)])?;
+    let both = vec![in alloc; Expr::Column(name), Expr::Column(title)]?;
     Ok(Expr::List(SqlList::from(both)))
 }
 
@@ -221,7 +221,7 @@ fn user_ids(alloc: Global, named: &Named) -> Result<SelectStatement, NoMemory>
     Ok(users.select(Expr::Column(id)))
 }
 
-fn union(
+fn united(
     alloc: Global,
     left: SelectStatement,
     right: SelectStatement,
@@ -239,7 +239,7 @@ fn self_union(alloc: Global, named: &Named) -> Result<Statement, NoMemory>
 {
     let left = user_ids(alloc, named)?;
     match user_ids(alloc, named) {
-        Ok(right) => union(alloc, left, right),
+        Ok(right) => united(alloc, left, right),
         Err(error) => {
             drop(left);
             Err(error)

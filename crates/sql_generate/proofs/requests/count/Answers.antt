@@ -32,12 +32,12 @@ pub returns-in-Ok : goal.returns-in-Ok
 returns-in-Ok c =
     let i = c.args.number in
     let n = i + 1 in
-    let d = c.dialect_of.result in
+    let d = c.dialect_of-dialect.result in
     let s = statement_tree c.in_ok-statement.statement in
     let f = seen_at c.args.seen.now in
     let g = seen_at c.accept.new.seen in
     let schema = c.args.named.now.schema in
-    let same = is-request i d c.form_of.result s c.dialect_of.ensures c.form_of.ensures c.in_ok-statement.ensures in
+    let same = is-request i d c.form_of.result s c.dialect_of-dialect.ensures c.form_of.ensures c.in_ok-statement.ensures in
     both_ok c.accept.result (λ counted kept.
     subst (λ r. HasLine declarations r n f g (TellMore n c.args.counts.now c.accept.new.counts)) same
     (subst (λ x. HasLine x (of d s) n f g (TellMore n c.args.counts.now c.accept.new.counts)) c.requires.schema
@@ -49,11 +49,11 @@ pub returns : goal.returns
 returns c =
     let i = c.args.number in
     let n = i + 1 in
-    let d = c.dialect_of.result in
+    let d = c.dialect_of-dialect.result in
     let s = statement_tree c.in_ok-statement.statement in
     let f = seen_at c.args.seen.now in
     let schema = c.args.named.now.schema in
-    let same = is-request i d c.form_of.result s c.dialect_of.ensures c.form_of.ensures c.in_ok-statement.ensures in
+    let same = is-request i d c.form_of.result s c.dialect_of-dialect.ensures c.form_of.ensures c.in_ok-statement.ensures in
     on_ok_weaker c.refuse.result _ _ (λ h. let (rule, is, told) = h in
     subst (λ r. HasLine declarations r n f f (TellMore n c.args.counts.now c.refuse.new.counts)) same
     (subst (λ x. HasLine x (of d s) n f f (TellMore n c.args.counts.now c.refuse.new.counts)) c.requires.schema
