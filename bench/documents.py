@@ -50,14 +50,21 @@ def requests(count):
     return {"tables": [USERS]}, [{"dialect": "Pg", "query": {**FROM_USERS, "calls": [["filter", is_number(n)]]}} for n in range(count)]
 
 
+def selected_by_digits(number):
+    """A request of a shape of its own: it selects the columns of a table of ten in the order of the number's digits."""
+    digits = [int(digit) for digit in str(number)]
+    selection = [{"col": ["wide", "id" if digit == 0 else f"c{digit - 1}"]} for digit in digits]
+    return {"dialect": "Pg", "query": {"from": {"table": "wide"}, "calls": [["select", selection]]}}
+
+
 def shapes(count):
-    """Requests of as many shapes: each selects the columns of a table of ten in an order of its own."""
-    everything = []
-    for number in range(count):
-        digits = [int(digit) for digit in str(number)]
-        selection = [{"col": ["wide", "id" if digit == 0 else f"c{digit - 1}"]} for digit in digits]
-        everything.append({"dialect": "Pg", "query": {"from": {"table": "wide"}, "calls": [["select", selection]]}})
-    return {"tables": [wide("wide", 10)]}, everything
+    """Requests of as many shapes."""
+    return {"tables": [wide("wide", 10)]}, [selected_by_digits(number) for number in range(count)]
+
+
+def repeated(count):
+    """Requests of which ten in a row have one shape."""
+    return {"tables": [wide("wide", 10)]}, [selected_by_digits(number // 10) for number in range(count)]
 
 
 def limits(count):
@@ -205,6 +212,7 @@ def value_bytes(count):
 DIRECTIONS = {
     "requests": (requests, None),
     "shapes": (shapes, None),
+    "repeated": (repeated, None),
     "limits": (limits, None),
     "filters": (filters, MAX_DEPTH - 4),
     "or_filters": (or_filters, MAX_DEPTH - 4),

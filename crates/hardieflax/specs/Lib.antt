@@ -86,6 +86,10 @@ pub use Rattle.sql_check.specs.Compiled
 pub use Rattle.sql_check.specs.Errors
 pub use Rattle.sql_check.specs.declared.built.Built
 pub use Rattle.sql_check.specs.declared.error.CompileError
+-- What a statement cache holds.
+pub use Rattle.sql_rows.specs.Calls as CacheCalls
+pub use Rattle.sql_rows.specs.Entries
+pub use Rattle.sql_rows.specs.declared.cache.RequestKey
 -- What statements answer.
 pub use Rattle.sql_meaning.specs.Answers
 pub use Rattle.sql_meaning.specs.Fitting as AnswerFitting

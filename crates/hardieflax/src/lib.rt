@@ -73,10 +73,11 @@ pub use sql_check::{
     Built, CompileError, RULES, Rule, boxing_takes_the_id_alone, broken, compile, values_fit,
 };
 
-// `compile` with column types that are right for NULL, and what statements answer.
+// `compile` with column types that are right for NULL, a cache of its answers, and what statements answer.
 pub use sql_rows::{
+    RequestKey, StatementCache, answered_pairs_stand_in_front, calls_are_answered_alone,
     compile_sound, first_is_any, last_writer_is_an_answer, left_join_has_two_answers,
-    needs_nullable_is_needed, operators_work, the_example_is_accepted, types_are_sound,
+    needs_nullable_is_needed, one_answer, operators_work, the_example_is_accepted, types_are_sound,
 };
 
 // The laws: what holds of a statement that breaks no rule, of statements of one shape, and of the grammar.

@@ -3,6 +3,7 @@
 #![tactic(auto)]
 
 mod failure;
+mod layer;
 mod maria;
 mod readme;
 mod report;
@@ -10,15 +11,18 @@ mod report;
 use failure::Failure;
 use hardieflax::{
     Backend, Base, Bracket, Identifier, Mysql, Pg, QueryBuilder, QueryFragment, Schema,
-    SchemaBuilder, Sqlite, debug_query,
+    SchemaBuilder, Sqlite, StatementCache, debug_query,
 };
+use layer::users_named_again;
 use maria::{Maria, Upper};
 use readme::{users, written};
 use report::users_named;
+use std::num::NonZeroUsize;
 
 fn main(rt: HostRuntime) -> Result<(), Failure> {
     statements(&rt)?;
     reports(&rt)?;
+    cached(&rt)?;
     parts(&rt)
 }
 
@@ -53,6 +57,25 @@ fn print_report(rt: &HostRuntime, schema: &Schema) -> Result<(), Failure> {
             )?;
         }
         Err(error) => println!(rt; "report:  {error}")?,
+    }
+    Ok(())
+}
+
+/// The report for two names through a cache, which has the second name's text already.
+fn cached(rt: &HostRuntime) -> Result<(), Failure> {
+    let alloc = rt.alloc();
+    let capacity = NonZeroUsize::new(256).unwrap();
+    let mut cache = StatementCache::new(alloc, users(alloc, Base::Text)?, capacity)?;
+    print_cached(rt, &mut cache, "Sean")?;
+    print_cached(rt, &mut cache, "Tess")?;
+    println!(rt; "cached:  {} entry, {} hit", cache.len(), cache.hits())?;
+    Ok(())
+}
+
+fn print_cached(rt: &HostRuntime, cache: &mut StatementCache, name: &str) -> Result<(), Failure> {
+    match users_named_again(rt.alloc(), cache, name) {
+        Ok(built) => println!(rt; "cached:  {}", built.sql.as_str())?,
+        Err(error) => println!(rt; "cached:  {error}")?,
     }
     Ok(())
 }

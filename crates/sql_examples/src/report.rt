@@ -52,7 +52,8 @@ pub fn users_named(alloc: Global, schema: &Schema, name: &str) -> Result<Built, 
     }
 }
 
-fn statement(alloc: Global, schema: &Schema, name: &str) -> Result<Statement, ReportError>
+/// The report's statement.
+pub fn statement(alloc: Global, schema: &Schema, name: &str) -> Result<Statement, ReportError>
     ensures statement { IfOk result (λ s. report schema.now name.now ≡ Some (statement_tree s)) }
     ensures no_users { IsErrOf result ReportError.NoUsers → report schema.now name.now ≡ None }
     ensures memory { IfErr result (λ e. refusal e ≡ None) }

@@ -13,7 +13,7 @@ use Rattle.sql_check.specs.declared.built.Built.{Built}
 use Rattle.sql_output.proofs.Judging.{is-accepted, kept-none}
 use Rattle.sql_output.specs.Judgement.{Judges, refuses, accepts}
 use Rattle.sql_output.specs.Output.{Line, StatementRequest}
-use Rattle.sql_output.specs.declared.known.RequestKey.{RequestKey}
+use Rattle.sql_rows.specs.declared.cache.RequestKey.{RequestKey}
 use Rattle.sql_output.specs.inside.Keys.{HasLine, IsKept, id_found, keyed, line_found}
 use Rattle.sql_generate.proofs.Totals.{total-more, cut-raised, grown, same, grown-ids, same-ids, grown-length}
 use Rattle.sql_generate.specs.Counts.{one_if, is_accepted, is_refused_as, binds_in, bytes_in, is_own, refused_as}

@@ -3,8 +3,8 @@ use Rattle.std.proofs.Common.{◌≡◌, ◌↔◌, ◌<◌, ◌+◌, ℕ, zero,
 use Rattle.std.specs.List.{slice_get}
 use Rattle.sql_output.specs.Ids.{RequestShape, IsFirst, IsId}
 use Rattle.sql_output.specs.inside.Keys.{index_from, same_key}
-use Rattle.sql_output.specs.declared.known.RequestKey.{RequestKey}
-use Rattle.sql_output.specs.contracts.known.RequestKeyEq.TheImpl.Laws.{laws-law}
+use Rattle.sql_rows.specs.declared.cache.RequestKey.{RequestKey}
+use Rattle.sql_rows.specs.contracts.cache.RequestKeyEq.TheImpl.Laws.{laws-law}
 use Rattle.sql_output.proofs.Keys.{exact-key}
 
 pub none_some : {X : Type 0} (x : X) → Prim.Path (Option X) None (Some x) → ⊥

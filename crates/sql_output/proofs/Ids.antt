@@ -23,7 +23,7 @@ use Rattle.sql_output.specs.Ids.{RequestShape, request_shape, IsFirst, IsId}
 use Rattle.sql_output.specs.Judgement.{Judgement, refuses, accepts}
 use Rattle.sql_output.specs.Output.{Line, StatementRequest, AreLines, line_shape}
 use Rattle.sql_output.specs.Shared.{Serves, HasAccepted, OneIdServes, OneShapeOneId}
-use Rattle.sql_output.specs.declared.known.RequestKey.{RequestKey}
+use Rattle.sql_rows.specs.declared.cache.RequestKey.{RequestKey}
 use Rattle.sql_output.specs.inside.Keys.{id_found, index_from, keyed, request_key}
 
 abbrev pub line_key : Line → Option RequestKey

@@ -13,7 +13,7 @@ use Rattle.sql_check.specs.declared.built.Built.{Built}
 use Rattle.sql_output.specs.Objects.{line_object, refused, statement_data}
 use Rattle.sql_output.specs.Judgement.{IsAccepted, Judges, refuses, accepts}
 use Rattle.sql_output.specs.Output.{Line, StatementRequest}
-use Rattle.sql_output.specs.declared.known.RequestKey.{RequestKey}
+use Rattle.sql_rows.specs.declared.cache.RequestKey.{RequestKey}
 use Rattle.sql_output.specs.inside.Keys.{keyed, id_found, IsKept, HasLine}
 
 option_or-none : (o : Option ℕ) → o ≡ option_or o None

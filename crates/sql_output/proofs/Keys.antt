@@ -1,29 +1,14 @@
 -- The index of the first request of a key, as a list of requests grows at its end.
 use Rattle.std.proofs.Common.{◌≡◌, ℕ, suc, ◌+◌, Bool, true, false, ◌&&◌, cond, Option, Some, None, List, [], ◌∷◌, ◌++◌, length, refl, sym, ap, ◌∙◌, arith}
-use Rattle.std.specs.Cmp.{first_so, second_so}
 use Rattle.std.specs.Option.{option_or, unwrap_or}
 use Rattle.std.specs.Ordering.{is_eq}
-use denote.Enum.Bare.{same_true}
-use Rattle.sql_dialect.specs.contracts.backend.DialectPartialEq.TheImpl as dialect_eq
-use Rattle.sql_dialect.specs.contracts.backend.Dialect.{the_type as the_dialect}
-use Rattle.sql_schema.proofs.Exact.{IsExact}
-use Rattle.sql_key.proofs.ExactNodes.{same-key}
-use Rattle.sql_key.specs.contracts.key.QueryKeyPartialEq.TheImpl as query_eq
 use Rattle.sql_output.specs.inside.Keys.{same_key, index_from, IsKept}
-use Rattle.sql_output.specs.declared.known.RequestKey.{RequestKey}
-use Rattle.sql_output.specs.contracts.known.RequestKeyPartialEq.TheImpl as request_eq
-use Rattle.sql_output.specs.contracts.known.RequestKeyOrd.TheImpl as request_ord
-use Rattle.sql_output.specs.contracts.known.RequestKeyOrd.TheImpl.Laws.{matches_eq-law}
-use Rattle.sql_output.specs.contracts.known.RequestKeyEq.TheImpl.Laws.{laws-law}
-
--- `==` of keys is true of equal keys alone
-pub exact-key : IsExact (request_eq.ghosts).eq
-exact-key a b h =
-    let d = (dialect_eq.ghosts).eq a.dialect b.dialect in
-    let k = (query_eq.ghosts).eq a.key b.key in
-    let p = same_true the_dialect tt a.dialect b.dialect (first_so d k h) in
-    let q = (same-key a.key b.key).0 (second_so d k h) in
-    λ i. record { dialect = p i; key = q i }
+use Rattle.sql_rows.specs.declared.cache.RequestKey.{RequestKey}
+use Rattle.sql_rows.proofs.Exact.{exact-key}
+use Rattle.sql_rows.specs.contracts.cache.RequestKeyPartialEq.TheImpl as request_eq
+use Rattle.sql_rows.specs.contracts.cache.RequestKeyOrd.TheImpl as request_ord
+use Rattle.sql_rows.specs.contracts.cache.RequestKeyOrd.TheImpl.Laws.{matches_eq-law}
+use Rattle.sql_rows.specs.contracts.cache.RequestKeyEq.TheImpl.Laws.{laws-law}
 
 pub index-append : (n : ℕ) (xs ys : List (Option RequestKey)) (q : RequestKey)
     → index_from n (xs ++ ys) q ≡ option_or (index_from n xs q) (index_from (n + length xs) ys q)

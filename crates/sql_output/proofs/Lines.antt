@@ -21,7 +21,7 @@ use Rattle.sql_output.specs.Ids.{RequestShape}
 use Rattle.sql_output.specs.Objects.{value_data, type_data, bound_data, id_data, accepted, line_object}
 use Rattle.sql_output.specs.Judgement.{Judgement, refuses, accepts, Judges}
 use Rattle.sql_output.specs.Output.{Line, StatementRequest, IsLine, AreLines, line_shape, line_text, lines_text}
-use Rattle.sql_output.specs.declared.known.RequestKey.{RequestKey}
+use Rattle.sql_rows.specs.declared.cache.RequestKey.{RequestKey}
 use Rattle.sql_output.specs.inside.Keys.{request_key, line_found, IsKept}
 
 -- ---- no number of a line is a float

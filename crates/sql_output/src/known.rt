@@ -4,15 +4,9 @@ ghost use Rattle.sql_output.specs.inside.Keys.{keyed, id_found, seen_at, IsKept}
 
 use sql_dialect::Dialect;
 use sql_key::QueryKey;
+use sql_rows::RequestKey;
 use std::alloc::AllocError;
 use std::collections::BTreeMap;
-
-/// The cache key of a request: its dialect, and the key of its statement.
-#[derive(Debug, Drop, PartialEq, Eq, PartialOrd, Ord)]
-pub struct RequestKey {
-    pub dialect: Dialect,
-    pub key: QueryKey,
-}
 
 fn id_of_key(
     seen: &mut BTreeMap<RequestKey, u64>,

@@ -5,5 +5,6 @@ mod known;
 mod line;
 mod object;
 
-pub use known::{RequestKey, request_id};
-pub use line::{compile_for, request_line};
+pub use known::request_id;
+pub use line::{compile_cached_for, compile_for, request_line};
+pub use sql_rows::{RequestKey, StatementCache};

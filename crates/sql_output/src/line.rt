@@ -4,13 +4,14 @@ ghost use Rattle.sql_check.specs.Compiled.{IsBuilt, IsLeast, IsRead};
 ghost use Rattle.sql_check.specs.Errors.{rule_of};
 ghost use Rattle.sql_document.specs.Trees.{request_tree};
 ghost use Rattle.sql_node.specs.View.{statement_tree};
+ghost use Rattle.sql_rows.specs.Entries.{IsNext};
 ghost use Rattle.sql_rules.specs.Texts.{rule_text};
 ghost use Rattle.sql_rules.specs.declared.rule.Rule.{Rule};
 ghost use Rattle.sql_output.specs.Objects.{line_object, refused as refused_data, statement_data};
 ghost use Rattle.sql_output.specs.Output.{line_text, statement_request};
 ghost use Rattle.sql_output.specs.inside.Keys.{keyed, id_found, seen_at, IsKept, HasLine};
 
-use crate::known::{RequestKey, request_id};
+use crate::known::request_id;
 use crate::object::{accepted, refused};
 use serde_json::Value as Json;
 use sql_build::statement;
@@ -18,7 +19,7 @@ use sql_check::{Built, CompileError, Rule};
 use sql_dialect::{Bracket, Dialect, Mysql, Pg, Sqlite};
 use sql_document::Request;
 use sql_node::Statement;
-use sql_rows::compile_sound;
+use sql_rows::{RequestKey, StatementCache, compile_sound};
 use sql_schema::Schema;
 use std::alloc::{AllocError, Global};
 use std::collections::BTreeMap;
@@ -41,6 +42,30 @@ pub fn compile_for(
         Dialect::Mysql => compile_sound(alloc, &Mysql, schema, statement),
         Dialect::Sqlite => compile_sound(alloc, &Sqlite, schema, statement),
         Dialect::Bracket => compile_sound(alloc, &Bracket, schema, statement),
+    }
+}
+
+/// `compile_cached` for a dialect that is known when the program runs.
+pub fn compile_cached_for(
+    alloc: Global,
+    dialect: Dialect,
+    cache: &mut StatementCache,
+    statement: &Statement,
+) -> Result<Built, CompileError>
+    ensures built { IfOk result (λ b.
+        IsBuilt cache.old.schema dialect (statement_tree statement.now) b) }
+    ensures read { IfOk result (λ b. IsRead dialect (statement_tree statement.now)
+        b.sql b.binds) }
+    ensures refused { IfErr result (λ e. (r : Rule) → rule_of e ≡ Some r
+        → IsLeast r cache.old.schema dialect (statement_tree statement.now)) }
+    ensures schema { cache.new.schema ≡ cache.old.schema }
+    ensures entries { IsNext dialect (statement_tree statement.now) cache.old result cache.new }
+{
+    match dialect {
+        Dialect::Pg => cache.compile_cached(alloc, &Pg, statement),
+        Dialect::Mysql => cache.compile_cached(alloc, &Mysql, statement),
+        Dialect::Sqlite => cache.compile_cached(alloc, &Sqlite, statement),
+        Dialect::Bracket => cache.compile_cached(alloc, &Bracket, statement),
     }
 }
 
@@ -88,42 +113,44 @@ fn refuse(alloc: Global, error: CompileError) -> Result<Json, AllocError>
     }
 }
 
-/// The object of the request with this number, where `seen` has the keys of those before it.
+/// The object of the request with this number, where `seen` has the keys of those before it. What the cache holds changes no answer.
 fn request_object(
     alloc: Global,
-    schema: &Schema,
+    cache: &mut StatementCache,
     seen: &mut BTreeMap<RequestKey, u64>,
     number: u64,
     request: &Request,
 ) -> Result<Json, AllocError>
-    ensures { IfOk result (λ v. HasLine schema.now
-        (statement_request schema.now (request_tree request.now))
+    ensures object { IfOk result (λ v. HasLine cache.old.schema
+        (statement_request cache.old.schema (request_tree request.now))
         number (seen_at seen.old) (seen_at seen.new)
         (λ l. view v ≡ line_object l.dialect l.id l.judgement)) }
+    ensures schema { cache.new.schema ≡ cache.old.schema }
 {
-    match statement(alloc, schema, request.dialect, &request.query)? {
+    match statement(alloc, cache.schema(), request.dialect, &request.query)? {
         None => refused(alloc, Rule::UnknownName),
-        Some(statement) => match compile_for(alloc, request.dialect, schema, &statement) {
+        Some(statement) => match compile_cached_for(alloc, request.dialect, cache, &statement) {
             Ok(built) => accept(alloc, request.dialect, seen, number, built),
             Err(error) => refuse(alloc, error),
         },
     }
 }
 
-/// The line of the request with this number, where `seen` has the keys of those before it.
+/// The line of the request with this number, where `seen` has the keys of those before it. What the cache holds changes no line.
 pub fn request_line(
     alloc: Global,
-    schema: &Schema,
+    cache: &mut StatementCache,
     seen: &mut BTreeMap<RequestKey, u64>,
     number: u64,
     request: &Request,
 ) -> Result<String, AllocError>
-    ensures { IfOk result (λ text. HasLine schema.now
-        (statement_request schema.now (request_tree request.now))
+    ensures line { IfOk result (λ text. HasLine cache.old.schema
+        (statement_request cache.old.schema (request_tree request.now))
         number (seen_at seen.old) (seen_at seen.new)
         (λ l. string_bytes text ≡ line_text l)) }
+    ensures schema { cache.new.schema ≡ cache.old.schema }
 {
-    let value = request_object(alloc, schema, seen, number, request)?;
+    let value = request_object(alloc, cache, seen, number, request)?;
     let mut text = value.to_string(alloc)?;
     text.push_str("\n")?;
     Ok(text)

@@ -1,3 +1,7 @@
+-- What a statement cache holds, and what each call makes of it.
+pub mod Calls
+pub mod Entries
+pub mod inside
 -- What statements mean: `Rattle.sql_rows.specs.Fitting.{AnswersFit}` is that of `sql_meaning`.
 pub use Rattle.sql_meaning.specs.Answers
 pub use Rattle.sql_meaning.specs.Example

@@ -1,10 +1,14 @@
-//! `compile_sound`: what `compile` answers, with column types that are proved right for NULL.
+//! `compile_sound`: what `compile` answers, with column types that are proved right for NULL; and a bounded cache of such answers.
 //!
 //! What a statement may answer over a database is defined in `sql_meaning`, whose definitions and laws this crate re-exports.
 #![tactic(auto)]
 
+mod cache;
+mod laws;
 mod sound;
 
+pub use cache::{RequestKey, StatementCache};
+pub use laws::{answered_pairs_stand_in_front, calls_are_answered_alone, one_answer};
 pub use sound::compile_sound;
 pub use sql_meaning::{
     first_is_any, last_writer_is_an_answer, left_join_has_two_answers, needs_nullable_is_needed,

@@ -4,7 +4,7 @@ ghost use Rattle.sql_schema.specs.Declarations.{Declarations};
 ghost use Rattle.sql_stream.specs.Causes.{HasRisen};
 ghost use Rattle.sql_dialect.specs.declared.backend.Dialect.{Dialect};
 ghost use Rattle.sql_document.specs.Documents.{Document as DocumentTree};
-ghost use Rattle.sql_document.specs.Trees.{document_tree};
+ghost use Rattle.sql_document.specs.Trees.{document_tree, request_tree};
 ghost use Rattle.sql_generate.specs.Summary.{IsSummary};
 ghost use Rattle.sql_output.specs.Output.{AreLines, IsOutput, IsOutputPrefix, Line, StatementRequest};
 ghost use Rattle.sql_output.specs.Shared.{OneIdServes, OneShapeOneId};
@@ -19,13 +19,14 @@ ghost use Rattle.sql_tool.specs.declared.run.WriteError.TheVariants.{Memory, Fau
 use crate::command::Command;
 use crate::status::Status;
 use sql_dialect::Dialect;
-use sql_document::{Document, Refusal, read_document};
+use sql_document::{Document, Refusal, Request, read_document};
 use sql_generate::generate;
-use sql_output::{RequestKey, request_line};
+use sql_output::{RequestKey, StatementCache, request_line};
 use sql_read_output::{input_text, reading_line};
 use sql_stream::{Failed, ReadError, Sink, Source, read_all, write_all};
 use std::alloc::{AllocError, Global};
 use std::collections::BTreeMap;
+use std::num::NonZeroUsize;
 
 /// How many bytes an input may have.
 pub const LIMIT: usize = 16777216;
@@ -53,12 +54,21 @@ impl From<Failed> for WriteError {
     }
 }
 
-/// Writes a line for each request, in order.
-fn write_lines<K: Sink>(alloc: Global, document: &Document, sink: &mut K) -> Result<(), WriteError>
-    ensures all { OnOk result ((text : List ℕ) × IsOutput (document_tree document.now) text
+/// How many answers are kept for requests of the same dialect and shape.
+const ENTRIES: usize = 256;
+
+/// Writes a line for each of these requests, in order.
+fn write_requests<K: Sink>(
+    alloc: Global,
+    cache: &mut StatementCache,
+    requests: &[Request],
+    sink: &mut K,
+) -> Result<(), WriteError>
+    ensures all { OnOk result ((text : List ℕ)
+        × IsOutput (record { schema = cache.old.schema; requests = map request_tree requests.now }) text
         × Appends (K.held sink.old) (K.held sink.new) text) }
     ensures prefix { OnErr result ((text : List ℕ)
-        × IsOutputPrefix (document_tree document.now) text
+        × IsOutputPrefix (record { schema = cache.old.schema; requests = map request_tree requests.now }) text
         × Appends (K.held sink.old) (K.held sink.new) text) }
     ensures fault { IfErr result (λ e. e ≡ WriteError.Fault
         → HasRisen (K.faults sink.old) (K.faults sink.new)) }
@@ -67,17 +77,30 @@ fn write_lines<K: Sink>(alloc: Global, document: &Document, sink: &mut K) -> Res
     ensures ok { OnOk result (K.faults sink.new ≡ K.faults sink.old) }
 {
     let mut seen: BTreeMap<RequestKey, u64> = BTreeMap::new(alloc);
-    for (before, request) in document.requests.as_slice().iter().enumerate() {
-        let text = request_line(
-            alloc,
-            &document.schema,
-            &mut seen,
-            before as u64 + 1,
-            request,
-        )?;
+    for (before, request) in requests.iter().enumerate() {
+        let text = request_line(alloc, cache, &mut seen, before as u64 + 1, request)?;
         write_all(sink, text.as_bytes())?;
     }
     Ok(())
+}
+
+/// Writes a line for each request of the document, in order.
+fn write_lines<K: Sink>(alloc: Global, document: Document, sink: &mut K) -> Result<(), WriteError>
+    ensures all { OnOk result ((text : List ℕ) × IsOutput (document_tree document) text
+        × Appends (K.held sink.old) (K.held sink.new) text) }
+    ensures prefix { OnErr result ((text : List ℕ)
+        × IsOutputPrefix (document_tree document) text
+        × Appends (K.held sink.old) (K.held sink.new) text) }
+    ensures fault { IfErr result (λ e. e ≡ WriteError.Fault
+        → HasRisen (K.faults sink.old) (K.faults sink.new)) }
+    ensures no_fault { IfErr result (λ e. e ≡ WriteError.Memory
+        → K.faults sink.new ≡ K.faults sink.old) }
+    ensures ok { OnOk result (K.faults sink.new ≡ K.faults sink.old) }
+{
+    let Document { schema, requests } = document;
+    let capacity = NonZeroUsize::new(ENTRIES).unwrap();
+    let mut cache = StatementCache::new(alloc, schema, capacity)?;
+    write_requests(alloc, &mut cache, requests.as_slice(), sink)
 }
 
 /// Writes the output of the document that the bytes are.
@@ -90,7 +113,7 @@ fn write_output<K: Sink>(alloc: Global, bytes: &[u8], sink: &mut K) -> Status
     match read_document(alloc, bytes) {
         Err(Refusal::NoMemory) => Status::NoMemory,
         Err(Refusal::NotADocument) => Status::BadDocument,
-        Ok(document) => match write_lines(alloc, &document, sink) {
+        Ok(document) => match write_lines(alloc, document, sink) {
             Ok(()) => Status::Done,
             Err(WriteError::Memory) => Status::NoMemory,
             Err(WriteError::Fault) => Status::WriteFault,

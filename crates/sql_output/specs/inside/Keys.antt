@@ -9,9 +9,9 @@ use Rattle.sql_key.specs.declared.kind.KeyNode.{KeyNode}
 use Rattle.sql_schema.specs.Declarations.{Declarations}
 use Rattle.sql_output.specs.Judgement.{Judgement, refuses, accepts, Judges}
 use Rattle.sql_output.specs.Output.{Line, StatementRequest}
-use Rattle.sql_output.specs.declared.known.RequestKey.{RequestKey}
-use Rattle.sql_output.specs.contracts.known.RequestKeyPartialEq.TheImpl as key_eq
-use Rattle.sql_output.specs.contracts.known.RequestKeyOrd.TheImpl as key_ord
+use Rattle.sql_rows.specs.declared.cache.RequestKey.{RequestKey}
+use Rattle.sql_rows.specs.contracts.cache.RequestKeyPartialEq.TheImpl as key_eq
+use Rattle.sql_rows.specs.contracts.cache.RequestKeyOrd.TheImpl as key_ord
 
 abbrev pub keyed : Dialect → List KeyNode → RequestKey
 keyed d k = record { dialect = d; key = k }

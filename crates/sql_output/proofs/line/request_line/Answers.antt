@@ -6,10 +6,10 @@ use Rattle.sql_output.specs.Output.{line_text}
 use Rattle.sql_output.specs.inside.Keys.{line_found, seen_at}
 use Rattle.sql_output.proofs.line.request_line.Goals as goal
 
-pub returns : goal.returns
+pub returns-clause-line : goal.returns-clause-line
 unfolding line_text
-returns c =
-    let (j, judges, is, kept) = c.in_ok-value.ensures in
+returns-clause-line c =
+    let (j, judges, is, kept) = c.in_ok-value.ensures.object in
     let l = line_found (seen_at c.args.seen.now) c.args.number c.args.request.now.dialect j in
     let whole : has_float (view c.in_ok-value.value) ≡ false = ap has_float is ∙ float-object l.dialect l.id j in (
       j,

@@ -1,0 +1,93 @@
+-- What a call makes of the entries, where its pair is there, or new, or there is none.
+use Rattle.std.proofs.Common.{◌≡◌, ◌⊎◌, ◌↔◌, true, false, true≢false, List, None, Some, Contains, inl, inr, refl, sym, ap, ◌∙◌, subst}
+use Rattle.std.specs.Prelude.{Result, Ok, Err, OnOk, OnErr}
+use Rattle.std.specs.Result.{IsErrAnd}
+use Rattle.sql_dialect.specs.declared.backend.Dialect.{Dialect}
+use Rattle.sql_node.specs.Tree.{Statement}
+use Rattle.sql_key.specs.Keys.{id_of}
+use Rattle.sql_key.specs.declared.kind.KeyNode.{KeyNode}
+use Rattle.sql_law.proofs.FitLaws.{test as fit-test}
+use Rattle.sql_law.specs.Fitting.{values_fit}
+use Rattle.sql_rows.specs.declared.cache.RequestKey.{RequestKey}
+use Rattle.sql_rows.specs.Entries.{Entries, IsLookedUp, IsHit, IsNext, put}
+
+on-ok : {A E P : Type 0} (r : Result A E) → P → OnOk r P
+on-ok (Ok a) p = p
+on-ok (Err e) p = tt
+
+on-err : {A E P : Type 0} (r : Result A E) → P → OnErr r P
+on-err (Ok a) p = tt
+on-err (Err e) p = p
+
+-- ## The pair
+
+-- a statement has one in a dialect
+pub one-pair : (d : Dialect) (s : Statement) (p q : RequestKey) → IsLookedUp d s p → IsLookedUp d s q → p ≡ q
+one-pair d s p q h g =
+    let ids : Some p.key ≡ Some q.key = sym h.id ∙ g.id in
+    let key : p.key ≡ q.key = cc in
+    λ i. record { dialect = (h.dialect ∙ sym g.dialect) i; key = key i }
+
+module _ (d : Dialect) (s : Statement) where
+  pub no-pair : ((pair : RequestKey) → ¬ IsLookedUp d s pair) → (pair : RequestKey)
+      → (None ≡ Some pair) ↔ IsLookedUp d s pair
+  no-pair none pair = ((λ e. absurd (cc)), (λ at. absurd (none pair at)))
+
+  pub misfit : false ≡ values_fit s → (pair : RequestKey) → ¬ IsLookedUp d s pair
+  misfit h pair at = true≢false (sym ((fit-test s).1 at.fit) ∙ sym h)
+
+  pub without-id : id_of s ≡ None → (pair : RequestKey) → ¬ IsLookedUp d s pair
+  without-id h pair at = let e : None ≡ Some pair.key = sym h ∙ at.id in absurd (cc)
+
+  pub own-pair : (own : RequestKey) → IsLookedUp d s own → (pair : RequestKey)
+      → (Some own ≡ Some pair) ↔ IsLookedUp d s pair
+  own-pair own at pair = (
+    (λ e. let p : own ≡ pair = cc in subst (IsLookedUp d s) p at),
+    (λ h. ap Some (one-pair d s own pair at h)),
+  )
+
+  pub looked-up : true ≡ values_fit s → (k : List KeyNode) (e : Dialect) → id_of s ≡ Some k → e ≡ d
+      → IsLookedUp d s (record { dialect = e; key = k })
+  looked-up h k e id speaks = record { fit = (fit-test s).0 (sym h); id = id; dialect = speaks }
+
+-- ## The entries
+
+module _ {A E : Type 0} (d : Dialect) (s : Statement) (before : Entries) where
+  pub out-of-memory : (r : Result A E) (P : E → Type 0) → IsErrAnd r P → IsNext d s before r before
+  out-of-memory (Ok a) P h = absurd h
+  out-of-memory (Err e) P h = record {
+    found = λ pair at there. (tt, inl refl);
+    not_found = λ pair at new. (tt, refl);
+    not_looked_up = λ none. refl;
+  }
+
+  pub none-next : (r : Result A E) → ((pair : RequestKey) → ¬ IsLookedUp d s pair) → IsNext d s before r before
+  none-next r none = record {
+    found = λ pair at there. absurd (none pair at);
+    not_found = λ pair at new. absurd (none pair at);
+    not_looked_up = λ n. refl;
+  }
+
+  pub hit-next : (r : Result A E) (pair : RequestKey) (after : Entries) → IsLookedUp d s pair
+      → Contains before.keys pair → IsHit before pair after → IsNext d s before r after
+  hit-next r pair after own there hit = record {
+    found = λ q at in_it.
+        let h : IsHit before q after = subst (λ p. IsHit before p after) (one-pair d s pair q own at) hit in
+        (on-ok r h, on-err r (inr h));
+    not_found = λ q at new. absurd (new (subst (Contains before.keys) (one-pair d s pair q own at) there));
+    not_looked_up = λ none. absurd (none pair own);
+  }
+
+  pub new-next : (r : Result A E) (pair : RequestKey) (after : Entries) → IsLookedUp d s pair
+      → ¬ Contains before.keys pair → OnOk r (after ≡ put before pair) → OnErr r (after ≡ before)
+      → IsNext d s before r after
+  new-next r pair after own new ok err = record {
+    found = λ q at there. absurd (new (subst (Contains before.keys) (sym (one-pair d s pair q own at)) there));
+    not_found = λ q at n. (subst (λ p. OnOk r (after ≡ put before p)) (one-pair d s pair q own at) ok, err);
+    not_looked_up = λ none. absurd (none pair own);
+  }
+
+  pub new-schema : (r : Result A E) (pair : RequestKey) (after : Entries) → OnOk r (after ≡ put before pair)
+      → OnErr r (after ≡ before) → after.schema ≡ before.schema
+  new-schema (Ok a) pair after ok err = ap (λ (w : Entries). w.schema) ok
+  new-schema (Err e) pair after ok err = ap (λ (w : Entries). w.schema) err

@@ -1,0 +1,38 @@
+-- What is kept of an answer serves for each statement of its key.
+use Rattle.std.proofs.Common.{◌≡◌, ◌⊎◌, true, List, Some, map, Contains, inl, inr, sym, ap, ◌∙◌, subst}
+use Rattle.sql_schema.specs.Declarations.{Declarations}
+use Rattle.sql_dialect.specs.declared.backend.Dialect.{Dialect}
+use Rattle.sql_node.specs.Tree.{Statement}
+use Rattle.sql_check.specs.Compiled.{IsBuilt}
+use Rattle.sql_check.specs.declared.built.Built.{Built}
+use Rattle.sql_law.proofs.EqualIds as ids
+use Rattle.lru.specs.LruCache.{LruCache}
+use Rattle.lru.proofs.CallerLemmas.{IsPut}
+use Rattle.sql_rows.specs.declared.cache.Kept.{Kept}
+use Rattle.sql_rows.specs.declared.cache.RequestKey.{RequestKey}
+use Rattle.sql_rows.specs.Entries.{IsLookedUp}
+use Rattle.sql_rows.specs.inside.Served.{Serves, Tells, kept_of}
+use Rattle.sql_rows.proofs.Exact.{same_key, exact-key}
+
+pub kept-serves : (schema : Declarations) (d : Dialect) (s : Statement) (pair : RequestKey) (b : Built)
+    → IsLookedUp d s pair → IsBuilt schema d s b
+    → Serves schema (pair, kept_of b)
+kept-serves schema d s pair b own built = λ e t other.
+    let told : Tells schema d t (kept_of b) =
+    record {
+      accepted = ids.accepted schema d s t pair.key own.id other.id other.fit built.accepted;
+      sql = built.sql ∙ ids.text d s t pair.key own.id other.id;
+      sql_types = built.sql_types ∙ ids.column_types s t pair.key own.id other.id;
+      safe = built.safe ∙ ids.safe d s t pair.key own.id other.id;
+    } in
+    subst (λ x. Tells schema x t (kept_of b))
+    (sym own.dialect ∙ other.dialect) told
+
+-- an entry behind a put serves where what was put does
+pub put-serves : (schema : Declarations) (c : LruCache RequestKey Kept) (q : RequestKey) (v : Kept)
+    (e : RequestKey × Kept) → IsPut same_key c q v e → Serves schema (q, v) → Serves schema e
+put-serves schema c q v e put h = subst (Serves schema) (λ i. (key put.1 i, sym put.0 i)) h
+  where
+    key : (e.0 ≡ q) ⊎ ((w : Kept) × Contains c.entries (e.0, w) × (same_key q e.0 ≡ true)) → q ≡ e.0
+    key (inl p) = sym p
+    key (inr t) = exact-key q e.0 t.2

@@ -1,0 +1,49 @@
+use Rattle.std.proofs.Common.{◌≡◌, Bool, false, true, Contains, inl, inr, refl, sym, ap, ◌∙◌, subst}
+use Rattle.std.proofs.lemmas.Map.Views.{Contains-from_any}
+use Rattle.std.specs.List.{list_any}
+use Rattle.std.specs.Map.{keys_of}
+use Rattle.lru.proofs.CallerLemmas.{Contains-put_entries}
+use Rattle.sql_rows.specs.Entries.{Entries, put}
+use Rattle.sql_rows.specs.inside.Served.{Serves, kept_of}
+use Rattle.sql_rows.proofs.Exact.{same_key, exact-key}
+use Rattle.sql_rows.proofs.Keys.{after-put}
+use Rattle.sql_rows.proofs.Told.{put-serves}
+use Rattle.sql_rows.proofs.cache.StatementCache.keep.Goals as goal
+
+not-true : (b : Bool) → ¬ (b ≡ true) → b ≡ false
+not-true true h = absurd (h refl)
+not-true false h = refl
+
+pub invariant_of-self : goal.invariant_of-self
+invariant_of-self c =
+    let serves =
+    subst (λ v. Serves c.self.inside.schema (c.args.pair, v)) (sym c.in_ok-kept.ensures)
+    (subst (λ (w : Entries). Serves w.schema (c.args.pair, kept_of c.args.built.now)) (sym c.self.view_is)
+    c.requires.serves) in
+    λ e h. elim (Contains-put_entries same_key c.self.inside.kept c.args.pair c.in_ok-kept.kept e
+    (subst (λ l. Contains l e) (ap (λ x. x.entries) c.in-Ok.ensures.entries) h)) [
+      | inl old ↦ c.self.invariant e old
+      | inr p ↦ put-serves c.self.inside.schema c.self.inside.kept c.args.pair c.in_ok-kept.kept e p serves
+    ]
+
+pub returns-in-Ok-clause-kept : goal.returns-in-Ok-clause-kept
+returns-in-Ok-clause-kept c =
+    let es = c.self.inside.kept.entries in
+    let new : list_any (same_key c.args.pair) (keys_of es) ≡ false =
+    not-true _
+    (λ t. c.requires.new (subst (λ (w : Entries). Contains w.keys c.args.pair) c.self.view_is
+    (Contains-from_any exact-key c.args.pair (keys_of es) t))) in
+    let keys =
+    ap (λ x. keys_of x.entries) c.in-Ok.ensures.entries
+    ∙ after-put same_key c.self.inside.kept c.args.pair c.in_ok-kept.kept new in
+    (λ i. record {
+      schema = c.self.inside.schema;
+      keys = keys i;
+      capacity = (c.in-Ok.ensures.entries i).cap;
+      hits = c.self.inside.hits;
+    })
+    ∙ ap (λ w. put w c.args.pair) c.self.view_is
+
+pub invariant_of-self-2 : goal.invariant_of-self-2
+invariant_of-self-2 c =
+    λ e h. c.self.invariant e (subst (λ l. Contains l e) (ap (λ x. x.entries) c.in-Err.ensures.err) h)

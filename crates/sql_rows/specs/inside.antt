@@ -1,0 +1,2 @@
+-- Devices: what is kept with a pair.
+pub mod Served

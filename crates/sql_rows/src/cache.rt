@@ -1,0 +1,334 @@
+ghost use Rattle.std.specs.Prelude.{◌≡◌, ◌≢◌, ◌↔◌, ◌≤◌, [], length, false, slice_get, Contains, AllPairs, IfOk, IfErr, OnOk, OnErr, IsTrue, Some};
+ghost use Rattle.std.specs.NonZero.{non_zero_usize_get};
+ghost use Rattle.sql_schema.specs.Declarations.{Declarations};
+ghost use Rattle.sql_node.specs.View.{statement_tree};
+ghost use Rattle.sql_key.specs.Keys.{id_of};
+ghost use Rattle.sql_rules.specs.declared.rule.Rule.{Rule};
+ghost use Rattle.sql_check.specs.Compiled.{IsBuilt, IsLeast, IsRead};
+ghost use Rattle.sql_check.specs.Errors.{rule_of};
+ghost use Rattle.sql_check.specs.declared.error.CompileError.TheVariants as error;
+ghost use Rattle.sql_meaning.specs.Fitting.{AnswersFit};
+ghost use Rattle.sql_rows.specs.Entries.{IsHit, IsLookedUp, IsNext, put};
+ghost use Rattle.sql_rows.specs.inside.Served.{Serves, Tells, kept_of};
+
+use crate::compile_sound;
+use lru::LruCache;
+use sql_check::{Built, CompileError, values_fit};
+use sql_dialect::{Backend, Dialect};
+use sql_key::{QueryId, QueryKey};
+use sql_law::{accepted_are_read, names_one_leaf};
+use sql_meaning::types_are_sound;
+use sql_node::Statement;
+use sql_pass::debug_binds;
+use sql_schema::{NoMemory, Schema, SqlList, SqlText, SqlType};
+use std::alloc::{AllocError, Global};
+use std::marker::Model;
+use std::num::NonZeroUsize;
+
+/// By what a cache knows a request: its dialect, and the key of its statement.
+#[derive(Debug, Drop, PartialEq, Eq, PartialOrd, Ord, Hash)]
+pub struct RequestKey {
+    pub dialect: Dialect,
+    pub key: QueryKey,
+}
+
+/// What of an answer is the same for all statements of one key.
+#[derive(Drop)]
+struct Kept {
+    sql: SqlText,
+    sql_types: SqlList<SqlType>,
+    safe: bool,
+}
+
+/// Compiled statements of one schema, the one that was used last in front. A full cache loses the one that was used least recently.
+#[derive(Drop)]
+pub struct StatementCache {
+    schema: Schema,
+    kept: LruCache<RequestKey, Kept>,
+    hits: u64,
+}
+
+impl Model for StatementCache {
+    ghost use Rattle.std.specs.Map.{keys_of};
+    ghost use Rattle.sql_rows.specs.Entries.{Entries};
+    ghost use Rattle.sql_rows.specs.inside.Served.{AllServe};
+
+    ghost Value = { Entries };
+
+    ghost view = { λ c. record {
+      schema = c.schema;
+      keys = keys_of c.kept.entries;
+      capacity = c.kept.cap;
+      hits = c.hits;
+    } };
+
+    ghost invariant = { λ c. AllServe c.schema c.kept.entries };
+}
+
+/// Text, types and flag in memory of their own.
+fn copied(
+    alloc: Global,
+    sql: &SqlText,
+    sql_types: &SqlList<SqlType>,
+    safe: bool,
+) -> Result<Kept, NoMemory>
+    ensures { IfOk result (λ k. k
+        ≡ record { sql = sql.now; sql_types = sql_types.now; safe = safe }) }
+{
+    let sql = sql.try_clone(alloc)?;
+    let sql_types = Vec::from_slice(alloc, sql_types.as_slice())?;
+    Ok(Kept {
+        sql,
+        sql_types: SqlList::from(sql_types),
+        safe,
+    })
+}
+
+/// The pair that is looked up for a statement.
+fn pair_of<DB: Backend>(
+    alloc: Global,
+    backend: &DB,
+    statement: &Statement,
+) -> Result<Option<RequestKey>, NoMemory>
+    ensures { IfOk result (λ found. (pair : RequestKey)
+        → (found ≡ Some pair) ↔ IsLookedUp DB.speaks (statement_tree statement.now) pair) }
+{
+    let fit = values_fit(statement);
+    if !fit {
+        return Ok(None);
+    }
+    let dialect = backend.dialect();
+    match statement.query_id(alloc)? {
+        Some(key) => Ok(Some(RequestKey { dialect, key })),
+        None => Ok(None),
+    }
+}
+
+/// What is told of the statement whose key this is: what was kept with its pair, and its own values.
+fn tell<DB: Backend>(
+    alloc: Global,
+    backend: &DB,
+    statement: &Statement,
+    key: QueryKey,
+    kept: Kept,
+) -> Result<Built, CompileError>
+    requires id { id_of (statement_tree statement.now) ≡ Some key }
+    ensures built { IfOk result (λ b. (schema : Declarations)
+        → Tells schema DB.speaks (statement_tree statement.now) kept
+        → IsBuilt schema DB.speaks (statement_tree statement.now) b) }
+    ensures read { IfOk result (λ b. (schema : Declarations)
+        → Tells schema DB.speaks (statement_tree statement.now) kept
+        → IsRead DB.speaks (statement_tree statement.now) b.sql b.binds) }
+    ensures sound { IfOk result (λ b. (schema : Declarations)
+        → Tells schema DB.speaks (statement_tree statement.now) kept
+        → AnswersFit schema (statement_tree statement.now) b.sql_types) }
+    ensures refused { IfErr result (λ e. e ≡ error.NoMemory) }
+{
+    let binds = debug_binds(alloc, backend, statement)?;
+    accepted_are_read();
+    names_one_leaf();
+    types_are_sound();
+    let Kept {
+        sql,
+        sql_types,
+        safe,
+    } = kept;
+    Ok(Built {
+        sql,
+        binds: SqlList::from(binds),
+        sql_types,
+        safe,
+        id: Some(key),
+    })
+}
+
+impl StatementCache {
+    /// A cache without entries, which will hold as many as its capacity.
+    pub fn new(
+        alloc: Global,
+        schema: Schema,
+        capacity: NonZeroUsize,
+    ) -> Result<StatementCache, NoMemory>
+        ensures { IfOk result (λ c. c
+            ≡ record { schema = schema; keys = []; capacity = non_zero_usize_get capacity; hits = 0 }) }
+    {
+        let kept = LruCache::new(alloc, capacity)?;
+        Ok(StatementCache {
+            schema,
+            kept,
+            hits: 0,
+        })
+    }
+
+    /// The schema that statements are compiled for.
+    pub fn schema(&self) -> &Schema
+        ensures { result.now ≡ self.now.schema }
+    {
+        &self.schema
+    }
+
+    /// How many calls found what they looked up.
+    pub fn hits(&self) -> u64
+        ensures { result ≡ self.now.hits }
+    {
+        self.hits
+    }
+
+    /// How many entries there are: at most as many as the capacity, for different pairs.
+    pub fn len(&self) -> usize
+        ensures len { result ≡ length self.now.keys }
+        ensures within { result ≤ self.now.capacity }
+        ensures different { AllPairs (λ a b. a ≢ b) self.now.keys }
+    {
+        self.kept.len()
+    }
+
+    /// Whether there are no entries.
+    pub fn is_empty(&self) -> bool
+        ensures { IsTrue result ↔ (self.now.keys ≡ []) }
+    {
+        self.len() == 0
+    }
+
+    fn look_up(&mut self, pair: &RequestKey) -> bool
+        ensures found { IsTrue result ↔ Contains self.old.keys pair.now }
+        ensures hit { IsTrue result → IsHit self.old pair.now self.new }
+        ensures unchanged { result ≡ false → self.new ≡ self.old }
+    {
+        if self.kept.promote(pair) {
+            self.hits = self.hits.saturating_add(1);
+            return true;
+        }
+        false
+    }
+
+    /// What is kept with the pair in front, in memory of its own.
+    fn recall(&self, alloc: Global) -> Result<Kept, NoMemory>
+        requires { self.now.keys ≢ [] }
+        ensures { IfOk result (λ kept. (pair : RequestKey)
+            → slice_get self.now.keys 0 ≡ Some pair → Serves self.now.schema (pair, kept)) }
+    {
+        match self.kept.peek_mru() {
+            None => unreachable!(),
+            Some((_, kept)) => copied(alloc, &kept.sql, &kept.sql_types, kept.safe),
+        }
+    }
+
+    fn keep(&mut self, alloc: Global, pair: RequestKey, built: &Built) -> Result<(), NoMemory>
+        requires new { ¬ Contains self.old.keys pair }
+        requires serves { Serves self.old.schema (pair, kept_of built.now) }
+        ensures kept { OnOk result (self.new ≡ put self.old pair) }
+        ensures unchanged { OnErr result (self.new ≡ self.old) }
+    {
+        let kept = copied(alloc, &built.sql, &built.sql_types, built.safe)?;
+        match self.kept.put(pair, kept) {
+            Ok(_) => Ok(()),
+            Err(_) => Err(AllocError),
+        }
+    }
+
+    /// The answer that nothing kept is used for.
+    fn compile_alone<DB: Backend>(
+        &self,
+        alloc: Global,
+        backend: &DB,
+        statement: &Statement,
+    ) -> Result<Built, CompileError>
+        ensures built { IfOk result (λ b.
+            IsBuilt self.now.schema DB.speaks (statement_tree statement.now) b) }
+        ensures read { IfOk result (λ b.
+            IsRead DB.speaks (statement_tree statement.now) b.sql b.binds) }
+        ensures sound { IfOk result (λ b.
+            AnswersFit self.now.schema (statement_tree statement.now) b.sql_types) }
+        ensures refused { IfErr result (λ e. (r : Rule) → rule_of e ≡ Some r
+            → IsLeast r self.now.schema DB.speaks (statement_tree statement.now)) }
+    {
+        compile_sound(alloc, backend, self.schema(), statement)
+    }
+
+    /// The answer by what is kept with the pair in front, which is the statement's.
+    fn answer_kept<DB: Backend>(
+        &self,
+        alloc: Global,
+        backend: &DB,
+        statement: &Statement,
+        pair: RequestKey,
+    ) -> Result<Built, CompileError>
+        requires looked_up { IsLookedUp DB.speaks (statement_tree statement.now) pair }
+        requires first { slice_get self.now.keys 0 ≡ Some pair }
+        ensures built { IfOk result (λ b.
+            IsBuilt self.now.schema DB.speaks (statement_tree statement.now) b) }
+        ensures read { IfOk result (λ b.
+            IsRead DB.speaks (statement_tree statement.now) b.sql b.binds) }
+        ensures sound { IfOk result (λ b.
+            AnswersFit self.now.schema (statement_tree statement.now) b.sql_types) }
+        ensures refused { IfErr result (λ e. e ≡ error.NoMemory) }
+    {
+        let kept = self.recall(alloc)?;
+        tell(alloc, backend, statement, pair.key, kept)
+    }
+
+    /// The answer for a pair that is not there, which is put in front.
+    fn answer_new<DB: Backend>(
+        &mut self,
+        alloc: Global,
+        backend: &DB,
+        statement: &Statement,
+        pair: RequestKey,
+    ) -> Result<Built, CompileError>
+        requires looked_up { IsLookedUp DB.speaks (statement_tree statement.now) pair }
+        requires new { ¬ Contains self.old.keys pair }
+        ensures built { IfOk result (λ b.
+            IsBuilt self.old.schema DB.speaks (statement_tree statement.now) b) }
+        ensures read { IfOk result (λ b.
+            IsRead DB.speaks (statement_tree statement.now) b.sql b.binds) }
+        ensures sound { IfOk result (λ b.
+            AnswersFit self.old.schema (statement_tree statement.now) b.sql_types) }
+        ensures refused { IfErr result (λ e. (r : Rule) → rule_of e ≡ Some r
+            → IsLeast r self.old.schema DB.speaks (statement_tree statement.now)) }
+        ensures put { OnOk result (self.new ≡ put self.old pair) }
+        ensures unchanged { OnErr result (self.new ≡ self.old) }
+    {
+        match self.compile_alone(alloc, backend, statement) {
+            Ok(built) => {
+                self.keep(alloc, pair, &built)?;
+                Ok(built)
+            }
+            Err(error) => Err(error),
+        }
+    }
+
+    /// What `compile_sound` answers of the statement, whatever was asked before.
+    ///
+    /// Where the statement has an id and its values fit, what an earlier statement of that id was told serves for it: only the values
+    /// are its own. `IsNext` says what becomes of the entries.
+    pub fn compile_cached<DB: Backend>(
+        &mut self,
+        alloc: Global,
+        backend: &DB,
+        statement: &Statement,
+    ) -> Result<Built, CompileError>
+        ensures built { IfOk result (λ b.
+            IsBuilt self.old.schema DB.speaks (statement_tree statement.now) b) }
+        ensures read { IfOk result (λ b.
+            IsRead DB.speaks (statement_tree statement.now) b.sql b.binds) }
+        ensures sound { IfOk result (λ b.
+            AnswersFit self.old.schema (statement_tree statement.now) b.sql_types) }
+        ensures refused { IfErr result (λ e. (r : Rule) → rule_of e ≡ Some r
+            → IsLeast r self.old.schema DB.speaks (statement_tree statement.now)) }
+        ensures schema { self.new.schema ≡ self.old.schema }
+        ensures entries { IsNext DB.speaks (statement_tree statement.now)
+            self.old result self.new }
+    {
+        match pair_of(alloc, backend, statement)? {
+            None => self.compile_alone(alloc, backend, statement),
+            Some(pair) => {
+                if self.look_up(&pair) {
+                    self.answer_kept(alloc, backend, statement, pair)
+                } else {
+                    self.answer_new(alloc, backend, statement, pair)
+                }
+            }
+        }
+    }
+}
