@@ -156,7 +156,7 @@ fn declared(alloc: Global) -> Result<SchemaBuilder, NoMemory>
     Ok(builder)
 }
 
-/// The schema that requests are generated over. No refusal holds of it, so nothing but memory can be wanting.
+/// The schema that requests are generated over. No refusal holds of it, so it can fail for memory alone.
 pub(crate) fn schema(alloc: Global) -> Result<Schema, NoMemory>
     ensures { IfOk result (λ s. s ≡ given.declarations) }
 {

@@ -4,7 +4,7 @@ use Rattle.sql_dialect.specs.declared.backend.Dialect.{Dialect}
 use Rattle.sql_generate.specs.Summary.{IsSummary}
 use Rattle.sql_read_output.specs.Input.{input_text}
 use Rattle.sql_read_output.specs.Line.{IsReadingLine}
-use Rattle.sql_tool.specs.Command.{IsFrontOf, IsOutputOf, IsOutputPrefixOf, reads_source}
+use Rattle.sql_tool.specs.Command.{IsPrefixOf, IsOutputOf, IsOutputPrefixOf, reads_source}
 use Rattle.sql_tool.specs.Run.{Ends, HasRead, HasReadSome}
 use Rattle.sql_tool.specs.inside.Responses.{Response, WroteLine}
 use Rattle.sql_tool.specs.declared.command.Command.{Command}
@@ -23,7 +23,7 @@ module _ (c : Command) (given written : List ℕ) (AtEnd : Type 0) where
   ended ReadFault has some r = absurd r
   ended WriteFault has some r = (has, r)
   ended NoMemory has some (inl empty) = (some, inl empty)
-  ended NoMemory has some (inr front) = (some, inr (has, front))
+  ended NoMemory has some (inr start) = (some, inr (has, start))
   ended TooLarge has some r = absurd r
 
 -- a command that reads no source
@@ -47,22 +47,22 @@ ends-short c given AtEnd yes within = (subst (λ b. HasReadSome b given) (sym ye
 -- ---- one line
 
 wrote : (status : Status) (c : Command) (given line written : List ℕ) → IsOutputOf c given line
-    → ((front : List ℕ) → IsFrontOf line front → IsOutputPrefixOf c given front) → WroteLine status line written
+    → ((start : List ℕ) → IsPrefixOf line start → IsOutputPrefixOf c given start) → WroteLine status line written
     → Response status c given written
 wrote Done c given line written output prefix is = subst (IsOutputOf c given) is output
 wrote Usage c given line written output prefix is = absurd is
 wrote BadDocument c given line written output prefix is = absurd is
 wrote ReadFault c given line written output prefix is = absurd is
-wrote WriteFault c given line written output prefix front = prefix written front
+wrote WriteFault c given line written output prefix start = prefix written start
 wrote NoMemory c given line written output prefix is = absurd is
 wrote TooLarge c given line written output prefix is = absurd is
 
 pub wrote-summary : (status : Status) (n : ℕ) (given line written : List ℕ) → IsSummary n line
     → WroteLine status line written → Response status (Generate n) given written
 wrote-summary status n given line written is =
-    wrote status (Generate n) given line written is (λ front cut. (line, is, cut))
+    wrote status (Generate n) given line written is (λ start cut. (line, is, cut))
 
 pub wrote-reading : (status : Status) (d : Dialect) (given text line written : List ℕ) → input_text given ≡ Some text
     → IsReadingLine d text line → WroteLine status line written → Response status (Read d) given written
 wrote-reading status d given text line written read is =
-    wrote status (Read d) given line written (text, read, is) (λ front cut. (text, read, (line, is, cut)))
+    wrote status (Read d) given line written (text, read, is) (λ start cut. (text, read, (line, is, cut)))

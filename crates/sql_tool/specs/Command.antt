@@ -60,15 +60,15 @@ IsOutputOf (Generate n) given written = IsSummary n written
 IsOutputOf (Read d) given written = (t : List ℕ) × (input_text given ≡ Some t) × IsReadingLine d t written
 
 -- the first bytes of a text
-abbrev pub IsFrontOf : List ℕ → List ℕ → Type 0
-IsFrontOf whole front = (rest : List ℕ) × (whole ≡ front ++ rest)
+abbrev pub IsPrefixOf : List ℕ → List ℕ → Type 0
+IsPrefixOf whole start = (rest : List ℕ) × (whole ≡ start ++ rest)
 
 -- these are a prefix of what the command writes for the bytes
 abbrev pub IsOutputPrefixOf : Command → List ℕ → List ℕ → Type 0
 IsOutputPrefixOf Build given written = (d : Document) × (document given ≡ Some d) × IsOutputPrefix d written
-IsOutputPrefixOf (Generate n) given written = (whole : List ℕ) × IsSummary n whole × IsFrontOf whole written
+IsOutputPrefixOf (Generate n) given written = (whole : List ℕ) × IsSummary n whole × IsPrefixOf whole written
 IsOutputPrefixOf (Read d) given written =
-    (t : List ℕ) × (input_text given ≡ Some t) × ((whole : List ℕ) × IsReadingLine d t whole × IsFrontOf whole written)
+    (t : List ℕ) × (input_text given ≡ Some t) × ((whole : List ℕ) × IsReadingLine d t whole × IsPrefixOf whole written)
 
 -- What a command that is done has read and written, where its source had these bytes, AtEnd says that it is at the end now, and
 -- Written which bytes the sink has taken.

@@ -1,6 +1,6 @@
 -- What the functions inside `run` promise.
 use Rattle.std.specs.Prelude.{◌≡◌, ◌⊎◌, ℕ, List, []}
-use Rattle.sql_tool.specs.Command.{IsBadInput, IsOutputOf, IsOutputPrefixOf, IsFrontOf}
+use Rattle.sql_tool.specs.Command.{IsBadInput, IsOutputOf, IsOutputPrefixOf, IsPrefixOf}
 use Rattle.sql_tool.specs.declared.command.Command.{Command}
 use Rattle.sql_tool.specs.declared.status.Status.{Status}
 use Rattle.sql_tool.specs.declared.status.Status.TheVariants.{Done, Usage, BadDocument, ReadFault, WriteFault, NoMemory, TooLarge}
@@ -21,6 +21,6 @@ WroteLine Done line written = line ≡ written
 WroteLine Usage line written = ⊥
 WroteLine BadDocument line written = ⊥
 WroteLine ReadFault line written = ⊥
-WroteLine WriteFault line written = IsFrontOf line written
+WroteLine WriteFault line written = IsPrefixOf line written
 WroteLine NoMemory line written = ⊥
 WroteLine TooLarge line written = ⊥
