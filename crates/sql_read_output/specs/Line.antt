@@ -21,8 +21,8 @@ refused = object (member (codes "refused") (string (codes "NotInGrammar")) no_me
 
 -- The object of a text: of its only reading, or the refusal where it has none.
 abbrev pub IsReadingObject : Dialect → List ℕ → Data → Type 0
-IsReadingObject d text data =
-    ((q : Query) × OnlyReading d text q × (data ≡ written d q)) ⊎ (HasNoReading d text × (data ≡ refused))
+IsReadingObject d text o =
+    ((q : Query) × OnlyReading d text q × (o ≡ written d q)) ⊎ (HasNoReading d text × (o ≡ refused))
 
 -- compact JSON, and a newline
 abbrev pub IsReadingLine : Dialect → List ℕ → List ℕ → Type 0
