@@ -5,7 +5,7 @@ use Rattle.std.specs.Fmt.{decimal}
 use Rattle.std.specs.Str.{bytes_eq}
 use Rattle.std.specs.Str.Parse.{AllDigits, ParsesUnsigned, digits_value}
 use Rattle.std.proofs.lemmas.Bool.{leb-true, le-leb}
-use Rattle.std.proofs.lemmas.Fmt.{decimal-digits_value, decimal_digit, decimal_is_IsNumeral, decimal_nonempty, first_decimal, parse-decimal}
+use Rattle.std.proofs.lemmas.Fmt.{decimal-digits_value, decimal_digit, decimal_is_IsNumeral, first_decimal, parse-decimal}
 use Rattle.std.proofs.lemmas.Option.{cond_some}
 use Rattle.std.proofs.lemmas.Slice.Eq.{bytes_eq-Decides}
 use Rattle.std.proofs.lemmas.Str.Parse.{IsNumeralModel, numerals_by_value, parse_plain, tells_digits}
@@ -61,13 +61,6 @@ count-none w = none-by w (count_of w) refl
 first-byte : (n : ℕ) → n < 2 ^ 64 → (48 < get_or (decimal n) 0 0) ⊎ (decimal n ≡ 48 ∷ [])
 first-byte zero small = inr (decimal_digit 0 (omega arith))
 first-byte (suc n) small = inl (first_decimal (suc n) (omega arith) small)
-
-pub empty-none : (w : List ℕ) → length w ≡ 0 → count_of w ≡ None
-empty-none w empty =
-    count-none w
-    (λ n le is. let some : 0 < length (decimal n) = decimal_nonempty n (smaller n le) in
-    let same : length w ≡ length (decimal n) = ap length is in
-    absurd (omega arith))
 
 -- a sign, or a zero before other digits
 abbrev pub IsRespelled : List ℕ → Type 0

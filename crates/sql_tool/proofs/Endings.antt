@@ -29,20 +29,20 @@ module _ (c : Command) (given written : List ℕ) (AtEnd : Type 0) where
 -- a command that reads no source
 pub ends-unread : (status : Status) (c : Command) (written : List ℕ) (AtEnd : Type 0) → reads_source c ≡ false
     → Response status c [] written → Ends status c [] written AtEnd
-ends-unread status c written AtEnd no =
-    ended c [] written AtEnd status (subst (λ b. HasRead b [] AtEnd) (sym no) refl) (subst (λ b. HasReadSome b []) (sym no) refl)
+ends-unread status c written AtEnd silent =
+    ended c [] written AtEnd status (subst (λ b. HasRead b [] AtEnd) (sym silent) refl) (subst (λ b. HasReadSome b []) (sym silent) refl)
 
 -- a command that has read its source to the end
 pub ends-read : (status : Status) (c : Command) (given written : List ℕ) (AtEnd : Type 0) → reads_source c ≡ true → AtEnd
     → length given ≤ LIMIT → Response status c given written → Ends status c given written AtEnd
-ends-read status c given written AtEnd yes end within =
-    ended c given written AtEnd status (subst (λ b. HasRead b given AtEnd) (sym yes) (end, within))
-    (subst (λ b. HasReadSome b given) (sym yes) within)
+ends-read status c given written AtEnd reads end within =
+    ended c given written AtEnd status (subst (λ b. HasRead b given AtEnd) (sym reads) (end, within))
+    (subst (λ b. HasReadSome b given) (sym reads) within)
 
 -- a command whose source failed, or gave too much, or for which memory ran out as it read
 pub ends-short : (c : Command) (given : List ℕ) (AtEnd : Type 0) → reads_source c ≡ true → length given ≤ LIMIT
     → Ends NoMemory c given [] AtEnd
-ends-short c given AtEnd yes within = (subst (λ b. HasReadSome b given) (sym yes) within, inl refl)
+ends-short c given AtEnd reads within = (subst (λ b. HasReadSome b given) (sym reads) within, inl refl)
 
 -- ---- one line
 

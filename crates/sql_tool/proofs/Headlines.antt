@@ -18,9 +18,9 @@ not-read-fault status done fault = let h : Done ≡ ReadFault = cc in cc
 
 -- a command that reads no source writes the same whatever the source has
 same-output : (c : Command) → reads_source c ≡ false → (a b text : List ℕ) → IsOutputOf c a text → IsOutputOf c b text
-same-output Build no a b text output = cc
-same-output (Generate n) no a b text output = output
-same-output (Read d) no a b text output = cc
+same-output Build unread a b text output = cc
+same-output (Generate n) unread a b text output = output
+same-output (Read d) unread a b text output = cc
 
 done-if : (b : Bool) (c : Command) (input given text : List ℕ) (rest : Option (List ℕ)) → reads_source c ≡ b
     → Consumes (Some input) rest given → HasRead b given (IsAtEnd rest) → IsOutputOf c given text

@@ -23,14 +23,14 @@ usage status (Some c) given written AtEnd outcome =
 
 pub nothing : (status : Status) (o : Option Command) (given written : List ℕ) (AtEnd : Type 0)
     → Outcome status o given written AtEnd → may_write status ≡ false → written ≡ []
-nothing status None given written AtEnd outcome no = outcome.2
-nothing Done (Some c) given written AtEnd outcome no = cc
-nothing Usage (Some c) given written AtEnd outcome no = absurd outcome
-nothing BadDocument (Some c) given written AtEnd outcome no = outcome.2
-nothing ReadFault (Some c) given written AtEnd outcome no = outcome.2
-nothing WriteFault (Some c) given written AtEnd outcome no = cc
-nothing NoMemory (Some c) given written AtEnd outcome no = cc
-nothing TooLarge (Some c) given written AtEnd outcome no = outcome.2
+nothing status None given written AtEnd outcome silent = outcome.2
+nothing Done (Some c) given written AtEnd outcome silent = cc
+nothing Usage (Some c) given written AtEnd outcome silent = absurd outcome
+nothing BadDocument (Some c) given written AtEnd outcome silent = outcome.2
+nothing ReadFault (Some c) given written AtEnd outcome silent = outcome.2
+nothing WriteFault (Some c) given written AtEnd outcome silent = cc
+nothing NoMemory (Some c) given written AtEnd outcome silent = cc
+nothing TooLarge (Some c) given written AtEnd outcome silent = outcome.2
 
 pub kept : (held new : Option (List ℕ)) (written : List ℕ) → written ≡ [] → Appends held new written → Keeps held new
 kept None new written empty appended = tt
@@ -88,9 +88,9 @@ bad-status (Read d) given bad = ap status_from bad
 
 -- a command that reads no source ends so whatever the source has
 unread-status : (c : Command) → reads_source c ≡ false → (a b : List ℕ) → status_on c a ≡ status_on c b
-unread-status Build no a b = cc
-unread-status (Generate n) no a b = refl
-unread-status (Read d) no a b = cc
+unread-status Build unread a b = cc
+unread-status (Generate n) unread a b = refl
+unread-status (Read d) unread a b = cc
 
 pub all-given : (xs given : List ℕ) (rest : Option (List ℕ)) → Consumes (Some xs) rest given → IsAtEnd rest → given ≡ xs
 all-given xs given None taken end = absurd taken
@@ -158,6 +158,6 @@ pub complete : (status : Status) (o : Option Command) (left : Option (List ℕ))
     → IfSome left (λ input. ¬ Lost → ¬ Full → (status ≡ NoMemory) ⊎ (status ≡ status_of o input))
 complete status o None Lost Full lost full h = tt
 complete status o (Some xs) Lost Full lost full (inl is) = λ _ _. inr is
-complete status o (Some xs) Lost Full lost full (inr (inl fault)) = λ no _. absurd (no (lost fault))
-complete status o (Some xs) Lost Full lost full (inr (inr (inl fault))) = λ _ no. absurd (no (full fault))
+complete status o (Some xs) Lost Full lost full (inr (inl fault)) = λ sound _. absurd (sound (lost fault))
+complete status o (Some xs) Lost Full lost full (inr (inr (inl fault))) = λ _ sound. absurd (sound (full fault))
 complete status o (Some xs) Lost Full lost full (inr (inr (inr want))) = λ _ _. inl want

@@ -1,20 +1,11 @@
-ghost use Rattle.std.specs.Prelude.{◌≡◌, ◌∷◌, [], map, string_bytes};
+ghost use Rattle.std.specs.Prelude.{◌≡◌, ◌<◌, ◌↔◌, ◌⊎◌, ◌∷◌, [], length, map, slice_index, string_bytes, IsTrue};
 ghost use Rattle.sql_document.specs.Names.{dialect_of};
 ghost use Rattle.sql_tool.specs.Command.{command_of, count_of, reads_source};
 
 use sql_dialect::Dialect;
-use sql_document::dialect_name;
 
 /// How many requests `generate` makes at most.
 pub const MAX_REQUESTS: u32 = 100000;
-
-/// All dialects.
-const DIALECTS: [Dialect; 4] = [
-    Dialect::Pg,
-    Dialect::Mysql,
-    Dialect::Sqlite,
-    Dialect::Bracket,
-];
 
 /// What the program can be told to do.
 #[derive(Debug, Clone, Copy, PartialEq, Eq)]
@@ -69,12 +60,22 @@ impl Command {
     }
 }
 
+/// Whether the word begins with a sign, or with a zero before other bytes, as no number is written.
+fn is_respelled(word: &str) -> bool
+    ensures { IsTrue result ↔ ((slice_index word.now 0 ≡ 43)
+        ⊎ ((slice_index word.now 0 ≡ 48) × (1 < length word.now))) }
+{
+    match word.as_bytes() {
+        [b'+', ..] | [b'0', _, ..] => true,
+        _ => false,
+    }
+}
+
 /// The number that the word writes, where it has no sign and no leading zero and is at most `MAX_REQUESTS`.
 fn count(word: &str) -> Option<u32>
     ensures { result ≡ count_of word.now }
 {
-    let first = *word.as_bytes().first()?;
-    if first == b'+' || (first == b'0' && word.len() > 1) {
+    if is_respelled(word) {
         return None;
     }
     match word.parse() {
@@ -84,8 +85,15 @@ fn count(word: &str) -> Option<u32>
 }
 
 /// The dialect of that name.
+#[tactic(auto, unfolding(sql_document::specs::Names::dialect_of))]
 fn dialect(name: &str) -> Option<Dialect>
     ensures { result ≡ dialect_of name.now }
 {
-    DIALECTS.iter().copied().find(|dialect| name == dialect_name(*dialect))
+    match name {
+        "Pg" => Some(Dialect::Pg),
+        "Mysql" => Some(Dialect::Mysql),
+        "Sqlite" => Some(Dialect::Sqlite),
+        "Bracket" => Some(Dialect::Bracket),
+        _ => None,
+    }
 }

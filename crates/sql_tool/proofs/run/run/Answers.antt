@@ -55,12 +55,12 @@ returns-clause-too_large g c =
     (g.S.Source.left c.perform.new.source) given written took outcome
 
 pub returns-clause-nothing : goal.returns-clause-nothing
-returns-clause-nothing g c = λ no.
+returns-clause-nothing g c = λ silent.
     let words = map string_bytes c.args.words.now in
     let (given, written, took, appended, outcome) = c.perform.ensures.outcome in
     outcomes.kept (g.K.Sink.held c.args.sink.now) (g.K.Sink.held c.perform.new.sink) written
     (outcomes.nothing c.perform.result (command_of words) given written (IsAtEnd (g.S.Source.left c.perform.new.source))
-    outcome no)
+    outcome silent)
     appended
 
 pub returns-clause-decided : goal.returns-clause-decided
