@@ -1,11 +1,10 @@
 -- The index of the first request of a key, as a list of requests grows at its end.
-use Rattle.std.proofs.Common.{◌≡◌, ℕ, suc, ◌+◌, Bool, true, false, ◌&&◌, cond, Option, Some, None, List, [], ◌∷◌, ◌++◌, length, refl, sym, ap, ◌∙◌, arith}
+use Rattle.std.proofs.Common.{◌≡◌, ℕ, suc, ◌+◌, Bool, true, false, cond, Option, Some, None, List, [], ◌∷◌, ◌++◌, length, refl, sym, ap, ◌∙◌, arith}
 use Rattle.std.specs.Option.{option_or, unwrap_or}
 use Rattle.std.specs.Ordering.{is_eq}
 use Rattle.sql_output.specs.inside.Keys.{same_key, index_from, IsKept}
 use Rattle.sql_rows.specs.declared.cache.RequestKey.{RequestKey}
 use Rattle.sql_rows.proofs.Exact.{exact-key}
-use Rattle.sql_rows.specs.contracts.cache.RequestKeyPartialEq.TheImpl as request_eq
 use Rattle.sql_rows.specs.contracts.cache.RequestKeyOrd.TheImpl as request_ord
 use Rattle.sql_rows.specs.contracts.cache.RequestKeyOrd.TheImpl.Laws.{matches_eq-law}
 use Rattle.sql_rows.specs.contracts.cache.RequestKeyEq.TheImpl.Laws.{laws-law}

@@ -1,13 +1,11 @@
 -- A document has at most one output, and what is written for its first requests is a prefix of it.
-use Rattle.std.proofs.Common.{◌≡◌, ℕ, List, [], ◌∷◌, ◌++◌, map, Option, None, Some, refl, sym, ap, subst, ◌∙◌, append_assoc, append-nil}
+use Rattle.std.proofs.Common.{◌≡◌, ℕ, List, [], ◌∷◌, ◌++◌, Option, None, Some, refl, sym, ap, subst, ◌∙◌, append_assoc}
 use Rattle.sql_schema.specs.Declarations.{Declarations}
-use Rattle.sql_schema.specs.declared.types.SqlType.{SqlType}
 use Rattle.sql_dialect.specs.declared.backend.Dialect.{Dialect}
 use Rattle.sql_node.specs.Tree.{Statement}
 use Rattle.sql_rules.specs.Rules.{Broken}
 use Rattle.sql_rules.specs.Texts.{rule_text}
 use Rattle.sql_rules.specs.Types.{columns}
-use Rattle.sql_rules.specs.declared.rule.Rule.{Rule}
 use Rattle.sql_document.specs.Documents.{Document}
 use Rattle.sql_rows.proofs.Once.{least-is-one, one-list}
 use Rattle.sql_output.proofs.First.{one-id}

@@ -41,10 +41,10 @@ front before after d s b pair own call false none =
     λ c. true≢false (sym (list_any-from_Contains laws-law pair before.keys c) ∙ none) in
     ap (λ (w : Entries). slice_get w.keys 0) (call.entries.not_found pair own new).0
 
-pub in-front : (before after : Entries) (d : Dialect) (s : Statement) (b : Built) (k : List KeyNode)
+pub stands-in-front : (before after : Entries) (d : Dialect) (s : Statement) (b : Built) (k : List KeyNode)
     → id_of s ≡ Some k → IsCall before (record { dialect = d; statement = s; answer = Ok b }) after
     → slice_get after.keys 0 ≡ Some (record { dialect = d; key = k })
-in-front before after d s b k id call =
+stands-in-front before after d s b k id call =
     let pair : RequestKey = record { dialect = d; key = k } in
     let own : IsLookedUp d s pair =
     record { fit = accepted-fit before.schema d s call.answer.built.accepted; id = id; dialect = refl } in

@@ -1,5 +1,5 @@
 -- `==` tells different pairs apart.
-use Rattle.std.proofs.Common.{◌≡◌, true, Bool, List, Some, sym, ap, ◌∙◌, subst}
+use Rattle.std.proofs.Common.{◌≡◌, true, Bool, subst}
 use Rattle.std.specs.Bool.{Decides}
 use Rattle.std.specs.Cmp.{first_so, second_so}
 use denote.Enum.Bare.{same_true}

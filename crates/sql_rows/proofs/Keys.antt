@@ -1,5 +1,5 @@
 -- The keys of a cache's pairs, behind a look-up and behind a put.
-use Rattle.std.proofs.Common.{◌≡◌, ℕ, zero, suc, ◌-◌, Bool, true, false, true≢false, cond, ◌||◌, List, [], ◌∷◌, ◌++◌, Option, Some, None, is_some, take, Contains, refl, sym, ap, ◌∙◌, subst, arith}
+use Rattle.std.proofs.Common.{◌≡◌, ℕ, zero, suc, ◌-◌, Bool, true, false, true≢false, cond, ◌||◌, List, [], ◌∷◌, ◌++◌, Option, Some, None, is_some, take, Contains, refl, sym, ap, ◌∙◌, arith}
 use Rattle.std.specs.List.{list_any, slice_get}
 use Rattle.std.specs.Map.{keys_of, lookup, lookup_entry, remove_entry}
 use Rattle.std.specs.Option.{option_map_or}
@@ -29,21 +29,21 @@ module _ {K V : Type 0} (test : K → Bool) where
 
 -- ## Behind a look-up
 
+-- keys are cut at one, and it is gone
+abbrev IsCut : {K : Type 0} → K → List K → List K → Type 0
+IsCut {K} k ks after = (front : List K) × (back : List K) × (ks ≡ front ++ k ∷ back) × (after ≡ front ++ back)
+
+-- keys are cut at one, and it stands in front
+abbrev pub IsFound : {K : Type 0} → K → List K → List K → Type 0
+IsFound {K} k ks after = (front : List K) × (back : List K) × (ks ≡ front ++ k ∷ back) × (after ≡ k ∷ (front ++ back))
+
 module _ {K V : Type 0} (test : K → Bool) (k : K) (exact : (a : K) → test a ≡ true → k ≡ a) where
-  -- the keys are cut at this one, and it is gone
-  abbrev IsCut : List K → List K → Type 0
-  IsCut ks after = (front : List K) × (back : List K) × (ks ≡ front ++ k ∷ back) × (after ≡ front ++ back)
-
-  -- the keys are cut at this one, and it stands in front
-  abbrev pub IsFound : List K → List K → Type 0
-  IsFound ks after = (front : List K) × (back : List K) × (ks ≡ front ++ k ∷ back) × (after ≡ k ∷ (front ++ back))
-
   cut : (es : List (K × V)) (e : K × V) → lookup_entry test es ≡ Some e
-      → IsCut (keys_of es) (keys_of (remove_entry test es))
+      → IsCut k (keys_of es) (keys_of (remove_entry test es))
   cut [] e h = absurd (cc)
   cut (f ∷ es) e h =
       (elim (test f.0) as (λ y. test f.0 ≡ y → cond y (Some f) (lookup_entry test es) ≡ Some e
-      → IsCut (keys_of (f ∷ es)) (keys_of (cond y es (f ∷ remove_entry test es)))) [
+      → IsCut k (keys_of (f ∷ es)) (keys_of (cond y es (f ∷ remove_entry test es)))) [
         | true ↦ λ t g. ([], keys_of es, (λ i. sym (exact f.0 t) i ∷ keys_of es), refl)
         | false ↦ λ t g.
             let on = cut es e g in
@@ -51,11 +51,11 @@ module _ {K V : Type 0} (test : K → Bool) (k : K) (exact : (a : K) → test a 
       ])
       refl h
 
-  pub found : (es : List (K × V)) → is_some (lookup test es) ≡ true → IsFound (keys_of es) (keys_of (promoted test es))
+  pub found : (es : List (K × V)) → is_some (lookup test es) ≡ true → IsFound k (keys_of es) (keys_of (promoted test es))
   found es h = go (lookup_entry test es) refl
     where
       go : (o : Option (K × V)) → lookup_entry test es ≡ o
-          → IsFound (keys_of es) (keys_of (option_map_or (λ e. e ∷ remove_entry test es) o es))
+          → IsFound k (keys_of es) (keys_of (option_map_or (λ e. e ∷ remove_entry test es) o es))
       go None n =
           let there : is_some (lookup_entry test es) ≡ true = entry-there test es ∙ sym (is-there test es) ∙ h in
           absurd (true≢false (sym there ∙ ap is_some n))

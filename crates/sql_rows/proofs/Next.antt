@@ -1,7 +1,6 @@
 -- What a call makes of the entries, where its pair is there, or new, or there is none.
-use Rattle.std.proofs.Common.{◌≡◌, ◌⊎◌, ◌↔◌, true, false, true≢false, List, None, Some, Contains, inl, inr, refl, sym, ap, ◌∙◌, subst}
+use Rattle.std.proofs.Common.{◌≡◌, ◌↔◌, true, false, true≢false, List, None, Some, Contains, inl, inr, refl, sym, ap, ◌∙◌, subst}
 use Rattle.std.specs.Prelude.{Result, Ok, Err, OnOk, OnErr}
-use Rattle.std.specs.Result.{IsErrAnd}
 use Rattle.sql_dialect.specs.declared.backend.Dialect.{Dialect}
 use Rattle.sql_node.specs.Tree.{Statement}
 use Rattle.sql_key.specs.Keys.{id_of}
@@ -53,14 +52,6 @@ module _ (d : Dialect) (s : Statement) where
 -- ## The entries
 
 module _ {A E : Type 0} (d : Dialect) (s : Statement) (before : Entries) where
-  pub out-of-memory : (r : Result A E) (P : E → Type 0) → IsErrAnd r P → IsNext d s before r before
-  out-of-memory (Ok a) P h = absurd h
-  out-of-memory (Err e) P h = record {
-    found = λ pair at there. (tt, inl refl);
-    not_found = λ pair at new. (tt, refl);
-    not_looked_up = λ none. refl;
-  }
-
   pub none-next : (r : Result A E) → ((pair : RequestKey) → ¬ IsLookedUp d s pair) → IsNext d s before r before
   none-next r none = record {
     found = λ pair at there. absurd (none pair at);

@@ -1,5 +1,5 @@
 -- What is kept of an answer serves for each statement of its key.
-use Rattle.std.proofs.Common.{◌≡◌, ◌⊎◌, true, List, Some, map, Contains, inl, inr, sym, ap, ◌∙◌, subst}
+use Rattle.std.proofs.Common.{◌≡◌, ◌⊎◌, true, Contains, inl, inr, sym, ◌∙◌, subst}
 use Rattle.sql_schema.specs.Declarations.{Declarations}
 use Rattle.sql_dialect.specs.declared.backend.Dialect.{Dialect}
 use Rattle.sql_node.specs.Tree.{Statement}

@@ -11,3 +11,15 @@ returns-in-Sqlite-clause-refused c = rw c.in-Sqlite.is c.compile_cached-in-Sqlit
 
 pub returns-in-Bracket-clause-refused : goal.returns-in-Bracket-clause-refused
 returns-in-Bracket-clause-refused c = rw c.in-Bracket.is c.compile_cached-in-Bracket.ensures.refused
+
+pub returns-in-Pg-clause-entries : goal.returns-in-Pg-clause-entries
+returns-in-Pg-clause-entries c = rw c.in-Pg.is c.compile_cached.ensures.entries
+
+pub returns-in-Mysql-clause-entries : goal.returns-in-Mysql-clause-entries
+returns-in-Mysql-clause-entries c = rw c.in-Mysql.is c.compile_cached-in-Mysql.ensures.entries
+
+pub returns-in-Sqlite-clause-entries : goal.returns-in-Sqlite-clause-entries
+returns-in-Sqlite-clause-entries c = rw c.in-Sqlite.is c.compile_cached-in-Sqlite.ensures.entries
+
+pub returns-in-Bracket-clause-entries : goal.returns-in-Bracket-clause-entries
+returns-in-Bracket-clause-entries c = rw c.in-Bracket.is c.compile_cached-in-Bracket.ensures.entries

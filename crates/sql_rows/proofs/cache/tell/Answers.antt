@@ -1,4 +1,4 @@
-use Rattle.std.proofs.Common.{◌∙◌, sym}
+use Rattle.std.proofs.Common.{◌∙◌}
 use Rattle.sql_node.specs.View.{statement_tree}
 use Rattle.sql_rules.specs.declared.rule.Rule.TheVariants.{Ambiguous, NameClash, NotInScope, UnknownName}
 use Rattle.sql_check.proofs.Reading.{is_read}
@@ -9,7 +9,7 @@ pub returns-clause-read : goal.returns-clause-read
 returns-clause-read g c = λ schema told.
     let d = g.DB.Backend.speaks in
     let s = statement_tree c.args.statement.now in
-    let places = counted s c.args.key c.requires in
+    let places = counted s c.args.key c.requires.id in
     is_read d s c.args.kept.sql c.from.result told.sql (c.from.ensures ∙ c.in_ok-binds.ensures)
     (c.accepted_are_read.ensures.only schema d s places told.accepted)
     (c.accepted_are_read.ensures.as_many schema d s places told.accepted)

@@ -1,4 +1,4 @@
-use Rattle.std.proofs.Common.{rules, ◌≡◌, ◌++◌, ◌∷◌, ◌+◌, ◌<◌, ◌≤◌, [], List, Option, Some, ℕ, length, map, get_or, take, drop, sym, ap, ◌∙◌, refl, subst, append-nil, append_assoc, arith}
+use Rattle.std.proofs.Common.{rules, ◌≡◌, ◌++◌, ◌∷◌, ◌+◌, ◌<◌, ◌≤◌, [], List, ℕ, length, map, get_or, take, drop, sym, ap, ◌∙◌, refl, subst, append-nil, append_assoc, arith}
 use Rattle.std.proofs.lemmas.List.{take_more, take_all, take-append-drop, length-take-le, length-map, map-append}
 use Rattle.std.proofs.lemmas.Result.{err_from_is_err_and}
 use Rattle.std.specs.Prelude.{string_bytes}
@@ -7,7 +7,6 @@ use Rattle.std.proofs.KnownBytes.{Appends-nil, Appends-trans}
 use Rattle.sql_schema.specs.Declarations.{Declarations}
 use Rattle.sql_document.specs.Trees.{request_tree}
 use Rattle.sql_document.specs.declared.document.Request.{Request}
-use Rattle.sql_output.proofs.Ids.{line_key}
 use Rattle.sql_output.proofs.Lines.{line-found, line-kept, lines-length, lines-more, text-more}
 use Rattle.sql_output.specs.Output.{Line, StatementRequest, AreLines, line_text, lines_text, statement_request}
 use Rattle.sql_output.specs.inside.Keys.{HasLine, line_found, seen_at}

@@ -1,4 +1,4 @@
-use Rattle.std.proofs.Common.{◌≡◌, ℕ, List, [], map, take}
+use Rattle.std.proofs.Common.{◌≡◌, List, [], map, take}
 use Rattle.std.specs.Io.KnownBytes.{Appends}
 use Rattle.sql_document.specs.Trees.{request_tree}
 use Rattle.sql_output.proofs.Ids.{line_key}

@@ -1,4 +1,4 @@
-use Rattle.std.proofs.Common.{◌≡◌, false, true, true≢false, Contains, ◌∷◌, ◌++◌, refl, sym, ap, ◌∙◌, subst}
+use Rattle.std.proofs.Common.{true≢false, Contains, ◌∷◌, ◌++◌, refl, sym, ap, ◌∙◌, subst}
 use Rattle.std.proofs.lemmas.Map.Views.{list_any-from_Contains}
 use Rattle.std.specs.Map.{keys_of}
 use Rattle.lru.proofs.CallerLemmas.{Contains-promoted}
@@ -54,9 +54,9 @@ returns-clause-found c =
     let pair = c.args.pair.now in
     let es = c.self.inside.kept.entries in (
       (λ t. absurd (true≢false (sym t))),
-      (λ h. sym (list_any-from_Contains laws-law pair (keys_of es)
-          (subst (λ (w : Entries). Contains w.keys pair) (sym c.self.view_is) h))
-          ∙ sym (is-there (same_key pair) es) ∙ sym c.if-promote.ensures.value),
+      (λ h. c.if-promote.ensures.value ∙ is-there (same_key pair) es
+          ∙ list_any-from_Contains laws-law pair (keys_of es)
+          (subst (λ (w : Entries). Contains w.keys pair) (sym c.self.view_is) h)),
     )
 
 pub returns-clause-unchanged : goal.returns-clause-unchanged

@@ -1,8 +1,6 @@
-use Rattle.std.proofs.Common.{◌≡◌, Some, sym, ap, ◌∙◌, subst}
+use Rattle.std.proofs.Common.{sym, ap, ◌∙◌, subst}
 use Rattle.std.specs.List.{slice_get}
-use Rattle.std.specs.Prelude.{IfOk}
 use Rattle.std.proofs.lemmas.Result.{IfOk-weaker}
-use Rattle.sql_rows.specs.declared.cache.RequestKey.{RequestKey}
 use Rattle.sql_rows.specs.Entries.{Entries}
 use Rattle.sql_rows.specs.inside.Served.{Serves}
 use Rattle.sql_rows.proofs.Keys.{first-there, no-first}
