@@ -35,7 +35,7 @@ found test [] x h = none_some x h
 found test (y ∷ ys) x h =
     let at : (b : Bool) → test y ≡ b → cond b (Some y) (find test ys) ≡ Some x → test x ≡ true =
     λ b. elim b as (λ b. test y ≡ b → cond b (Some y) (find test ys) ≡ Some x → test x ≡ true) [
-      true ↦ λ is e. let same : y ≡ x = cc in subst (λ z. test z ≡ true) same is
+      | true ↦ λ is e. let same : y ≡ x = cc in subst (λ z. test z ≡ true) same is
       | false ↦ λ is e. found test ys x e
     ] in
     at (test y) refl h

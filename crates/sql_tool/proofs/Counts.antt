@@ -69,12 +69,12 @@ IsRespelled w = (get_or w 0 0 ≡ 43) ⊎ ((get_or w 0 0 ≡ 48) × (1 < length 
 respelled : (w : List ℕ) (n : ℕ) → n ≤ MAX_REQUESTS → IsRespelled w → w ≢ decimal n
 respelled w n le (inl plus) is =
     elim (first-byte n (smaller n le)) [
-      inl digit ↦ let same : get_or w 0 0 ≡ get_or (decimal n) 0 0 = ap (λ x. get_or x 0 0) is in absurd (omega arith)
+      | inl digit ↦ let same : get_or w 0 0 ≡ get_or (decimal n) 0 0 = ap (λ x. get_or x 0 0) is in absurd (omega arith)
       | inr alone ↦ let same : get_or w 0 0 ≡ 48 = ap (λ x. get_or x 0 0) (is ∙ alone) in absurd (omega arith)
     ]
 respelled w n le (inr (leading, long)) is =
     elim (first-byte n (smaller n le)) [
-      inl digit ↦ let same : get_or w 0 0 ≡ get_or (decimal n) 0 0 = ap (λ x. get_or x 0 0) is in absurd (omega arith)
+      | inl digit ↦ let same : get_or w 0 0 ≡ get_or (decimal n) 0 0 = ap (λ x. get_or x 0 0) is in absurd (omega arith)
       | inr alone ↦ let same : length w ≡ 1 = ap length (is ∙ alone) in absurd (omega arith)
     ]
 

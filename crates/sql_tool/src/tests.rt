@@ -110,9 +110,15 @@ fn words_that_are_no_command(rt: HostRuntime) -> Result<(), Fail> {
     assert_eq!(rt; status_of_words(alloc, &["--help"])?, Status::Usage);
     assert_eq!(rt; status_of_words(alloc, &["build"])?, Status::Done);
     assert_eq!(rt; status_of_words(alloc, &["generate"])?, Status::Usage);
-    assert_eq!(rt; status_of_words(alloc, &["generate", "007"])?, Status::Usage);
+    assert_eq!(rt;
+        status_of_words(alloc, &["generate", "007"])?,
+        Status::Usage
+    );
     assert_eq!(rt; status_of_words(alloc, &["generate", "+7"])?, Status::Usage);
-    assert_eq!(rt; status_of_words(alloc, &["generate", "100001"])?, Status::Usage);
+    assert_eq!(rt;
+        status_of_words(alloc, &["generate", "100001"])?,
+        Status::Usage
+    );
     assert_eq!(rt; status_of_words(alloc, &["generate", "0"])?, Status::Done);
     assert_eq!(rt; status_of_words(alloc, &["read"])?, Status::Usage);
     assert_eq!(rt; status_of_words(alloc, &["read", "pg"])?, Status::Usage);
