@@ -1,7 +1,8 @@
-use Rattle.std.proofs.Common.{inr, refl}
+use Rattle.std.proofs.Common.{Err, ap, inr}
 use Rattle.std.proofs.lemmas.Result.{IfOk-weaker}
 use Rattle.sql_read_output.proofs.line.reading_object.Goals as goal
 
 pub returns-in-Err-NotInGrammar : goal.returns-in-Err-NotInGrammar
 returns-in-Err-NotInGrammar c =
-    IfOk-weaker c.refused.result _ _ (λ v is. inr (c.in-Err-NotInGrammar.ensures.not_in_grammar refl, is)) c.refused.ensures
+    let none = c.in-Err-NotInGrammar.ensures.not_in_grammar (ap Err c.in-Err-NotInGrammar.field-0-is) in
+    IfOk-weaker c.refused.result _ _ (λ v is. inr (none, is)) c.refused.ensures
