@@ -5,7 +5,7 @@ use Rattle.sql_output.specs.Ids.{RequestShape, IsFirst, IsId}
 use Rattle.sql_output.specs.inside.Keys.{index_from, same_key}
 use Rattle.sql_rows.specs.declared.cache.RequestKey.{RequestKey}
 use Rattle.sql_rows.specs.contracts.cache.RequestKeyEq.TheImpl.Laws.{laws-law}
-use Rattle.sql_output.proofs.Keys.{exact-key}
+use Rattle.sql_rows.proofs.Exact.{exact-key}
 
 pub none_some : {X : Type 0} (x : X) → Prim.Path (Option X) None (Some x) → ⊥
 none_some x h = cc
