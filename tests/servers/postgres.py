@@ -1,0 +1,123 @@
+"""Statements on PostgreSQL: prepared by libpq with the types that an answer tells, bound and read in the binary form."""
+import struct
+
+import servers
+
+OIDS = {"SmallInt": (21, 1005), "Integer": (23, 1007), "BigInt": (20, 1016), "Text": (25, 1009), "Binary": (17, 1001), "Bool": (16, 1000)}
+BASES = {oid: base for base, (oid, _) in OIDS.items()}
+NUMBERS = {"SmallInt": "!h", "Integer": "!i", "BigInt": "!q"}
+
+
+def encoded(base, value):
+    """The binary form of a value, None for NULL."""
+    if value is None:
+        return None
+    if base in NUMBERS:
+        return struct.pack(NUMBERS[base], value)
+    if base == "Bool":
+        return b"\1" if value else b"\0"
+    return value.encode() if base == "Text" else value
+
+
+def encoded_list(base, values):
+    """The binary form of an array."""
+    if not values:
+        return struct.pack("!iii", 0, 0, OIDS[base][0])
+    parts = [struct.pack("!iiiii", 1, int(None in values), OIDS[base][0], len(values), 1)]
+    for value in values:
+        data = encoded(base, value)
+        parts.append(struct.pack("!i", -1) if data is None else struct.pack("!i", len(data)) + data)
+    return b"".join(parts)
+
+
+def decoded(base, data):
+    if data is None:
+        return None
+    if base in NUMBERS:
+        return struct.unpack(NUMBERS[base], data)[0]
+    if base == "Bool":
+        return data != b"\0"
+    return data.decode() if base == "Text" else bytes(data)
+
+
+class Postgres:
+    name = "PostgreSQL"
+    dialect = "Pg"
+    has_types = True
+    types = {"SmallInt": "smallint", "Integer": "integer", "BigInt": "bigint", "Text": "text", "Binary": "bytea", "Bool": "boolean"}
+
+    def __init__(self):
+        try:
+            from psycopg import OperationalError, pq
+        except ImportError as error:
+            raise servers.Missing("python3-psycopg is not installed") from error
+        self.pq = pq
+        self.process = servers.start_postgres()
+        target = f"host={self.process.folder} user=postgres dbname=postgres client_encoding=UTF8".encode()
+
+        def connect():
+            connection = pq.PGconn.connect(target)
+            if connection.status != pq.ConnStatus.OK:
+                raise OperationalError(connection.error_message.decode())
+            return connection
+
+        self.connection = self.process.connected(connect, OperationalError)
+        self.version = self.value("SHOW server_version").split()[0]
+
+    def value(self, sql):
+        return self.checked(self.connection.exec_(sql.encode())).get_value(0, 0).decode()
+
+    def checked(self, result):
+        """The result, or the server's message as a refusal."""
+        if result.status in (self.pq.ExecStatus.COMMAND_OK, self.pq.ExecStatus.TUPLES_OK):
+            return result
+        raise servers.Refused(result.error_field(self.pq.DiagnosticField.MESSAGE_PRIMARY).decode())
+
+    def run(self, sql):
+        if "\0" in sql:
+            raise servers.Refused("a text has a NUL")
+        self.checked(self.connection.exec_(sql.encode()))
+
+    def prepare(self, sql, kinds):
+        """The number of placeholders by the server's count, and the types of the columns."""
+        if "\0" in sql:
+            raise servers.Refused("a text has a NUL")
+        oids = [OIDS[kind.base][kind.is_list] for kind in kinds]
+        self.checked(self.connection.prepare(b"s", sql.encode(), oids))
+        told = self.checked(self.connection.describe_prepared(b"s"))
+        return told.nparams, [BASES.get(told.ftype(at), told.ftype(at)) for at in range(told.nfields)]
+
+    def execute(self, kinds, values):
+        """The types of the columns, and the rows."""
+        data = [encoded_list(kind.base, value) if kind.is_list else encoded(kind.base, value) for kind, value in zip(kinds, values)]
+        result = self.checked(self.connection.exec_prepared(b"s", data, [1] * len(data), 1))
+        bases = [BASES.get(result.ftype(at), result.ftype(at)) for at in range(result.nfields)]
+        rows = [tuple(decoded(base, result.get_value(row, at)) for at, base in enumerate(bases)) for row in range(result.ntuples)]
+        return bases, rows
+
+    def close(self):
+        """Forgets the prepared statement, where there is one."""
+        self.connection.exec_(b"DEALLOCATE ALL")
+
+    def open_schemas(self, names):
+        """Makes the schemas of a document, and gives those that the server refuses with its message."""
+        self.run("DROP SCHEMA IF EXISTS public CASCADE")
+        self.run("CREATE SCHEMA public")
+        self.made, refused = ["public"], {}
+        for name in names - {"public"}:
+            try:
+                self.run("CREATE SCHEMA " + self.quoted(name))
+                self.made.append(name)
+            except servers.Refused as error:
+                refused[name] = str(error)
+        return refused
+
+    def drop_schemas(self):
+        for name in self.made:
+            self.run(f"DROP SCHEMA {self.quoted(name)} CASCADE")
+
+    def quoted(self, name):
+        return '"' + name.replace('"', '""') + '"'
+
+    def stop(self):
+        self.process.stop()
