@@ -54,7 +54,7 @@ returns c =
     let f = seen_at c.args.seen.now in
     let schema = c.args.named.now.schema in
     let same = is-request i d c.form_of.result s c.dialect_of-dialect.ensures c.form_of.ensures c.in_ok-statement.ensures in
-    on_ok_weaker c.refuse.result _ _ (λ h. let (rule, is, told) = h in
+    on_ok_weaker c.refuse.result (λ h. let (rule, is, told) = h in
     subst (λ r. HasLine declarations r n f f (TellMore n c.args.counts.now c.refuse.new.counts)) same
     (subst (λ x. HasLine x (of d s) n f f (TellMore n c.args.counts.now c.refuse.new.counts)) c.requires.schema
     (refused-counted schema (of d s) n f c.args.counts.now c.refuse.new.counts s rule refl
