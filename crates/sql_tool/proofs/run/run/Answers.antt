@@ -1,7 +1,7 @@
 use Rattle.std.specs.Io.KnownBytes.{IsAtEnd}
 use Rattle.std.proofs.Common.{map, subst}
 use Rattle.std.specs.Prelude.{string_bytes}
-use Rattle.sql_generate.proofs.Requests.{one-summary}
+use Rattle.sql_generate.proofs.Summaries.{one-summary}
 use Rattle.sql_output.proofs.Ids.{one-id-serves, one-shape-one-id}
 use Rattle.sql_output.proofs.Once.{one-output, prefix-of-output}
 use Rattle.sql_read_output.proofs.Once.{one-line}
