@@ -2,4 +2,4 @@ pub mod Totals
 pub mod Counting
 pub mod Tallies
 pub mod Named
-pub mod Generating
+pub mod Summaries

@@ -40,7 +40,8 @@ found test (y ∷ ys) x h =
     ] in
     at (test y) refl h
 
-mapped : {X Y : Type 0} (f : X → Y) (o : Option X) (y : Y) → option_map f o ≡ Some y → (x : X) × (o ≡ Some x) × (f x ≡ y)
+mapped : {X Y : Type 0} (f : X → Y) (o : Option X) (y : Y) → option_map f o ≡ Some y
+    → (x : X) × (o ≡ Some x) × (f x ≡ y)
 mapped f None y h = none_some y h
 mapped f (Some x) y h = let same : f x ≡ y = cc in (x, refl, same)
 
@@ -97,7 +98,8 @@ told (w ∷ v ∷ u ∷ ws) c h = none_some c h
 -- and with its own words a command is told
 telling : (given : List (List ℕ)) (c : Command) → AreWordsOf c given → command_of given ≡ Some c
 telling given Build is = ap command_of is
-telling given (Generate n) (is, within) = ap command_of is ∙ ap (option_map Generate) (count-some (decimal n) n within refl)
+telling given (Generate n) (is, within) =
+    ap command_of is ∙ ap (option_map Generate) (count-some (decimal n) n within refl)
 telling given (Read d) is = ap command_of is ∙ ap (option_map Read) (dialect-forth d)
 
 pub is-told : (given : List (List ℕ)) (c : Command) → (command_of given ≡ Some c) ↔ AreWordsOf c given

@@ -34,7 +34,8 @@ count-some w n le is =
     let value : digits_value 10 w ≡ n = ap (digits_value 10) is ∙ (decimal_is_IsNumeral n (smaller n le)).1 in
     let spelled = (bytes_eq-Decides w (decimal (digits_value 10 w))).1 (is ∙ ap decimal (sym value)) in
     let within = le-leb (digits_value 10 w) MAX_REQUESTS (subst (λ m. m ≤ MAX_REQUESTS) (sym value) le) in
-    taken (bytes_eq w (decimal (digits_value 10 w))) (nat_le (digits_value 10 w) MAX_REQUESTS) (digits_value 10 w) spelled within
+    taken (bytes_eq w (decimal (digits_value 10 w))) (nat_le (digits_value 10 w) MAX_REQUESTS) (digits_value 10 w)
+    spelled within
     ∙ ap Some value
 
 -- and a word has a count only where it is those digits
@@ -48,7 +49,8 @@ count-back w n h =
       subst (λ m. m ≤ MAX_REQUESTS) tests.1 (leb-true v MAX_REQUESTS within),
     )
 
-none-by : (w : List ℕ) (o : Option ℕ) → count_of w ≡ o → ((n : ℕ) → n ≤ MAX_REQUESTS → w ≢ decimal n) → count_of w ≡ None
+none-by : (w : List ℕ) (o : Option ℕ) → count_of w ≡ o → ((n : ℕ) → n ≤ MAX_REQUESTS → w ≢ decimal n)
+    → count_of w ≡ None
 none-by w None is other = is
 none-by w (Some n) is other = let (spelled, within) = count-back w n is in absurd (other n within spelled)
 

@@ -30,11 +30,12 @@ module _ (c : Command) (given written : List ℕ) (AtEnd : Type 0) where
 pub ends-unread : (status : Status) (c : Command) (written : List ℕ) (AtEnd : Type 0) → reads_source c ≡ false
     → Response status c [] written → Ends status c [] written AtEnd
 ends-unread status c written AtEnd silent =
-    ended c [] written AtEnd status (subst (λ b. HasRead b [] AtEnd) (sym silent) refl) (subst (λ b. HasReadSome b []) (sym silent) refl)
+    ended c [] written AtEnd status (subst (λ b. HasRead b [] AtEnd) (sym silent) refl)
+    (subst (λ b. HasReadSome b []) (sym silent) refl)
 
 -- a command that has read its source to the end
-pub ends-read : (status : Status) (c : Command) (given written : List ℕ) (AtEnd : Type 0) → reads_source c ≡ true → AtEnd
-    → length given ≤ LIMIT → Response status c given written → Ends status c given written AtEnd
+pub ends-read : (status : Status) (c : Command) (given written : List ℕ) (AtEnd : Type 0) → reads_source c ≡ true
+    → AtEnd → length given ≤ LIMIT → Response status c given written → Ends status c given written AtEnd
 ends-read status c given written AtEnd reads end within =
     ended c given written AtEnd status (subst (λ b. HasRead b given AtEnd) (sym reads) (end, within))
     (subst (λ b. HasReadSome b given) (sym reads) within)

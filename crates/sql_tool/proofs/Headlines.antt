@@ -31,7 +31,8 @@ done-if false c input given text rest is taken has output = (λ h. cc, same-outp
 
 pub done-whole : (o : Option Command) (left rest held new : Option (List ℕ)) (given written : List ℕ)
     → Consumes left rest given → Appends held new written → Outcome Done o given written (IsAtEnd rest)
-    → IfSome left (λ input. (c : Command) × (o ≡ Some c) × IsDone c input (IsAtEnd rest) (λ text. Appends held new text))
+    → IfSome left
+    (λ input. (c : Command) × (o ≡ Some c) × IsDone c input (IsAtEnd rest) (λ text. Appends held new text))
 done-whole o None rest held new given written taken appended outcome = tt
 done-whole None (Some input) rest held new given written taken appended outcome = absurd (not_usage outcome.0)
 done-whole (Some c) (Some input) rest held new given written taken appended (has, output) =

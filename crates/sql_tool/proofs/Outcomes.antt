@@ -51,7 +51,8 @@ within-some false given has = let e = ap length has in omega arith
 large : (status : Status) (o : Option Command) (given written : List ℕ) (AtEnd : Type 0)
     → Outcome status o given written AtEnd → (status ≡ TooLarge) ↔ (LIMIT < length given)
 large status None given written AtEnd outcome =
-    (λ is. let clash : Usage ≡ TooLarge = sym outcome.0 ∙ is in cc, λ more. let e = ap length outcome.1 in absurd (omega arith))
+    (λ is. let clash : Usage ≡ TooLarge = sym outcome.0 ∙ is in cc,
+    λ more. let e = ap length outcome.1 in absurd (omega arith))
 large Done (Some c) given written AtEnd outcome =
     (λ is. cc, λ more. let le = within (reads_source c) given AtEnd outcome.0 in absurd (omega arith))
 large Usage (Some c) given written AtEnd outcome = absurd outcome
@@ -147,14 +148,15 @@ known TooLarge c xs given written rest took ends =
 
 -- words and bytes decide the status, unless an object fails or memory runs out
 pub decided : (status : Status) (o : Option Command) (left rest : Option (List ℕ)) (given written : List ℕ)
-    → Took status left rest given → Outcome status o given written (IsAtEnd rest) → IfSome left (λ input. Decided status o input)
+    → Took status left rest given → Outcome status o given written (IsAtEnd rest)
+    → IfSome left (λ input. Decided status o input)
 decided status o None rest given written took outcome = tt
 decided status None (Some xs) rest given written took outcome = inl outcome.0
 decided status (Some c) (Some xs) rest given written took outcome = known status c xs given written rest took outcome
 
 -- and where no object fails, unless memory runs out
-pub complete : (status : Status) (o : Option Command) (left : Option (List ℕ)) (Lost Full : Type 0) → (status ≡ ReadFault → Lost)
-    → (status ≡ WriteFault → Full) → IfSome left (λ input. Decided status o input)
+pub complete : (status : Status) (o : Option Command) (left : Option (List ℕ)) (Lost Full : Type 0)
+    → (status ≡ ReadFault → Lost) → (status ≡ WriteFault → Full) → IfSome left (λ input. Decided status o input)
     → IfSome left (λ input. ¬ Lost → ¬ Full → (status ≡ NoMemory) ⊎ (status ≡ status_of o input))
 complete status o None Lost Full lost full h = tt
 complete status o (Some xs) Lost Full lost full (inl is) = λ _ _. inr is

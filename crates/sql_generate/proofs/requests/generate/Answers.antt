@@ -5,7 +5,7 @@ use Rattle.sql_output.proofs.Keys.{Tells}
 use Rattle.sql_output.proofs.Lines.{line-found, line-kept, lines-more}
 use Rattle.sql_output.specs.Output.{Line, AreLines}
 use Rattle.sql_output.specs.inside.Keys.{line_found, seen_at}
-use Rattle.sql_generate.proofs.Generating.{generated-more, next-number}
+use Rattle.sql_generate.proofs.Summaries.{generated-more, next-number}
 use Rattle.sql_generate.specs.Generated.{generated, request, dialect_of}
 use Rattle.sql_generate.specs.Schema.{declarations}
 use Rattle.sql_generate.specs.Summary.{IsSummary}

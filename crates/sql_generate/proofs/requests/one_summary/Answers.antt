@@ -1,4 +1,4 @@
-use Rattle.sql_generate.proofs.Generating.{one-summary}
+use Rattle.sql_generate.proofs.Summaries.{one-summary}
 use Rattle.sql_generate.proofs.requests.one_summary.Goals as goal
 
 pub returns : goal.returns

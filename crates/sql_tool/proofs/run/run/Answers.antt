@@ -1,7 +1,7 @@
 use Rattle.std.specs.Io.KnownBytes.{IsAtEnd}
 use Rattle.std.proofs.Common.{map, subst}
 use Rattle.std.specs.Prelude.{string_bytes}
-use Rattle.sql_generate.proofs.Generating.{one-summary}
+use Rattle.sql_generate.proofs.Summaries.{one-summary}
 use Rattle.sql_output.proofs.Ids.{one-id-serves, one-shape-one-id}
 use Rattle.sql_output.proofs.Once.{one-output, prefix-of-output}
 use Rattle.sql_read_output.proofs.Once.{one-line}
@@ -21,7 +21,8 @@ returns-clause-headline g c = λ done.
     let words = map string_bytes c.args.words.now in
     let (given, written, took, appended, outcome) = c.perform.ensures.outcome in
     done-whole (command_of words) _ _ _ _ given written (took.1 (not-read-fault _ done)) appended
-    (subst (λ s. Outcome s (command_of words) given written (IsAtEnd (g.S.Source.left c.perform.new.source))) done outcome)
+    (subst (λ s. Outcome s (command_of words) given written (IsAtEnd (g.S.Source.left c.perform.new.source))) done
+    outcome)
 
 pub returns-clause-one_output : goal.returns-clause-one_output
 returns-clause-one_output g c = one-output
@@ -45,7 +46,8 @@ pub returns-clause-usage : goal.returns-clause-usage
 returns-clause-usage g c =
     let words = map string_bytes c.args.words.now in
     let (given, written, took, appended, outcome) = c.perform.ensures.outcome in
-    outcomes.usage c.perform.result (command_of words) given written (IsAtEnd (g.S.Source.left c.perform.new.source)) outcome
+    outcomes.usage c.perform.result (command_of words) given written
+    (IsAtEnd (g.S.Source.left c.perform.new.source)) outcome
 
 pub returns-clause-too_large : goal.returns-clause-too_large
 returns-clause-too_large g c =
