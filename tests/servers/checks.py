@@ -4,14 +4,16 @@ import functools
 import servers
 import values
 from meaning import Meaning, NoMeaning, TooManyAnswers
-from readings import as_servers_read, by_position, without_negative_offsets
+from readings import as_servers_read, by_position, distinct_after_page, with_open_combinations, without_negative_offsets
 from statements import expression, python_value, statement, tables_of
 
 
 # What servers are known to answer otherwise: by the dialect, "" being each.
 DIFFERENCES = {
     "": [("as servers read NOT", as_servers_read)],
-    "Mysql": [("a bound number in ORDER BY being a position", by_position), ("a negative offset being past all rows", without_negative_offsets)],
+    "Mysql": [("a bound number in ORDER BY being a position", by_position), ("a negative offset being past all rows", without_negative_offsets),
+              ("EXISTS of, or a membership in, a combination being open", with_open_combinations),
+              ("DISTINCT over values being a limit after the offset", distinct_after_page)],
 }
 NULLS = ", NULL being the least or the greatest value"
 
@@ -49,6 +51,7 @@ class Checker:
         self.schema = schema
         self.meaning = Meaning(schema, database)
         self.refused_tables = refused_tables
+        self.asked = None
         self.counts = {}
 
     def count(self, what):
@@ -61,7 +64,8 @@ class Checker:
         return None
 
     def check(self, line, other):
-        """Asks about a line, and with the same prepared text about one that has other values. A Fault or a Refused where it fails."""
+        """Asks about a line, and with the same prepared text about one that has other values. A Fault or a Refused where it fails, and
+        then `asked` is the one of the two."""
         try:
             placeholders, columns = self.server.prepare(line.sql, line.kinds)
             if placeholders != len(line.values):
@@ -70,6 +74,7 @@ class Checker:
             self.execute(line)
             if other is not None:
                 check_same(line, other)
+                self.asked = other
                 self.execute(other)
                 self.count("other values")
         finally:
@@ -84,6 +89,7 @@ class Checker:
                 if wrong is not None:
                     raise Fault(wrong)
         self.count("executed")
+        self.count("executed, with rows" if rows else "executed, without rows")
         seen = [tuple(values.seen(told, value) for told, value in zip(line.columns, row)) for row in rows]
         self.check_rows(line, seen)
 

@@ -300,7 +300,7 @@ class Writer:
         if not self.happens(0.45):
             return []
         items = []
-        for _ in range(self.chance.randint(1, 2)):
+        for _ in range(self.chance.randint(1, 3)):
             if selection and self.happens(0.3):
                 items.append(self.item(self.chance.choice(selection)))
             else:

@@ -186,6 +186,8 @@ class Meaning:
         return distinct(operation(e[1], x, y) for x in self.values(e[2], frame) for y in self.values(e[3], frame))
 
     def subselect_values(self, tag, e, frame):
+        if tag == "either":
+            return True, False, None
         if tag == "exists":
             return distinct(bool(cells) for cells in self.pages(e[1], frame))
         if tag == "single":

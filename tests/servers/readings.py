@@ -1,9 +1,11 @@
 """Known differences between what a text means and what servers make of it, as changes of the statement (docs/SERVERS.md)."""
 from dataclasses import replace
 
-from statements import Combination
+from statements import Combination, nodes, statements_in
 
 WHOLE = ("SmallInt", "Integer", "BigInt")
+# What depends on a row, or on a subselect.
+ROWS = ("column", "exists", "single", "among_rows")
 
 
 def mapped(s, of_statement, of_expression):
@@ -27,7 +29,7 @@ def mapped(s, of_statement, of_expression):
         if e[0] == "list":
             return "list", [expression(each) for each in e[1]]
         if e[0] in ("exists", "single"):
-            return e[0], statement(e[1])
+            return of_expression((e[0], statement(e[1])))
         if e[0] in ("not", "nullable", "count"):
             return e[0], expression(e[1])
         if e[0] in ("compare", "connect"):
@@ -49,8 +51,9 @@ def as_servers_read(s):
     """`NOT (a)` as the left operand of a comparison, a null test or a membership takes the whole of it, since for servers NOT binds less
     tightly than these."""
     def expression(e):
-        operand = bare(e[2])
-        return ("not", (*e[:2], operand[1], *e[3:])) if operand[0] == "not" and e[0] != "connect" else e
+        if e[0] in ("exists", "single", "connect") or bare(e[2])[0] != "not":
+            return e
+        return "not", (*e[:2], bare(e[2])[1], *e[3:])
 
     return mapped(s, lambda s: s, expression)
 
@@ -80,5 +83,29 @@ def without_negative_offsets(s):
     """A negative offset is read as one of 64 bits without a sign."""
     def statement(s):
         return replace(s, offset=s.offset + (1 << 64)) if s.offset is not None and s.offset < 0 else s
+
+    return mapped(s, statement, lambda e: e)
+
+
+def with_open_combinations(s):
+    """EXISTS of a combination of which a side is a combination, and a membership in an INTERSECT or EXCEPT, give any value: MariaDB pushes
+    into the sides what it should ask of the whole."""
+    def is_open(e):
+        if e[0] == "exists":
+            return isinstance(e[1], Combination) and any(isinstance(side, Combination) for side in (e[1].left, e[1].right))
+        return e[0] == "among_rows" and any(is_difference(inner) for inner in statements_in(e[3]))
+
+    def is_difference(s):
+        return isinstance(s, Combination) and s.operator != "union"
+
+    return mapped(s, lambda s: s, lambda e: ("either",) if is_open(e) else e)
+
+
+def distinct_after_page(s):
+    """DISTINCT over values alone is a limit of one row, after the offset."""
+    def statement(s):
+        if isinstance(s, Combination) or s.distinct != "distinct" or any(node[0] in ROWS for node in nodes(s.selection)):
+            return s
+        return replace(s, distinct=None, limit=0 if s.limit == 0 else 1)
 
     return mapped(s, statement, lambda e: e)

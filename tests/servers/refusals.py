@@ -27,6 +27,8 @@ KNOWN = [
      "a bound whole number alone in ORDER BY or GROUP BY, which is the position of a column"),
     ("MariaDB", r"Duplicate column name", r"UNION|INTERSECT|EXCEPT",
      "a combination as a side of a combination, with two columns of one name"),
+    ("MariaDB", r"SELECT statements have a different number of columns", r"EXISTS \(\(.*(UNION|INTERSECT|EXCEPT).*(UNION|INTERSECT|EXCEPT)",
+     "EXISTS of a combination with a combination as a side: a fault of MariaDB"),
     ("SQLite", r"misuse of aggregate", r"ON .*COUNT", "COUNT in ON"),
     ("SQLite", r"ambiguous column name", None, "two names that differ in the case of letters alone"),
     ("SQLite", r"parser stack overflow", None, "a text that nests deeper than SQLite's parser goes"),
@@ -34,9 +36,10 @@ KNOWN = [
 
 
 def template(message):
-    """A message without the names, numbers and places that it quotes."""
+    """A message without the names, numbers and places that it quotes; a keyword stays."""
     message = re.sub(r"near '(\w*).*'", r"near \1 ..", message, flags=re.S)
-    message = re.sub(r"(?<!\w)'[^']*'|\".*\"", "..", message, flags=re.S)
+    message = re.sub(r"column (name: |['\"]).*? (in|must) ", r"column .. \2 ", message, flags=re.S)
+    message = re.sub(r"(?<!\w)'(?![A-Z ]+')[^']*'|\".*\"", "..", message, flags=re.S)
     return re.sub(r"\d+", "N", message)
 
 

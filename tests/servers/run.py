@@ -110,8 +110,9 @@ class Runner:
         self.report = report
         self.most = most
 
-    def run(self, name, document, chance):
+    def run(self, name, document, seed):
         """Asks each server about each accepted line of its dialect. How many lines were accepted."""
+        chance = random.Random(seed)
         command = "guard" if "guard" in document else "build"
         others = [values.other_values(chance, request) for request in document["requests"]]
         lines = answers(self.program, command, {**document, "requests": document["requests"] + others})
@@ -129,7 +130,7 @@ class Runner:
                 second = Line(schema, others[at], second) if "sql" in second else second
                 accepted.setdefault(request["dialect"], []).append((at + 1, Line(schema, request, first), second))
         for dialect, found in accepted.items():
-            self.run_on(self.started[dialect], name, schema, document.get("guard"), found, chance)
+            self.run_on(self.started[dialect], name, schema, document.get("guard"), found, random.Random(f"{seed} {dialect}"))
         return sum("sql" in line for line in lines[:len(others)])
 
     def run_on(self, server, name, schema, guard, found, chance):
@@ -150,14 +151,15 @@ class Runner:
             report.refuse(server, name, line, "CREATE: " + missing)
             return
         try:
+            checker.asked = line
             if isinstance(other, dict):
                 raise Fault(f"with other values: {other}")
             checker.check(line, other)
             report.passed += 1
         except servers.Refused as error:
-            report.refuse(server, name, line, str(error))
+            report.refuse(server, name, checker.asked, str(error))
         except Fault as error:
-            report.fail(name, line, f"{error}\n    request: {json.dumps(line.request, ensure_ascii=False)}")
+            report.fail(name, checker.asked, f"{error}\n    request: {json.dumps(checker.asked.request, ensure_ascii=False)}")
 
 
 def start(wanted):
@@ -189,7 +191,7 @@ def run_random(runner, count, seed, is_guarded):
     while done < count:
         document = documents.document(random.Random(seed), is_guarded=is_guarded)
         requests += len(document["requests"])
-        done += runner.run(f"document of --seed {seed}", document, random.Random(seed))
+        done += runner.run(f"document of --seed {seed}", document, seed)
         seed += 1
     print(f"{done} lines accepted of {requests}, up to seed {seed - 1}")
 
@@ -202,7 +204,7 @@ def main():
     parser.add_argument("--guard", action="store_true", help="random documents have a guard, and are run by the command guard")
     parser.add_argument("--program", default=str(TOP / "crates/sql_tool/out/sql_tool"))
     parser.add_argument("--dialect", action="append", choices=sorted(DIALECTS), help="on this one's server alone")
-    parser.add_argument("--rows", type=int, default=3, help="a table has at most so many")
+    parser.add_argument("--rows", type=int, default=4, help="a table has at most so many")
     parser.add_argument("--show", type=int, default=20, help="so many failures are shown")
     given = parser.parse_args()
     if not os.access(given.program, os.X_OK):
@@ -219,7 +221,7 @@ def main():
         else:
             chosen = [(path.name, json.loads(path.read_text())) for path in given.documents] or stored()
             for name, document in chosen:
-                runner.run(name, document, random.Random(given.seed))
+                runner.run(name, document, given.seed)
     finally:
         for server in started.values():
             server.stop()
