@@ -50,9 +50,10 @@ within-some false given has = let e = ap length has in omega arith
 -- more than the limit was given exactly where that is the status
 large : (status : Status) (o : Option Command) (given written : List ℕ) (AtEnd : Type 0)
     → Outcome status o given written AtEnd → (status ≡ TooLarge) ↔ (LIMIT < length given)
-large status None given written AtEnd outcome =
-    (λ is. let clash : Usage ≡ TooLarge = sym outcome.0 ∙ is in cc,
-    λ more. let e = ap length outcome.1 in absurd (omega arith))
+large status None given written AtEnd outcome = (
+  λ is. let clash : Usage ≡ TooLarge = sym outcome.0 ∙ is in cc,
+  λ more. let e = ap length outcome.1 in absurd (omega arith),
+)
 large Done (Some c) given written AtEnd outcome =
     (λ is. cc, λ more. let le = within (reads_source c) given AtEnd outcome.0 in absurd (omega arith))
 large Usage (Some c) given written AtEnd outcome = absurd outcome
