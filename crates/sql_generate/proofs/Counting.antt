@@ -4,7 +4,6 @@ use Rattle.std.proofs.lemmas.Slice.Eq.{bytes_eq-Decides}
 use Rattle.std.specs.BTreeMap.{get_by_text}
 use Rattle.sql_schema.specs.Declarations.{Declarations}
 use Rattle.sql_schema.specs.declared.types.SqlType.{SqlType}
-use Rattle.sql_dialect.specs.declared.backend.Dialect.{Dialect}
 use Rattle.sql_node.specs.Tree.{Statement}
 use Rattle.sql_rules.specs.Texts.{rule_text}
 use Rattle.sql_rules.specs.declared.rule.Rule.{Rule}
@@ -19,7 +18,7 @@ use Rattle.sql_generate.proofs.Totals.{total-more, cut-raised, grown, same, grow
 use Rattle.sql_generate.specs.Counts.{one_if, is_accepted, is_refused_as, binds_in, bytes_in, is_own, refused_as}
 use Rattle.sql_generate.specs.Summary.{cut}
 use Rattle.sql_generate.specs.declared.counts.Counts.{Counts}
-use Rattle.sql_generate.specs.inside.Counting.{kept, raised, HasRefusals, IsRaisedAt, IsWithRefused, with_accepted, Tell, TellMore}
+use Rattle.sql_generate.specs.inside.Counting.{kept, raised, HasRefusals, IsRaisedAt, IsWithRefused, with_accepted, TellMore}
 
 -- ---- look-ups by name
 

@@ -1,5 +1,5 @@
 -- The tables and columns that requests name are found in the schema.
-use Rattle.std.proofs.Common.{◌≡◌, ◌∙◌, List, ℕ, codes, Option, Some, refl, sym, ap}
+use Rattle.std.proofs.Common.{◌≡◌, ◌∙◌, codes, Some, refl, ap}
 use Rattle.sql_schema.specs.Columns.{DeclaredColumn, column_in, column_of, table_named}
 use Rattle.sql_schema.specs.Declarations.{Declarations}
 use Rattle.sql_schema.specs.declared.declaration.TableDecl.{TableDecl}

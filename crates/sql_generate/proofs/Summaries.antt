@@ -1,16 +1,12 @@
 -- Generated requests, and the one line that sums them up.
-use Rattle.std.proofs.Common.{◌≡◌, ◌∙◌, ◌≢◌, ℕ, zero, suc, ◌+◌, List, [], ◌∷◌, ◌++◌, length, Option, Some, refl, sym, ap, subst, arith}
-use Rattle.sql_schema.specs.Declarations.{Declarations}
-use Rattle.sql_dialect.specs.declared.backend.Dialect.{Dialect}
+use Rattle.std.proofs.Common.{◌≡◌, ◌∙◌, ◌≢◌, ℕ, zero, suc, ◌+◌, List, [], ◌∷◌, ◌++◌, length, refl, sym, ap, arith}
 use Rattle.sql_dialect.specs.declared.backend.Dialect.TheVariants.{Sqlite}
-use Rattle.sql_node.specs.Tree.{Statement}
 use Rattle.sql_output.proofs.Lines.{lines-length}
 use Rattle.sql_output.proofs.Once.{same-lines}
-use Rattle.sql_output.specs.Output.{Line, StatementRequest, AreLines}
+use Rattle.sql_output.specs.Output.{Line, AreLines}
 use Rattle.sql_generate.specs.Generated.{dialect_at, form_at, generated, request}
 use Rattle.sql_generate.specs.Schema.{declarations}
 use Rattle.sql_generate.specs.Summary.{IsSummary, summary_text}
-use Rattle.sql_generate.specs.declared.form.Form.{Form}
 use Rattle.sql_generate.specs.declared.form.Form.TheVariants.{WithPosts}
 
 -- ---- what is left of remainders

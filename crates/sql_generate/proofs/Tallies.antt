@@ -40,18 +40,19 @@ both-false false b h = (refl, h)
 float-put : (k : List ℕ) (n : ℕ) (ms : Members) → members_have_float ms ≡ false
     → members_have_float (put k (count n) ms) ≡ false
 float-put k n no_members h = refl
-float-put k n (member l d ms) h = here (slice_cmp nat_cmp k l)
+float-put k n (member l d ms) h =
+    here (slice_cmp nat_cmp k l) (λ none. float-put k n ms none)
   where
     parts : (has_float d ≡ false) × (members_have_float ms ≡ false)
     parts = both-false (has_float d) (members_have_float ms) h
 
     here : (o : Ordering)
+        → (members_have_float ms ≡ false → members_have_float (put k (count n) ms) ≡ false)
         → members_have_float (match_ordering o (member k (count n) (member l d ms)) (member l (count n) ms) (member l d (put k (count n) ms)))
         ≡ false
-    here Less = h
-    here Equal = parts.1
-    here Greater =
-        ap (λ b. b || members_have_float (put k (count n) ms)) parts.0 ∙ float-put k n ms parts.1
+    here Less rest = h
+    here Equal rest = parts.1
+    here Greater rest = ap (λ b. b || members_have_float (put k (count n) ms)) parts.0 ∙ rest parts.1
 
 float-tallied : (name : List ℕ) (many : ℕ) (ms : Members) → members_have_float ms ≡ false
     → members_have_float (tallied name many ms) ≡ false

@@ -1,5 +1,5 @@
 -- The generated requests. They are numbered from 0; a number gives the dialect, the form and the values of its request.
-use Rattle.std.specs.Prelude.{ℕ, zero, suc, ◌/◌, ◌%◌, min, ◌^◌, ◌-◌, ℤ, pos, List, [], ◌∷◌, ◌++◌, false, Some, None}
+use Rattle.std.specs.Prelude.{ℕ, zero, suc, ◌/◌, ◌%◌, min, ◌^◌, ◌-◌, pos, List, [], ◌∷◌, ◌++◌, false, Some, None}
 use Rattle.sql_schema.specs.declared.declaration.ColumnDecl.{ColumnDecl}
 use Rattle.sql_schema.specs.declared.declaration.TableDecl.{TableDecl}
 use Rattle.sql_schema.specs.declared.types.Base.TheVariants.{Integer as IntegerBase}

@@ -1,4 +1,4 @@
-use Rattle.std.proofs.Common.{◌≡◌, ◌∙◌, ◌+◌, Option, Some, ℕ, refl, sym, ap, subst}
+use Rattle.std.proofs.Common.{◌≡◌, ◌∙◌, ◌+◌, Some, ℕ, refl, subst}
 use Rattle.std.specs.Prelude.{Result, Ok, Err, OnOk}
 use Rattle.std.proofs.lemmas.Result.{on_ok_weaker}
 use Rattle.sql_dialect.specs.declared.backend.Dialect.{Dialect}
@@ -31,7 +31,8 @@ both_ok (Err e) f p q = p
 pub returns-in-Ok : goal.returns-in-Ok
 returns-in-Ok c =
     let i = c.args.number in
-    let n = i + 1 in
+    let at : c.from.result ≡ i = c.from.ensures in
+    let n = c.from.result + 1 in
     let d = c.dialect_of-dialect.result in
     let s = statement_tree c.in_ok-statement.statement in
     let f = seen_at c.args.seen.now in
@@ -39,10 +40,11 @@ returns-in-Ok c =
     let schema = c.args.named.now.schema in
     let same = is-request i d c.form_of.result s c.dialect_of-dialect.ensures c.form_of.ensures c.in_ok-statement.ensures in
     both_ok c.accept.result (λ counted kept.
-    subst (λ r. HasLine declarations r n f g (TellMore n c.args.counts.now c.accept.new.counts)) same
+    subst (λ m. HasLine declarations (request i) (m + 1) f g (TellMore (m + 1) c.args.counts.now c.accept.new.counts)) at
+    (subst (λ r. HasLine declarations r n f g (TellMore n c.args.counts.now c.accept.new.counts)) same
     (subst (λ x. HasLine x (of d s) n f g (TellMore n c.args.counts.now c.accept.new.counts)) c.requires.schema
     (accepted-counted schema (of d s) n f c.args.counts.now c.accept.new.counts s c.in-Ok.built g refl
-    c.in-Ok.ensures.built c.in-Ok.ensures.read counted kept)))
+    c.in-Ok.ensures.built c.in-Ok.ensures.read counted kept))))
     c.accept.ensures.counted c.accept.ensures.kept
 
 pub returns : goal.returns

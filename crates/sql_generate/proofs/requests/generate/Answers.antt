@@ -1,14 +1,11 @@
-use Rattle.std.proofs.Common.{◌≡◌, ◌∙◌, ◌+◌, ◌∷◌, ◌++◌, [], List, ℕ, Some, map, refl, sym, ap, subst, arith, rules}
+use Rattle.std.proofs.Common.{◌≡◌, ◌+◌, ◌∷◌, ◌++◌, [], sym, subst, arith, rules}
 use Rattle.std.proofs.lemmas.Result.{IfOk-weaker}
-use Rattle.sql_output.proofs.Ids.{line_key}
-use Rattle.sql_output.proofs.Keys.{Tells}
 use Rattle.sql_output.proofs.Lines.{line-found, line-kept, lines-more}
-use Rattle.sql_output.specs.Output.{Line, AreLines}
+use Rattle.sql_output.specs.Output.{AreLines}
 use Rattle.sql_output.specs.inside.Keys.{line_found, seen_at}
 use Rattle.sql_generate.proofs.Summaries.{generated-more, next-number}
 use Rattle.sql_generate.specs.Generated.{generated, request, dialect_of}
 use Rattle.sql_generate.specs.Schema.{declarations}
-use Rattle.sql_generate.specs.Summary.{IsSummary}
 use Rattle.sql_generate.proofs.requests.generate.Goals as goal
 
 pub loop-number-init : goal.loop-number-init

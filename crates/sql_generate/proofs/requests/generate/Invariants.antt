@@ -1,4 +1,4 @@
-use Rattle.std.proofs.Common.{◌≡◌, List, [], map}
+use Rattle.std.proofs.Common.{List, [], map}
 use Rattle.sql_output.proofs.Ids.{line_key}
 use Rattle.sql_output.proofs.Keys.{Tells}
 use Rattle.sql_output.specs.Output.{Line, AreLines}

@@ -1,4 +1,4 @@
-use Rattle.std.proofs.Common.{◌≡◌, ◌∙◌, ℕ, suc, ◌+◌, ◌++◌, ◌∷◌, [], pos, ap, sym, arith, rules}
+use Rattle.std.proofs.Common.{◌≡◌, ◌∙◌, ℕ, suc, ◌+◌, ◌++◌, ◌∷◌, [], pos, ap, arith, rules}
 use Rattle.sql_pass.specs.declared.value.Value.TheVariants.{Integer}
 use Rattle.sql_generate.specs.Generated.{integers}
 use Rattle.sql_generate.proofs.statements.integers.Goals as goal
