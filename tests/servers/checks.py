@@ -4,7 +4,7 @@ import functools
 import servers
 import values
 from meaning import Meaning, NoMeaning, TooManyAnswers
-from readings import (as_servers_read, by_position, distinct_after_page, with_open_combinations, without_inner_distinct,
+from readings import (as_servers_read, by_position, distinct_after_page, with_lost_offsets, with_open_combinations,
                       without_negative_offsets)
 from statements import expression, python_value, statement, tables_of
 
@@ -15,7 +15,7 @@ DIFFERENCES = {
     "Mysql": [("a bound number in ORDER BY being a position", by_position), ("a negative offset being past all rows", without_negative_offsets),
               ("EXISTS of, or a membership in, a combination being open", with_open_combinations),
               ("DISTINCT over values being a limit after the offset", distinct_after_page)],
-    "Sqlite": [("a value and EXISTS losing DISTINCT", without_inner_distinct)],
+    "Sqlite": [("DISTINCT with an offset in a subselect", with_lost_offsets)],
 }
 NULLS = ", NULL being the least or the greatest value"
 

@@ -1,7 +1,7 @@
 """Known differences between what a text means and what servers make of it, as changes of the statement (docs/SERVERS.md)."""
 from dataclasses import replace
 
-from statements import Combination, Select, nodes, statements_in
+from statements import Combination, nodes, statements_in
 
 WHOLE = ("SmallInt", "Integer", "BigInt")
 # What depends on a row, or on a subselect.
@@ -111,10 +111,12 @@ def distinct_after_page(s):
     return mapped(s, statement, lambda e: e)
 
 
-def without_inner_distinct(s):
-    """A statement as a value, or under EXISTS, loses its DISTINCT: a fault of SQLite where it has an offset too."""
+def with_lost_offsets(s):
+    """A statement with DISTINCT loses that under EXISTS, and as a value it gives a row that its offset skips where it skips all: two faults
+    of SQLite."""
     def expression(e):
-        drops = e[0] in ("exists", "single") and isinstance(e[1], Select) and e[1].distinct == "distinct"
-        return (e[0], replace(e[1], distinct=None)) if drops else e
+        if e[0] not in ("exists", "single") or isinstance(e[1], Combination) or e[1].distinct != "distinct":
+            return e
+        return ("exists", replace(e[1], distinct=None)) if e[0] == "exists" else ("skipped", e[1])
 
     return mapped(s, lambda s: s, expression)
