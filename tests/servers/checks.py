@@ -4,7 +4,8 @@ import functools
 import servers
 import values
 from meaning import Meaning, NoMeaning, TooManyAnswers
-from readings import as_servers_read, by_position, distinct_after_page, with_open_combinations, without_negative_offsets
+from readings import (as_servers_read, by_position, by_position_after, distinct_after_page, with_lost_offsets, with_open_combinations,
+                      without_negative_offsets)
 from statements import expression, python_value, statement, tables_of
 
 
@@ -14,6 +15,7 @@ DIFFERENCES = {
     "Mysql": [("a bound number in ORDER BY being a position", by_position), ("a negative offset being past all rows", without_negative_offsets),
               ("EXISTS of, or a membership in, a combination being open", with_open_combinations),
               ("DISTINCT over values being a limit after the offset", distinct_after_page)],
+    "Sqlite": [("DISTINCT with an offset in a subselect", with_lost_offsets)],
 }
 NULLS = ", NULL being the least or the greatest value"
 
@@ -51,7 +53,7 @@ class Checker:
         self.schema = schema
         self.meaning = Meaning(schema, database)
         self.refused_tables = refused_tables
-        self.asked = None
+        self.first = self.asked = None
         self.counts = {}
 
     def count(self, what):
@@ -66,6 +68,7 @@ class Checker:
     def check(self, line, other):
         """Asks about a line, and with the same prepared text about one that has other values. A Fault or a Refused where it fails, and
         then `asked` is the one of the two."""
+        self.first = self.asked = line
         try:
             placeholders, columns = self.server.prepare(line.sql, line.kinds)
             if placeholders != len(line.values):
@@ -123,6 +126,8 @@ class Checker:
     def readings(self):
         """The statement itself, and then what is known to differ from it (docs/SERVERS.md): each alone, and all at once."""
         known = DIFFERENCES[""] + DIFFERENCES.get(self.server.dialect, [])
+        if self.server.dialect == "Mysql" and self.asked is not self.first:
+            known = known + [("an item of an order being lost since the first execution", by_position_after(self.first.statement))]
         changes = [("", []), *((f", {what}", [change]) for what, change in known), (", several of these", [change for _, change in known])]
         for nulls_by_size in (False, True):
             for what, chosen in changes:

@@ -9,6 +9,7 @@ import functools
 import itertools
 import math
 from collections import Counter
+from dataclasses import replace
 
 from statements import Combination, is_grouped, leaves
 
@@ -192,6 +193,10 @@ class Meaning:
             return distinct(bool(cells) for cells in self.pages(e[1], frame))
         if tag == "single":
             return distinct(x for cells in self.pages(e[1], frame) for x in first_values(cells))
+        if tag == "skipped":
+            found = self.subselect_values("single", e, frame)
+            everything = self.pages(replace(e[1], limit=None, offset=None), frame) if None in found else ()
+            return distinct((*found, *(row[0] for cells in everything for group, _ in cells for row in group)))
         operands = self.values(e[2], frame)
         if tag == "among_values":
             return distinct(among(e[1], x, e[4]) for x in operands)

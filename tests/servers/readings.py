@@ -65,7 +65,7 @@ def by_position(s):
         return [found for each in e[1] for found in elements(each)] if e[0] == "list" else [e]
 
     def statement(s):
-        if isinstance(s, Combination):
+        if isinstance(s, Combination) or s.order is None:
             return s
         columns = elements(s.selection)
 
@@ -74,9 +74,34 @@ def by_position(s):
             is_position = number[0] == "value" and number[1].rstrip("?") in WHOLE and number[2] is not None
             return columns[number[2] - 1] if is_position and 1 <= number[2] <= len(columns) else e
 
-        return s if s.order is None else replace(s, order=[(item(e), descends) for e, descends in s.order])
+        return replace(s, order=[(item(e), descends) for e, descends in s.order])
 
     return mapped(s, statement, lambda e: e)
+
+
+def by_position_after(first):
+    """The same where the text was executed for another statement first: an item that repeated an earlier one then is gone for good."""
+    kept = []
+
+    def look(s):
+        if not isinstance(s, Combination):
+            items = [bare(e) for e, _ in s.order or []]
+            kept.append([at for at, e in enumerate(items) if e not in items[:at]])
+        return s
+
+    def change(s):
+        indexes = iter(kept)
+
+        def drop(s):
+            if isinstance(s, Combination):
+                return s
+            left = next(indexes)
+            return s if s.order is None else replace(s, order=[s.order[at] for at in left])
+
+        return mapped(by_position(s), drop, lambda e: e)
+
+    mapped(by_position(first), look, lambda e: e)
+    return change
 
 
 def without_negative_offsets(s):
@@ -109,3 +134,14 @@ def distinct_after_page(s):
         return replace(s, distinct=None, limit=0 if s.limit == 0 else 1)
 
     return mapped(s, statement, lambda e: e)
+
+
+def with_lost_offsets(s):
+    """A statement with DISTINCT loses that under EXISTS, and as a value it gives a row that its offset skips where it skips all: two faults
+    of SQLite."""
+    def expression(e):
+        if e[0] not in ("exists", "single") or isinstance(e[1], Combination) or e[1].distinct != "distinct":
+            return e
+        return ("exists", replace(e[1], distinct=None)) if e[0] == "exists" else ("skipped", e[1])
+
+    return mapped(s, lambda s: s, expression)

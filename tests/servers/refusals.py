@@ -17,6 +17,8 @@ KNOWN = [
     ("PostgreSQL", r"must appear in the GROUP BY clause or be used in an aggregate", "HAVING", "a column in HAVING that is not grouped"),
     ("PostgreSQL", r"aggregate functions are not allowed in JOIN conditions", "COUNT", "COUNT in ON"),
     ("MariaDB", r"Unknown column '.*' in 'HAVING'", "HAVING", "a column in HAVING that is not grouped"),
+    ("MariaDB", r"Unknown column '.*\..*' in '", r"\(\(SELECT .*(UNION|INTERSECT|EXCEPT).*(UNION|INTERSECT|EXCEPT)",
+     "a combination as a side of a combination, that sees a column of the statement around it"),
     ("MariaDB", r"Can't group on", r"GROUP BY", "a bound whole number alone in GROUP BY, which is the position of a column"),
     ("MariaDB", r"Invalid use of group function", r"ON .*COUNT", "COUNT in ON"),
     ("MariaDB", r"Incorrect (table|column|database) name ''", None, "an empty name"),

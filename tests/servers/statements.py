@@ -4,7 +4,7 @@ statements"). Expressions and sources are tuples, whose first element says what 
     ("column", (alias or None, table), column)      ("value", type, value)      ("list", [expression..])      ("count_star",)
     ("compare", operator, a, b)   ("connect", operator, a, b)   ("not", a)   ("null_test", is_negated, a)   ("nullable", a)
     ("count", a)   ("exists", statement)   ("single", statement)   ("among_values", is_negated, a, type, [value..])
-    ("among_rows", is_negated, a, statement)   ("either",), which readings.py puts in
+    ("among_rows", is_negated, a, statement)   and of readings.py ("either",)   ("skipped", statement)
     ("table", table, is_partial)   ("alias", alias, table)   ("join", kind, left, right, on or None)
 """
 from dataclasses import dataclass, field, replace
