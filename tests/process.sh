@@ -42,6 +42,12 @@ for document in "$top"/examples/*.json; do
     run build <"$document"
     check "${document##*/}" writes "${document%.json}.jsonl"
 done
+# A text is named by what it shows and its dialect.
+for text in "$top"/examples/*.sql; do
+    dialect=${text%.sql}
+    run read "${dialect##*.}" <"$text"
+    check "${text##*/}" writes "${text%.sql}.jsonl"
+done
 if command -v python3 >/dev/null; then
     python3 "$top/examples/report.py" >"$work/report" 2>&1
     check report.py cmp "$work/report" "$top/examples/report.txt"
@@ -60,6 +66,19 @@ if [ -e /dev/full ]; then
     got=$?
     check 'full output' ended 5 WriteFault
 fi
+# Generated requests need no input.
+cat >"$work/line" <<'TXT'
+{"accepted":19,"binds":13,"bytes":1853,"ids":13,"refused":{"NeedsNullable":3,"Unsupported":2},"requests":24}
+TXT
+"$top/sql_tool" generate 24 <&- >"$work/out" 2>"$work/err"
+got=$?
+check 'generated requests' writes "$work/line"
+"$top/sql_tool" generate 24 </dev/null >&- 2>"$work/err"
+got=$?
+check 'generated requests, closed output' ended 5 WriteFault
+printf 'SELECT "\377"."x"' >"$work/bytes"
+run read Pg <"$work/bytes"
+check 'a text that is not UTF-8' is_empty 3 BadDocument
 # One table and one filter, and the same without the last byte.
 cat >"$work/first" <<'TXT'
 {"schema":{"tables":[{"name":"foo","columns":[{"name":"id","type":"Integer"},{"name":"mytype","sql_name":"type","type":"Integer"},{"name":"hey","sql_name":"bleh","type":"Integer"}]}]},"requests":[{"dialect":"Pg","query":{"from":{"table":"foo"},"calls":[["filter",{"eq":[{"col":["foo","mytype"]},{"bind":["Integer",1]}]}]]}}]}
@@ -83,6 +102,19 @@ check 'a large input' is_empty 7 TooLarge
 head -c 16777216 "$work/large" >"$work/full"
 run build <"$work/full"
 check 'the largest input' is_empty 3 BadDocument
+run read Pg <"$work/large"
+check 'a large text' is_empty 7 TooLarge
+# nested COUNT: a text with so many brackets, one in another
+nested() { awk -v count="$1" 'BEGIN { printf "SELECT "; for (i = 0; i < count; i++) printf "NOT ("; printf "$1"; for (i = 0; i < count; i++) printf ")"; print "" }'; }
+nested 1001 >"$work/deep"
+run read Pg <"$work/deep"
+check 'a text that nests 1001 deep' is_empty 6 NoMemory
+nested 1000 >"$work/deep"
+# shellcheck disable=SC3045
+(ulimit -s 4096 && run read Pg <"$work/deep" && exit "$got")
+got=$?
+printf '{"placeholders":1,"sql":"%s"}\n' "$(cat "$work/deep")" >"$work/line"
+check 'a text that nests 1000 deep' writes "$work/line"
 # deep COUNT CALL: a document of two requests: the table's, and one with so many of this call on it
 deep() {
     awk -v count="$1" -v call="$2" 'BEGIN {
@@ -117,7 +149,7 @@ done <<'TXT'
 997 4000 ["union",{"from":{"table":"foo"}}]
 998 16000 ["nullable"]
 TXT
-for words in '' 'Build' 'build x'; do
+for words in '' 'Build' 'build x' 'generate' 'generate 007' 'generate +7' 'generate 100001' 'read' 'read pg'; do
     # shellcheck disable=SC2086
     run $words </dev/null
     check "words '$words'" is_empty 2 Usage

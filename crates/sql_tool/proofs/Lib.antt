@@ -1,3 +1,6 @@
 pub mod Commands
+pub mod Counts
+pub mod Endings
 pub mod Headlines
+pub mod Outcomes
 pub mod Taking

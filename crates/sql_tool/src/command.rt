@@ -1,11 +1,21 @@
-ghost use Rattle.std.specs.Prelude.{◌≡◌, ◌∷◌, [], map, string_bytes};
-ghost use Rattle.sql_tool.specs.Command.{command_of};
+ghost use Rattle.std.specs.Prelude.{◌≡◌, ◌<◌, ◌↔◌, ◌⊎◌, ◌∷◌, [], length, map, slice_index, string_bytes, IsTrue};
+ghost use Rattle.sql_document.specs.Names.{dialect_of};
+ghost use Rattle.sql_tool.specs.Command.{command_of, count_of, reads_source};
+
+use sql_dialect::Dialect;
+
+/// How many requests `generate` makes at most.
+pub const MAX_REQUESTS: u32 = 100000;
 
 /// What the program can be told to do.
 #[derive(Debug, Clone, Copy, PartialEq, Eq)]
 pub enum Command {
     /// `build`: reads a document, and writes a line for each of its requests.
     Build,
+    /// `generate N`: makes N requests of its own, and writes what becomes of them in one line. It reads nothing.
+    Generate(u32),
+    /// `read D`: reads a text in a dialect, and writes it as its tree is written, in one line.
+    Read(Dialect),
 }
 
 impl Command {
@@ -15,6 +25,7 @@ impl Command {
     {
         match words {
             [word] => Command::from_word(word.as_str()),
+            [word, argument] => Command::with_argument(word.as_str(), argument.as_str()),
             _ => None,
         }
     }
@@ -26,5 +37,63 @@ impl Command {
             "build" => Some(Command::Build),
             _ => None,
         }
+    }
+
+    fn with_argument(word: &str, argument: &str) -> Option<Command>
+        ensures { result ≡ command_of (word.now ∷ argument.now ∷ []) }
+    {
+        match word {
+            "generate" => Some(Command::Generate(count(argument)?)),
+            "read" => Some(Command::Read(dialect(argument)?)),
+            _ => None,
+        }
+    }
+
+    /// Whether the command reads its source.
+    pub fn reads_source(self) -> bool
+        ensures { result ≡ reads_source self }
+    {
+        match self {
+            Command::Build | Command::Read(_) => true,
+            Command::Generate(_) => false,
+        }
+    }
+}
+
+/// Whether the word begins with a sign, or with a zero before other bytes, as no number is written.
+fn is_respelled(word: &str) -> bool
+    ensures { IsTrue result ↔ ((slice_index word.now 0 ≡ 43)
+        ⊎ ((slice_index word.now 0 ≡ 48) × (1 < length word.now))) }
+{
+    match word.as_bytes() {
+        [b'+', ..] | [b'0', _, ..] => true,
+        _ => false,
+    }
+}
+
+/// The number that the word writes, where it has no sign and no leading zero and is at most `MAX_REQUESTS`.
+fn count(word: &str) -> Option<u32>
+    ensures { result ≡ count_of word.now }
+{
+    if is_respelled(word) {
+        return None;
+    }
+    match word.parse() {
+        Ok(count) if count <= MAX_REQUESTS => Some(count),
+        _ => None,
+    }
+}
+
+/// The dialect of that name.
+#[tactic(auto, unfolding(sql_document::specs::Names::dialect_of))]
+fn dialect(name: &str) -> Option<Dialect>
+    ensures { result ≡ dialect_of name.now }
+{
+    match name {
+        "Pg" => Some(Dialect::Pg),
+        "Mysql" => Some(Dialect::Mysql),
+        "Sqlite" => Some(Dialect::Sqlite),
+        "Bracket" => Some(Dialect::Bracket),
+        _ => None,
     }
 }

@@ -1,4 +1,5 @@
-//! Reads a document on standard input, and writes a line for each of its requests.
+//! `build` reads a document on standard input and writes a line for each of its requests; `generate N` writes a line that
+//! sums up N requests of its own; `read D` reads a text in the dialect D and writes a line with the text of its tree.
 #![tactic(auto)]
 
 mod command;

@@ -4,18 +4,18 @@ ghost use Rattle.sql_tool.specs.Status.{code_of, status_text};
 /// How a run ends.
 #[derive(Debug, Clone, Copy, PartialEq, Eq)]
 pub enum Status {
-    /// A line was written for each request.
+    /// All was written.
     Done,
     /// The words are no command. Nothing was read.
     Usage,
-    /// The input is no document.
+    /// The input is no document, or on `read` no text.
     BadDocument,
     /// The source failed.
     ReadFault,
     /// The sink failed.
     WriteFault,
     NoMemory,
-    /// The input has more bytes than a document may have.
+    /// The input has more bytes than it may have.
     TooLarge,
 }
 

@@ -7,10 +7,18 @@ use std::test::Fail;
 
 /// One table, and a filter on it.
 const INPUT: &str =
-    "{\"schema\":{\"tables\":[{\"name\":\"foo\",\"columns\":[{\"name\":\"id\",\"type\":\"Integer\"}]}]},\"requests\":[{\"dialect\":\"Pg\",\"query\":{\"from\":{\"table\":\"foo\"},\"calls\":[[\"filter\",{\"eq\":[{\"col\":[\"foo\",\"id\"]},{\"bind\":[\"Integer\",1]}]}]]}},{\"dialect\":\"Pg\",\"query\":{\"from\":{\"table\":\"nobody\"}}}]}";
+    "{\"schema\":{\"tables\":[{\"name\":\"foo\",\"columns\":[{\"name\":\"id\",\"type\":\"Integer\"},{\"name\":\"mytype\",\"sql_name\":\"type\",\"type\":\"Integer\"},{\"name\":\"hey\",\"sql_name\":\"bleh\",\"type\":\"Integer\"}]}]},\"requests\":[{\"dialect\":\"Pg\",\"query\":{\"from\":{\"table\":\"foo\"},\"calls\":[[\"filter\",{\"eq\":[{\"col\":[\"foo\",\"mytype\"]},{\"bind\":[\"Integer\",1]}]}]]}}]}";
 
 const OUTPUT: &str =
-    "{\"binds\":[[\"Integer\",1]],\"columns\":[\"Integer\"],\"id\":1,\"safe\":true,\"sql\":\"SELECT \\\"foo\\\".\\\"id\\\" FROM \\\"foo\\\" WHERE (\\\"foo\\\".\\\"id\\\" = $1)\"}\n{\"refused\":\"UnknownName\"}\n";
+    "{\"binds\":[[\"Integer\",1]],\"columns\":[\"Integer\",\"Integer\",\"Integer\"],\"id\":1,\"safe\":true,\"sql\":\"SELECT \\\"foo\\\".\\\"id\\\", \\\"foo\\\".\\\"type\\\", \\\"foo\\\".\\\"bleh\\\" FROM \\\"foo\\\" WHERE (\\\"foo\\\".\\\"type\\\" = $1)\"}\n";
+
+/// What becomes of three generated requests.
+const GENERATED: &str =
+    "{\"accepted\":3,\"binds\":3,\"bytes\":220,\"ids\":3,\"refused\":{},\"requests\":3}\n";
+
+const READ: &str = "{\"placeholders\":1,\"sql\":\"SELECT (\\\"a\\\".\\\"x\\\" = $7)\"}\n";
+
+const NOT_READ: &str = "{\"refused\":\"NotInGrammar\"}\n";
 
 fn words(alloc: Global, words: &[&str]) -> Result<Vec<String>, AllocError> {
     let mut all = Vec::new(alloc);
@@ -52,11 +60,17 @@ fn one_byte_at_a_time(rt: HostRuntime) -> Result<(), Fail> {
 fn each_read_fails_in_turn(rt: HostRuntime) -> Result<(), Fail> {
     let alloc = rt.alloc();
     let build = words(alloc, &["build"])?;
-    for call in 1..INPUT.len() as u64 + 2 {
+    // A call for each byte, one that finds the end, and one that is never made.
+    for call in 1..INPUT.len() as u64 + 3 {
         let mut from = source(alloc, vec![in alloc; call]?)?;
         let mut to = MemorySink::new(alloc, 1000, NonZeroUsize::MIN, Vec::new(alloc))?;
-        assert_eq!(rt; run(alloc, &build, &mut from, &mut to), Status::ReadFault);
-        assert!(rt; to.bytes().is_empty());
+        let (want, written) = if call < INPUT.len() as u64 + 2 {
+            (Status::ReadFault, "")
+        } else {
+            (Status::Done, OUTPUT)
+        };
+        assert_eq!(rt; run(alloc, &build, &mut from, &mut to), want);
+        assert_eq!(rt; to.bytes(), written.as_bytes());
     }
     Ok(())
 }
@@ -101,6 +115,20 @@ fn words_that_are_no_command(rt: HostRuntime) -> Result<(), Fail> {
     assert_eq!(rt; status_of_words(alloc, &["build", "x"])?, Status::Usage);
     assert_eq!(rt; status_of_words(alloc, &["--help"])?, Status::Usage);
     assert_eq!(rt; status_of_words(alloc, &["build"])?, Status::Done);
+    assert_eq!(rt; status_of_words(alloc, &["generate"])?, Status::Usage);
+    assert_eq!(rt;
+        status_of_words(alloc, &["generate", "007"])?,
+        Status::Usage
+    );
+    assert_eq!(rt; status_of_words(alloc, &["generate", "+7"])?, Status::Usage);
+    assert_eq!(rt;
+        status_of_words(alloc, &["generate", "100001"])?,
+        Status::Usage
+    );
+    assert_eq!(rt; status_of_words(alloc, &["generate", "0"])?, Status::Done);
+    assert_eq!(rt; status_of_words(alloc, &["read"])?, Status::Usage);
+    assert_eq!(rt; status_of_words(alloc, &["read", "pg"])?, Status::Usage);
+    assert_eq!(rt; status_of_words(alloc, &["read", "Pg"])?, Status::Done);
     Ok(())
 }
 
@@ -178,5 +206,49 @@ fn documents(rt: HostRuntime) -> Result<(), Fail> {
     ] {
         assert_eq!(rt; status(alloc, text)?, want, "{text}");
     }
+    Ok(())
+}
+
+/// How a run with these words over this input ends, and what it writes.
+fn answered(
+    alloc: Global,
+    told: &[&str],
+    input: &[u8],
+) -> Result<(Status, MemorySink), AllocError> {
+    let mut from = SureSource::new(Vec::from_slice(alloc, input)?);
+    let mut to = MemorySink::new(alloc, 1000, NonZeroUsize::MAX, Vec::new(alloc))?;
+    let status = run(alloc, &words(alloc, told)?, &mut from, &mut to);
+    Ok((status, to))
+}
+
+#[test]
+fn generated_requests(rt: HostRuntime) -> Result<(), Fail> {
+    let alloc = rt.alloc();
+    // Each read of this source would fail: none is tried.
+    let mut from = source(alloc, vec![in alloc; 1]?)?;
+    let mut to = MemorySink::new(alloc, 1000, NonZeroUsize::MIN, Vec::new(alloc))?;
+    let generate = words(alloc, &["generate", "3"])?;
+    assert_eq!(rt; run(alloc, &generate, &mut from, &mut to), Status::Done);
+    assert_eq!(rt; to.bytes(), GENERATED.as_bytes());
+    Ok(())
+}
+
+#[test]
+fn texts(rt: HostRuntime) -> Result<(), Fail> {
+    let alloc = rt.alloc();
+    for (dialect, text, line) in [
+        ("Pg", "SELECT   ( \"a\".\"x\"=$7 )", READ),
+        ("Pg", "SELECT   ( \"a\".\"x\"=$7 )\n", READ),
+        ("Pg", "SELECT \"a\".\"x\"\n\n", NOT_READ),
+        ("Mysql", "SELECT   ( \"a\".\"x\"=$7 )", NOT_READ),
+        ("Sqlite", "", NOT_READ),
+    ] {
+        let (status, to) = answered(alloc, &["read", dialect], text.as_bytes())?;
+        assert_eq!(rt; status, Status::Done, "{text}");
+        assert_eq!(rt; to.bytes(), line.as_bytes(), "{text}");
+    }
+    let (status, to) = answered(alloc, &["read", "Pg"], b"SELECT \"\xff\".\"x\"")?;
+    assert_eq!(rt; status, Status::BadDocument);
+    assert!(rt; to.bytes().is_empty());
     Ok(())
 }

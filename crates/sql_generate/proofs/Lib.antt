@@ -1,0 +1,5 @@
+pub mod Totals
+pub mod Counting
+pub mod Tallies
+pub mod Named
+pub mod Summaries

@@ -1,0 +1,15 @@
+use Rattle.std.proofs.Common.{List, [], map}
+use Rattle.sql_output.proofs.Ids.{line_key}
+use Rattle.sql_output.proofs.Keys.{Tells}
+use Rattle.sql_output.specs.Output.{Line, AreLines}
+use Rattle.sql_output.specs.inside.Keys.{seen_at}
+use Rattle.sql_generate.specs.Generated.{generated}
+use Rattle.sql_generate.specs.Schema.{declarations}
+use Rattle.sql_generate.specs.inside.Counting.{Tell}
+use Rattle.sql_generate.proofs.requests.generate.Given as goal
+
+-- the counters tell of the lines of the requests so far, and the map has their keys
+abbrev pub invariant-loop-number : goal.invariant-loop-number
+invariant-loop-number l =
+    (ls : List Line) × AreLines declarations [] (generated l.number) ls × Tell l.counts ls
+    × Tells (seen_at l.seen) (map line_key ls)

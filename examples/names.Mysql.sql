@@ -1,0 +1,1 @@
+SELECT`t`.`a``b`,`t`.`c`FROM`t`WHERE(`t`.`c`IN(?,?))

@@ -1,0 +1,1 @@
+SELECT [a]]b].[x] FROM [a]]b] OFFSET 0 ROWS FETCH NEXT @p1 ROWS ONLY
