@@ -1,0 +1,69 @@
+-- Which statements can be restricted, by which predicates, and the database of one tenant: the table has only the rows for which the
+-- predicate is true (PostgreSQL, Row Security Policies: other rows are as if they were not there).
+use Rattle.std.specs.Prelude.{◌≡◌, ◌≢◌, ◌↔◌, ◌⊎◌, true, List, [], ◌∷◌}
+use Rattle.sql_schema.specs.Declarations.{Declarations}
+use Rattle.sql_schema.specs.declared.declaration.TableDecl.{TableDecl}
+use Rattle.sql_dialect.specs.declared.backend.Dialect.{Dialect}
+use Rattle.sql_node.specs.Tree.{Expr, column, value, count_star, count, exists, single, among_rows, an_expr, Statement}
+use Rattle.sql_source.specs.Origins.{a_table}
+use Rattle.sql_rules.specs.Lists.{Each}
+use Rattle.sql_rules.specs.Rules.{Broken, FromLacksOn, IsBool, IsColumn, Present}
+use Rattle.sql_rules.specs.Scope.{Part, a_select, a_combination, nodes, AnyExpr}
+use Rattle.sql_rules.specs.Types.{fits, type_of}
+use Rattle.sql_rules.specs.declared.rule.Rule.{Rule}
+use Rattle.sql_rules.specs.declared.rule.Rule.TheVariants.{TooManyBinds}
+use Rattle.sql_meaning.specs.Answers.{Answers, Holds}
+use Rattle.sql_meaning.specs.Frames.{Database}
+use Rattle.sql_meaning.specs.Rows.{Row, Filtered}
+use Rattle.sql_tenant.specs.Restricted.{restricted}
+
+-- ---- what is restricted, and by what
+
+-- an aggregate or a subselect
+abbrev pub IsBeyond : Expr → Type 0
+IsBeyond count_star = Unit {0}
+IsBeyond (count e) = Unit {0}
+IsBeyond (exists q) = Unit {0}
+IsBeyond (single q) = Unit {0}
+IsBeyond (among_rows n e q) = Unit {0}
+IsBeyond _ = ⊥
+
+-- an aggregate, a subselect or a GROUP BY stands in it
+abbrev pub IsOutOfKind : Part → Type 0
+IsOutOfKind (a_select outer s) = AnyExpr (λ v. IsBeyond) outer s ⊎ Present s.group_by
+IsOutOfKind (a_combination c) = ⊥
+
+-- a join has no condition
+abbrev pub LacksRelation : Part → Type 0
+LacksRelation (a_select outer s) = FromLacksOn s.source
+LacksRelation (a_combination c) = ⊥
+
+-- a column is the table's own, and a value fits its type
+abbrev pub IsOwn : TableDecl → Expr → Type 0
+IsOwn t (column o c) = (o ≡ a_table t) × IsColumn t c
+IsOwn t (value ty x) = fits ty x ≡ true
+IsOwn t e = ¬ IsBeyond e
+
+-- The predicate is a condition on the rows of the table alone.
+pub record IsPredicate (t : TableDecl) (p : Expr) : Type 0 where
+  pub is_bool : IsBool (type_of p)
+  pub own : Each (IsOwn t) (nodes p)
+
+-- ---- the database of one tenant
+
+-- The table keeps the rows for which the predicate is true, all other tables keep all of theirs.
+pub record IsCut (t : TableDecl) (p : Expr) (db cut : Database) : Type 0 where
+  pub kept : Filtered (λ row b. Holds (an_expr p) db ((a_table t, row) ∷ []) b) (db t) (cut t)
+  pub others : (u : TableDecl) → t ≢ u → cut u ≡ db u
+
+-- ---- the laws
+
+-- The restricted statement answers over the whole database what the statement answers over the cut one.
+abbrev pub IsRestrictionExact : Statement → TableDecl → Expr → Type 0
+IsRestrictionExact s t p =
+    (db cut : Database) → IsCut t p db cut → (answer : List Row)
+    → Answers (restricted t p s) db [] answer ↔ Answers s cut [] answer
+
+-- The restricted statement breaks no rule, but that its values may be too many.
+abbrev pub KeepsRules : Declarations → Dialect → Statement → TableDecl → Expr → Type 0
+KeepsRules schema d s t p = (r : Rule) → r ≢ TooManyBinds → ¬ Broken r schema d (restricted t p s)
