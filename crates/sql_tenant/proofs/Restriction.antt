@@ -10,7 +10,7 @@ use Rattle.sql_rules.specs.Scope.{parts}
 use Rattle.sql_meaning.specs.Answers.{FromRows, Holds, KeyGives, ItemsGive, OrderGives, Answers}
 use Rattle.sql_meaning.specs.Frames.{Database, Frame, where_sees}
 use Rattle.sql_tenant.specs.Restricted.{with_all, open_leaves, restricted_from, predicates_from, restricted}
-use Rattle.sql_tenant.specs.Tenant.{IsCut, IsOutOfKind, IsPredicate, IsRestrictionExact}
+use Rattle.sql_tenant.specs.Tenant.{AnswersAsCut, IsCut, IsOutOfKind, IsPredicate}
 use Rattle.sql_meaning.specs.Rows.{Row, Filtered}
 use Rattle.sql_meaning.proofs.Lists.{AllZip-weaken, Each-weaken}
 use Rattle.sql_meaning.proofs.Functional.{Filtered-is, is-Filtered}
@@ -185,7 +185,7 @@ module _ (t : TableDecl) (p : Expr) (fit : IsFit t p) (db cut : Database) (is_cu
       (a.0, a.1, a.2, from-whole l k.0 outer a.0 a.3, from-whole r k.1 outer a.1 a.4, a.5, a.6, a.7)
 
 pub restriction : (schema : Declarations) (d : Dialect) (s : Statement) (t : TableDecl) (p : Expr) → Accepted schema d s
-    → ¬ AnyOf IsOutOfKind (parts [] s) → IsPredicate t p → IsRestrictionExact s t p
+    → ¬ AnyOf IsOutOfKind (parts [] s) → IsPredicate t p → AnswersAsCut (restricted t p s) s t p
 restriction schema d s t p h k predicate db cut is_cut answer =
     let plain = is-plain schema d [] s (accepted-clean schema d s h) k in
     let fit = predicate-fit t p predicate in

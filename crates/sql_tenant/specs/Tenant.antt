@@ -15,7 +15,6 @@ use Rattle.sql_rules.specs.declared.rule.Rule.TheVariants.{TooManyBinds}
 use Rattle.sql_meaning.specs.Answers.{Answers, Holds}
 use Rattle.sql_meaning.specs.Frames.{Database}
 use Rattle.sql_meaning.specs.Rows.{Row, Filtered}
-use Rattle.sql_tenant.specs.Restricted.{restricted}
 
 -- ---- what is restricted, and by what
 
@@ -58,12 +57,11 @@ pub record IsCut (t : TableDecl) (p : Expr) (db cut : Database) : Type 0 where
 
 -- ---- the laws
 
--- The restricted statement answers over the whole database what the statement answers over the cut one.
-abbrev pub IsRestrictionExact : Statement → TableDecl → Expr → Type 0
-IsRestrictionExact s t p =
-    (db cut : Database) → IsCut t p db cut → (answer : List Row)
-    → Answers (restricted t p s) db [] answer ↔ Answers s cut [] answer
+-- The first statement answers over the whole database exactly what the second answers over the cut one.
+abbrev pub AnswersAsCut : Statement → Statement → TableDecl → Expr → Type 0
+AnswersAsCut r s t p =
+    (db cut : Database) → IsCut t p db cut → (answer : List Row) → Answers r db [] answer ↔ Answers s cut [] answer
 
--- The restricted statement breaks no rule, but that its values may be too many.
-abbrev pub KeepsRules : Declarations → Dialect → Statement → TableDecl → Expr → Type 0
-KeepsRules schema d s t p = (r : Rule) → r ≢ TooManyBinds → ¬ Broken r schema d (restricted t p s)
+-- no rule is broken, but that the values may be too many
+abbrev pub BreaksAtMostTooManyBinds : Declarations → Dialect → Statement → Type 0
+BreaksAtMostTooManyBinds schema d s = (r : Rule) → r ≢ TooManyBinds → ¬ Broken r schema d s

@@ -4,7 +4,7 @@
 //! when it runs.
 #![tactic(auto)]
 
-ghost use Rattle.std.specs.Prelude.{◌≡◌, []};
+ghost use Rattle.std.specs.Prelude.{[]};
 ghost use Rattle.sql_schema.specs.Declarations.{Declarations};
 ghost use Rattle.sql_schema.specs.declared.declaration.TableDecl.{TableDecl};
 ghost use Rattle.sql_dialect.specs.declared.backend.Dialect.{Dialect};
@@ -12,19 +12,20 @@ ghost use Rattle.sql_node.specs.Tree.{Expr, Statement};
 ghost use Rattle.sql_rules.specs.Lists.{AnyOf};
 ghost use Rattle.sql_rules.specs.Rules.{Accepted};
 ghost use Rattle.sql_rules.specs.Scope.{parts};
-ghost use Rattle.sql_tenant.specs.Tenant.{IsOutOfKind, IsPredicate, IsRestrictionExact, KeepsRules};
+ghost use Rattle.sql_tenant.specs.Restricted.{restricted};
+ghost use Rattle.sql_tenant.specs.Tenant.{AnswersAsCut, BreaksAtMostTooManyBinds, IsOutOfKind, IsPredicate};
 
 /// A statement that breaks no rule, without aggregates, grouping and subselects, with a predicate beside each leaf of a table, has
 /// exactly the answers that it has itself over the database in which that table keeps only the rows for which the predicate is true.
 pub fn restriction_is_exact()
     ensures { (schema : Declarations) (d : Dialect) (s : Statement) (t : TableDecl) (p : Expr)
         → Accepted schema d s → ¬ AnyOf IsOutOfKind (parts [] s) → IsPredicate t p
-        → IsRestrictionExact s t p }
+        → AnswersAsCut (restricted t p s) s t p }
 {}
 
 /// Nor does the statement with the predicates break a rule, but perhaps TooManyBinds: each predicate brings its values.
 pub fn restriction_keeps_the_rules()
     ensures { (schema : Declarations) (d : Dialect) (s : Statement) (t : TableDecl) (p : Expr)
         → Accepted schema d s → ¬ AnyOf IsOutOfKind (parts [] s) → IsPredicate t p
-        → KeepsRules schema d s t p }
+        → BreaksAtMostTooManyBinds schema d (restricted t p s) }
 {}
