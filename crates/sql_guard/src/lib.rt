@@ -11,4 +11,4 @@ mod restriction;
 
 pub use error::RestrictError;
 pub use restriction::restrict;
-pub use sql_tenant::{restriction_is_exact, restriction_keeps_the_rules};
+pub use sql_tenant::{on_is_needed, restriction_is_exact, restriction_keeps_the_rules};

@@ -6,3 +6,4 @@ pub mod RestrictedSources
 pub mod Plain
 pub mod Restriction
 pub mod RestrictedRules
+pub mod Worked

@@ -1,2 +1,3 @@
 pub mod Restricted
 pub mod Tenant
+pub mod Worked

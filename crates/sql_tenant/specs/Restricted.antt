@@ -1,4 +1,4 @@
--- A statement restricted to the rows of one table for which a predicate is true: the predicate stands beside each leaf of that table
+-- A statement restricted to the rows of a table for which a predicate is true: the predicate stands beside each leaf of that table
 -- (PostgreSQL, Row Security Policies: a policy's expression is one more condition on the rows of its table).
 use Rattle.std.specs.Prelude.{ℕ, List, [], ◌∷◌, ◌++◌, map, Option, None, Some, if◌then◌else◌}
 use Rattle.sql_schema.specs.declared.declaration.TableDecl.{TableDecl}
@@ -36,7 +36,7 @@ with_all [] c = c
 with_all (p ∷ ps) no_expr = with_all ps (an_expr p)
 with_all (p ∷ ps) (an_expr c) = with_all ps (an_expr (joined And c p))
 
--- The predicate of a leaf in the right side of a left outer join stands in the ON of the innermost of them: in WHERE it would drop the
+-- The predicate of a leaf in the right side of a left outer join stands in the ON of the innermost of them: in WHERE it would drop
 -- left rows that are paired with NULLs.
 abbrev pub restricted_on : TableDecl → Expr → JoinKind → Source → MaybeExpr → MaybeExpr
 restricted_on t p Inner r on = on

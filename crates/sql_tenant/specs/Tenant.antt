@@ -1,5 +1,5 @@
--- Which statements can be restricted, by which predicates, and the database of one tenant: the table has only the rows for which the
--- predicate is true (PostgreSQL, Row Security Policies: other rows are as if they were not there).
+-- Which statements can be restricted, by which predicates, and the database of one tenant, whose table has only the rows for which
+-- the predicate is true (PostgreSQL, Row Security Policies: other rows are as if they were not there).
 use Rattle.std.specs.Prelude.{◌≡◌, ◌≢◌, ◌↔◌, ◌⊎◌, true, List, [], ◌∷◌}
 use Rattle.sql_schema.specs.Declarations.{Declarations}
 use Rattle.sql_schema.specs.declared.declaration.TableDecl.{TableDecl}

@@ -14,9 +14,10 @@ ghost use Rattle.sql_rules.specs.Rules.{Accepted};
 ghost use Rattle.sql_rules.specs.Scope.{parts};
 ghost use Rattle.sql_tenant.specs.Restricted.{restricted};
 ghost use Rattle.sql_tenant.specs.Tenant.{AnswersAsCut, BreaksAtMostTooManyBinds, IsOutOfKind, IsPredicate};
+ghost use Rattle.sql_tenant.specs.Worked.{IsOnNeeded};
 
-/// A statement that breaks no rule, without aggregates, grouping and subselects, with a predicate beside each leaf of a table, has
-/// exactly the answers that it has itself over the database in which that table keeps only the rows for which the predicate is true.
+/// A statement that breaks no rule, without aggregates, grouping and subselects, with a predicate beside each leaf of a table answers
+/// exactly what the statement itself answers over the database in which that table has only the rows for which the predicate is true.
 pub fn restriction_is_exact()
     ensures { (schema : Declarations) (d : Dialect) (s : Statement) (t : TableDecl) (p : Expr)
         → Accepted schema d s → ¬ AnyOf IsOutOfKind (parts [] s) → IsPredicate t p
@@ -28,4 +29,10 @@ pub fn restriction_keeps_the_rules()
     ensures { (schema : Declarations) (d : Dialect) (s : Statement) (t : TableDecl) (p : Expr)
         → Accepted schema d s → ¬ AnyOf IsOutOfKind (parts [] s) → IsPredicate t p
         → BreaksAtMostTooManyBinds schema d (restricted t p s) }
+{}
+
+/// Where the predicate goes matters. Of `users` left join `posts` it goes into ON, and the answers are exact; in WHERE it would drop
+/// the users who have no post of that tenant.
+pub fn on_is_needed()
+    ensures { IsOnNeeded }
 {}
