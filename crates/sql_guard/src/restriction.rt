@@ -60,5 +60,6 @@ pub fn restrict(
         table,
         predicate,
     };
-    Ok(guard.statement(statement)?)
+    let restricted = guard.statement(statement)?;
+    Ok(restricted)
 }
