@@ -1,7 +1,9 @@
 //! Statements over users and posts, restricted to one user's posts.
 
 use sql_call_tests::fixture::{ids, one};
-use sql_expr::{Alias, Expr, ExpressionMethods, JoinRhs, SelectStatement, Source, Statement, TableSource};
+use sql_expr::{
+    Alias, Expr, ExpressionMethods, JoinRhs, SelectStatement, Source, Statement, TableSource,
+};
 use sql_fixture::{beside, column, gives, is, table, text};
 use sql_guard::{RestrictError, restrict};
 use sql_schema::{Schema, Table};
@@ -72,11 +74,7 @@ pub(crate) fn restricts(
 ) -> Result<(), Fail> {
     let (statement, owned) = beside(statement?, owned(alloc))?;
     let (statement, posts) = beside(statement, table(alloc, "posts"))?;
-    gives(
-        alloc,
-        restricted_by(alloc, statement, owned, posts),
-        wanted,
-    )
+    gives(alloc, restricted_by(alloc, statement, owned, posts), wanted)
 }
 
 /// Fails where another refusal is answered, or none.

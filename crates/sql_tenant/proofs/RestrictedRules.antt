@@ -25,7 +25,7 @@ use Rattle.sql_rules.specs.inside.Misfits.{misfit}
 use Rattle.sql_rules.proofs.Loops.{any_split, any-decides}
 use Rattle.sql_rules.proofs.TypeLaws.{ill_typed-decides}
 use Rattle.sql_tenant.specs.Restricted.{predicates, predicates_from, with_all, open_leaves, restricted_source, restricted_from, restricted}
-use Rattle.sql_tenant.specs.Tenant.{IsBeyond, IsOutOfKind, IsOwn, IsPredicate}
+use Rattle.sql_tenant.specs.Tenant.{BreaksAtMostTooManyBinds, IsBeyond, IsOutOfKind, IsOwn, IsPredicate}
 use Rattle.sql_meaning.proofs.Lists.{Each-append, Each-front, Each-end, Each-map, Each-weaken}
 use Rattle.sql_meaning.proofs.Kept.{Clean, Clean-left, Clean-right, accepted-clean, known_tables}
 use Rattle.sql_meaning.proofs.Soundness.{the_select}
@@ -847,7 +847,6 @@ unbroken schema d s h R.InvalidDistinctOrder n = h R.InvalidDistinctOrder
 unbroken schema d s h R.Unsupported n = h R.Unsupported
 
 pub kept : (schema : Declarations) (d : Dialect) (s : Statement) (t : TableDecl) (p : Expr) → Accepted schema d s
-    → ¬ AnyOf IsOutOfKind (parts [] s) → IsPredicate t p → (r : Rule) → ¬ (r ≡ R.TooManyBinds)
-    → ¬ Broken r schema d (restricted t p s)
+    → ¬ AnyOf IsOutOfKind (parts [] s) → IsPredicate t p → BreaksAtMostTooManyBinds schema d (restricted t p s)
 kept schema d s t p h k predicate =
     unbroken schema d (restricted t p s) (clean-restricted schema d t p predicate [] s (accepted-clean schema d s h) k)

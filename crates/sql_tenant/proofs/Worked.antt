@@ -1,5 +1,5 @@
 -- The example: in ON the predicate is exact, in WHERE it drops rows.
-use Rattle.std.proofs.Common.{◌≡◌, ◌≢◌, ℕ, pos, Bool, true, false, List, [], ◌∷◌, ◌++◌, map, refl, sym, ap, subst, ◌∙◌, inl, inr, ◌⊎◌, arith, IsPermutation, swap, codes, None, length, ◌<◌, if◌then◌else◌}
+use Rattle.std.proofs.Common.{◌≡◌, ℕ, pos, Bool, true, false, List, [], ◌∷◌, ◌++◌, map, refl, sym, ap, subst, ◌∙◌, inl, inr, ◌⊎◌, arith, IsPermutation, swap, codes, None, length, ◌<◌, if◌then◌else◌}
 use Rattle.std.specs.List.{AllZip}
 use Rattle.std.proofs.lemmas.Bool.{true≢false, false_from_ne_true}
 use Rattle.std.proofs.lemmas.List.Sorted.{IsPermutation-refl, IsPermutation-keeps}
@@ -151,7 +151,8 @@ where_drops answer g = g.9 ∙ ap (map (λ l. l.shown)) lines_are
     fail =
         Joined-each IsUser (λ y. y ≡ post) Fails LeftOuter no_post g.4.1 pair_fails padded_fails
         (IsPart-each (λ y. y ≡ post) false (post ∷ []) g.4.1 g.4.3 (refl, tt)) g.4.4
-        (IsPart-each IsUser false (user 1 (codes "a") ∷ (user 2 (codes "b") ∷ [])) g.4.0 g.4.2 (inl refl, (inr refl, tt)))
+        (IsPart-each IsUser false (user 1 (codes "a") ∷ (user 2 (codes "b") ∷ [])) g.4.0 g.4.2
+        (inl refl, (inr refl, tt)))
 
     taken_is : g.2 ≡ []
     taken_is = no-order g.1 g.2 (none_passes g.5 fail) (whole-permutation g.1 g.2 g.6)

@@ -1,5 +1,5 @@
--- An example: the left join of `sql_meaning`'s example, for the tenant who owns the posts of user 2. There are none: the one post is
--- of user 1.
+-- An example: the left join of `sql_meaning`'s example, for the tenant who owns the posts of user 2. There is none: the one post
+-- is user 1's.
 use Rattle.std.specs.Prelude.{◌≡◌, pos, false, [], None}
 use Rattle.sql_schema.specs.declared.types.Base.TheVariants as base
 use Rattle.sql_pass.specs.declared.value.Value.TheVariants as V

@@ -16,8 +16,8 @@ ghost use Rattle.sql_tenant.specs.Restricted.{restricted};
 ghost use Rattle.sql_tenant.specs.Tenant.{AnswersAsCut, BreaksAtMostTooManyBinds, IsOutOfKind, IsPredicate};
 ghost use Rattle.sql_tenant.specs.Worked.{IsOnNeeded};
 
-/// A statement that breaks no rule, without aggregates, grouping and subselects, with a predicate beside each leaf of a table answers
-/// exactly what the statement itself answers over the database in which that table has only the rows for which the predicate is true.
+/// Let a statement break no rule, and have no aggregate, no grouping and no subselect. With a predicate beside each leaf of a table it
+/// answers exactly what it answers itself over the database in which that table has only the rows for which the predicate is true.
 pub fn restriction_is_exact()
     ensures { (schema : Declarations) (d : Dialect) (s : Statement) (t : TableDecl) (p : Expr)
         → Accepted schema d s → ¬ AnyOf IsOutOfKind (parts [] s) → IsPredicate t p
