@@ -13,6 +13,7 @@ use Rattle.sql_rules.specs.Lists.{AnyOf, Each}
 use Rattle.sql_rules.specs.Scope.{nodes, nodes_of}
 use Rattle.sql_rules.specs.Types.{given, given_each, element_types, only_type, is_bool, type_of, all_nullable, not_type, if_typed, bool_type, compared_type, joined_type, among_type, one, many}
 use Rattle.sql_rules.proofs.Lists.{any_left, any_right}
+use Rattle.sql_rules.proofs.Nulled.{nulled_elements}
 use Rattle.sql_meaning.specs.Answers.{Gives, AllGive, Holds, first_value}
 use Rattle.sql_meaning.specs.Frames.{Database, Frame, row_of, value_in, value_of}
 use Rattle.sql_tenant.specs.Restricted.{predicate_under, predicate_of}

@@ -1,22 +1,20 @@
 -- The example: in ON the predicate is exact, in WHERE it drops rows.
-use Rattle.std.proofs.Common.{◌≡◌, ℕ, pos, Bool, true, false, List, [], ◌∷◌, ◌++◌, map, refl, sym, ap, subst, ◌∙◌, inl, inr, ◌⊎◌, arith, IsPermutation, swap, codes, None, length, ◌<◌, if◌then◌else◌}
+use Rattle.std.proofs.Common.{◌≡◌, ℕ, pos, Bool, true, false, List, [], ◌∷◌, ◌++◌, map, refl, sym, ap, subst, ◌∙◌, inl, inr, ◌⊎◌, arith, IsPermutation, swap, codes, length, ◌<◌, if◌then◌else◌}
 use Rattle.std.specs.List.{AllZip}
 use Rattle.std.proofs.lemmas.Bool.{true≢false, false_from_ne_true}
 use Rattle.std.proofs.lemmas.List.Sorted.{IsPermutation-refl, IsPermutation-keeps}
-use Rattle.sql_schema.specs.declared.declaration.TableDecl.{TableDecl}
 use Rattle.sql_dialect.specs.declared.backend.Dialect.TheVariants.{Pg}
 use Rattle.sql_pass.specs.declared.value.Value.{Value}
 use Rattle.sql_pass.specs.declared.value.Value.TheVariants as V
-use Rattle.sql_leaf.specs.declared.table_source.JoinKind.{JoinKind}
 use Rattle.sql_leaf.specs.declared.table_source.JoinKind.TheVariants.{LeftOuter}
-use Rattle.sql_node.specs.Tree.{an_expr, every, no_order}
+use Rattle.sql_node.specs.Tree.{an_expr}
 use Rattle.sql_node.specs.Words.{Eq}
 use Rattle.sql_source.specs.Origins.{a_table, same_table}
 use Rattle.sql_source.proofs.OriginLaws.{exact-table}
 use Rattle.sql_rules.specs.Lists.{AnyOf, Each}
 use Rattle.sql_rules.specs.Scope.{parts}
-use Rattle.sql_meaning.specs.Answers.{Gives, Holds, Answers, Line, KeyGives, OrderGives, no_rows, a_row}
-use Rattle.sql_meaning.specs.Example.{users, posts, user_rows, post_rows, blog, database, relation, selection, statement, user_id, of_posts}
+use Rattle.sql_meaning.specs.Answers.{Gives, Holds, Answers, Line, no_rows, a_row}
+use Rattle.sql_meaning.specs.Example.{users, posts, user_rows, post_rows, blog, database, relation, selection, statement}
 use Rattle.sql_meaning.specs.Frames.{Database, Frame}
 use Rattle.sql_meaning.specs.Rows.{Row, Filtered, none, kept, dropped}
 use Rattle.sql_meaning.specs.Values.{compared_value, is_true}
@@ -94,9 +92,6 @@ Fails f = (t : Bool) → Holds (an_expr owned) database (f ++ []) t → t ≡ fa
 abbrev IsUser : Frame → Type 0
 IsUser f = (f ≡ user 1 (codes "a")) ⊎ (f ≡ user 2 (codes "b"))
 
-one_head : (a b : Value) → a ∷ [] ≡ b ∷ [] → a ≡ b
-one_head a b e = cc
-
 truth_of : (x y v a b : Value) (t : Bool) → x ∷ [] ≡ a ∷ [] → y ∷ [] ≡ b ∷ [] → v ∷ [] ≡ compared_value Eq x y ∷ []
     → t ≡ is_true v → t ≡ is_true (compared_value Eq a b)
 truth_of x y v a b t x_is y_is v_is t_is = cc
@@ -138,10 +133,10 @@ no-order xs ys e p = IsPermutation-keeps xs (λ l. l ≡ []) e step ys p
         empty : (i : ℕ) → i < 0 → ⊥
         empty i h = omega arith
 
-no-lines : {R : Frame → Line → Type 0} (xs : List Frame) (ys : List Line) → xs ≡ [] → AllZip R xs ys → ys ≡ []
-no-lines [] [] e z = refl
-no-lines [] (y ∷ ys) e z = absurd z
-no-lines (x ∷ xs) ys e z = absurd cc
+no-lines : (R : Frame → Line → Type 0) (xs : List Frame) (ys : List Line) → xs ≡ [] → AllZip R xs ys → ys ≡ []
+no-lines R [] [] e z = refl
+no-lines R [] (y ∷ ys) e z = absurd z
+no-lines R (x ∷ xs) ys e z = absurd cc
 
 -- in WHERE the predicate leaves no row
 where_drops : (answer : List Row) → Answers (joined_on relation (an_expr owned)) database [] answer → answer ≡ []
@@ -158,7 +153,7 @@ where_drops answer g = g.9 ∙ ap (map (λ l. l.shown)) lines_are
     taken_is = no-order g.1 g.2 (none_passes g.5 fail) (whole-permutation g.1 g.2 g.6)
 
     lines_are : g.3 ≡ []
-    lines_are = no-lines g.2 g.3 taken_is g.7
+    lines_are = no-lines _ g.2 g.3 taken_is g.7
 
 not_empty : (a : Row) (rows : List Row) → a ∷ rows ≡ [] → ⊥
 not_empty a rows e = absurd cc
