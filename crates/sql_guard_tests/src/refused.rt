@@ -1,12 +1,11 @@
 //! Each refusal, and its name.
 
 use crate::fixture::{all_posts, owned, posts, refuses};
-use sql_call_tests::fixture::{id, ids, one};
+use sql_call_tests::fixture::{id, one};
 use sql_expr::{Expr, ExpressionMethods, Statement, count_star};
-use sql_fixture::{beside, column, is};
+use sql_fixture::{beside, column, is, schema};
 use sql_guard::RestrictError;
 use sql_select::{Query, QueryDsl};
-use sql_source::InternalJoinDsl;
 use std::alloc::Global;
 use std::test::Fail;
 
@@ -54,6 +53,21 @@ fn kinds(rt: HostRuntime) -> Result<(), Fail> {
     let beyond = RestrictError::OutOfKind;
     refuses(alloc, counted(alloc), owned(alloc), beyond)?;
     refuses(alloc, grouped(alloc), owned(alloc), beyond)
+}
+
+/// Posts inner join posts: no relation is declared between them, so the join has no ON.
+fn unrelated(alloc: Global) -> Result<Statement, Fail> {
+    let schema = schema(alloc)?;
+    let (all, posts) = beside(all_posts(alloc)?, posts(alloc))?;
+    let joined = all.inner_join(alloc, &schema, posts)?;
+    Ok(joined.into_statement())
+}
+
+#[test]
+fn relations(rt: HostRuntime) -> Result<(), Fail> {
+    let alloc = rt.alloc();
+    let unrelated = unrelated(alloc);
+    refuses(alloc, unrelated, owned(alloc), RestrictError::NoRelation)
 }
 
 #[test]
