@@ -1,4 +1,4 @@
-use Rattle.std.proofs.Common.{◌≡◌, sym, ap, subst, map, not, ◌&&◌, ◌∙◌}
+use Rattle.std.proofs.Common.{sym, ap, subst, map, not, ◌&&◌, ◌∙◌}
 use Rattle.std.specs.Bool.{Decides}
 use Rattle.std.proofs.lemmas.Bool.{false≢true}
 use Rattle.std.proofs.lemmas.Bool.Decides.{Decides-at}
