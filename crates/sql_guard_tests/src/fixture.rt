@@ -77,14 +77,13 @@ pub(crate) fn restricts(
     gives(alloc, restricted_by(alloc, statement, owned, posts), wanted)
 }
 
-/// Fails where another refusal is answered, or none.
+/// Fails where another refusal of the statement and the predicate is answered, or none.
 pub(crate) fn refuses(
     alloc: Global,
-    statement: Result<Statement, Fail>,
-    predicate: Result<Expr, Fail>,
+    asked: Result<(Statement, Expr), Fail>,
     wanted: RestrictError,
 ) -> Result<(), Fail> {
-    let (statement, predicate) = beside(statement?, predicate)?;
+    let (statement, predicate) = asked?;
     let (statement, posts) = beside(statement, table(alloc, "posts"))?;
     match restricted_by(alloc, statement, predicate, posts) {
         Ok(statement) => {

@@ -28,9 +28,9 @@ fn no_condition(alloc: Global) -> Result<Expr, Fail> {
 fn predicates(rt: HostRuntime) -> Result<(), Fail> {
     let alloc = rt.alloc();
     let bad = RestrictError::BadPredicate;
-    refuses(alloc, posts_of(alloc), of_a_user(alloc), bad)?;
-    refuses(alloc, posts_of(alloc), no_condition(alloc), bad)?;
-    refuses(alloc, counted(alloc), no_condition(alloc), bad)
+    refuses(alloc, beside(posts_of(alloc)?, of_a_user(alloc)), bad)?;
+    refuses(alloc, beside(posts_of(alloc)?, no_condition(alloc)), bad)?;
+    refuses(alloc, beside(counted(alloc)?, no_condition(alloc)), bad)
 }
 
 /// `SELECT COUNT(*) FROM "posts"`.
@@ -51,8 +51,8 @@ fn grouped(alloc: Global) -> Result<Statement, Fail> {
 fn kinds(rt: HostRuntime) -> Result<(), Fail> {
     let alloc = rt.alloc();
     let beyond = RestrictError::OutOfKind;
-    refuses(alloc, counted(alloc), owned(alloc), beyond)?;
-    refuses(alloc, grouped(alloc), owned(alloc), beyond)
+    refuses(alloc, beside(counted(alloc)?, owned(alloc)), beyond)?;
+    refuses(alloc, beside(grouped(alloc)?, owned(alloc)), beyond)
 }
 
 /// Posts inner join posts: no relation is declared between them, so the join has no ON.
@@ -66,8 +66,8 @@ fn unrelated(alloc: Global) -> Result<Statement, Fail> {
 #[test]
 fn relations(rt: HostRuntime) -> Result<(), Fail> {
     let alloc = rt.alloc();
-    let unrelated = unrelated(alloc);
-    refuses(alloc, unrelated, owned(alloc), RestrictError::NoRelation)
+    let asked = beside(unrelated(alloc)?, owned(alloc));
+    refuses(alloc, asked, RestrictError::NoRelation)
 }
 
 #[test]
