@@ -96,3 +96,8 @@ pub use Rattle.sql_meaning.specs.Fitting as AnswerFitting
 pub use Rattle.sql_meaning.specs.Frames
 pub use Rattle.sql_meaning.specs.Rows
 pub use Rattle.sql_meaning.specs.Values
+-- Statements restricted to one tenant.
+pub use Rattle.sql_tenant.specs.Restricted
+pub use Rattle.sql_tenant.specs.Tenant
+pub use Rattle.sql_guard.specs.Refused
+pub use Rattle.sql_guard.specs.declared.error.RestrictError

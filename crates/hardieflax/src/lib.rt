@@ -80,6 +80,11 @@ pub use sql_rows::{
     needs_nullable_is_needed, one_answer, operators_work, the_example_is_accepted, types_are_sound,
 };
 
+// The tenant guard.
+pub use sql_guard::{
+    RestrictError, on_is_needed, restrict, restriction_is_exact, restriction_keeps_the_rules,
+};
+
 // The laws: what holds of a statement that breaks no rule, of statements of one shape, and of the grammar.
 pub use sql_grammar::{joined_texts, one_reading, quoted_name, token_rules, written};
 pub use sql_law::{

@@ -1,0 +1,9 @@
+//! Tests of the tenant guard: worked texts, each refusal, and messages.
+#![tactic(auto)]
+
+#[cfg(test)]
+mod fixture;
+#[cfg(test)]
+mod refused;
+#[cfg(test)]
+mod written;

@@ -1,0 +1,3 @@
+pub mod Restricted
+pub mod Tenant
+pub mod Worked
