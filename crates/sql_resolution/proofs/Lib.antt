@@ -1,1 +1,6 @@
+pub mod Backwards
 pub mod Counted
+pub mod Joined
+pub mod Lists
+pub mod Selects
+pub mod Sought

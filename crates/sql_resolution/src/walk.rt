@@ -26,26 +26,50 @@ fn walk_expression(
         ≡ after.after_expression schema.now.tables levels.now known.old (expression_tree e.now)) }
 {
     match e {
-        Expression::Path(names) => known.push_path(alloc, schema, levels, names),
+        Expression::Path(names) => {
+            known.push_path(alloc, schema, levels, names)?;
+            Ok(())
+        }
         Expression::Placeholder(_) => Ok(()),
-        Expression::SingleValue(q) => walk_query(alloc, schema, known, levels, q),
-        Expression::Exists(q) => walk_query(alloc, schema, known, levels, q),
+        Expression::SingleValue(q) => {
+            walk_query(alloc, schema, known, levels, q)?;
+            Ok(())
+        }
+        Expression::Exists(q) => {
+            walk_query(alloc, schema, known, levels, q)?;
+            Ok(())
+        }
         Expression::Compared(_, a, b) => {
             walk_expression(alloc, schema, known, levels, a)?;
-            walk_expression(alloc, schema, known, levels, b)
+            walk_expression(alloc, schema, known, levels, b)?;
+            Ok(())
         }
         Expression::Connected(_, a, b) => {
             walk_expression(alloc, schema, known, levels, a)?;
-            walk_expression(alloc, schema, known, levels, b)
+            walk_expression(alloc, schema, known, levels, b)?;
+            Ok(())
         }
-        Expression::Not(a) => walk_expression(alloc, schema, known, levels, a),
-        Expression::NullTest(_, a) => walk_expression(alloc, schema, known, levels, a),
+        Expression::Not(a) => {
+            walk_expression(alloc, schema, known, levels, a)?;
+            Ok(())
+        }
+        Expression::NullTest(_, a) => {
+            walk_expression(alloc, schema, known, levels, a)?;
+            Ok(())
+        }
         Expression::CountAll => Ok(()),
-        Expression::Count(a) => walk_expression(alloc, schema, known, levels, a),
-        Expression::InList(_, a, _, _) => walk_expression(alloc, schema, known, levels, a),
+        Expression::Count(a) => {
+            walk_expression(alloc, schema, known, levels, a)?;
+            Ok(())
+        }
+        Expression::InList(_, a, _, _) => {
+            walk_expression(alloc, schema, known, levels, a)?;
+            Ok(())
+        }
         Expression::InQuery(_, a, q) => {
             walk_expression(alloc, schema, known, levels, a)?;
-            walk_query(alloc, schema, known, levels, q)
+            walk_query(alloc, schema, known, levels, q)?;
+            Ok(())
         }
         Expression::Constant(_) => Ok(()),
     }
@@ -82,9 +106,18 @@ fn walk_item(
         ≡ after.after_expression schema.now.tables levels.now known.old (item_tree item.now).0) }
 {
     match item {
-        Item::Plain(e) => walk_expression(alloc, schema, known, levels, e),
-        Item::Ascending(e) => walk_expression(alloc, schema, known, levels, e),
-        Item::Descending(e) => walk_expression(alloc, schema, known, levels, e),
+        Item::Plain(e) => {
+            walk_expression(alloc, schema, known, levels, e)?;
+            Ok(())
+        }
+        Item::Ascending(e) => {
+            walk_expression(alloc, schema, known, levels, e)?;
+            Ok(())
+        }
+        Item::Descending(e) => {
+            walk_expression(alloc, schema, known, levels, e)?;
+            Ok(())
+        }
     }
 }
 
@@ -118,13 +151,20 @@ fn walk_source(
         (known.new ≡ after.after_source schema.now.tables known.old (source_tree s.now)) }
 {
     match s {
-        Source::Table(names, _, _) => known.push_table(alloc, schema, names),
-        Source::Alias(names, _) => known.push_table(alloc, schema, names),
+        Source::Table(names, _, _) => {
+            known.push_table(alloc, schema, names)?;
+            Ok(())
+        }
+        Source::Alias(names, _) => {
+            known.push_table(alloc, schema, names)?;
+            Ok(())
+        }
         Source::Join(_, a, b, on) => {
             let level = join_level(alloc, known.count(), s)?;
             walk_source(alloc, schema, known, a)?;
             walk_source(alloc, schema, known, b)?;
-            walk_expression(alloc, schema, known, from_ref(&level), on)
+            walk_expression(alloc, schema, known, from_ref(&level), on)?;
+            Ok(())
         }
     }
 }
@@ -143,7 +183,10 @@ fn walk_maybe(
 {
     match e {
         None => Ok(()),
-        Some(e) => walk_expression(alloc, schema, known, levels, e),
+        Some(e) => {
+            walk_expression(alloc, schema, known, levels, e)?;
+            Ok(())
+        }
     }
 }
 
@@ -159,7 +202,10 @@ fn walk_from(
 {
     match s {
         None => Ok(()),
-        Some(s) => walk_source(alloc, schema, known, s),
+        Some(s) => {
+            walk_source(alloc, schema, known, s)?;
+            Ok(())
+        }
     }
 }
 
@@ -180,7 +226,8 @@ fn walk_distinct(
         Distinctness::Distinct => Ok(()),
         Distinctness::DistinctOn(e, es) => {
             walk_expression(alloc, schema, known, levels, e)?;
-            walk_list(alloc, schema, known, levels, es)
+            walk_list(alloc, schema, known, levels, es)?;
+            Ok(())
         }
     }
 }
@@ -201,7 +248,8 @@ fn walk_selected(
     match q {
         Query::Select(_, e, es, ..) => {
             walk_expression(alloc, schema, known, levels, e)?;
-            walk_list(alloc, schema, known, levels, es)
+            walk_list(alloc, schema, known, levels, es)?;
+            Ok(())
         }
         Query::Combined(..) => Ok(()),
     }
@@ -220,7 +268,10 @@ fn walk_group(
         ≡ after.after_grouped schema.now.tables levels.now known.old (query_tree q.now)) }
 {
     match q {
-        Query::Select(_, _, _, _, _, g, ..) => walk_list(alloc, schema, known, levels, g),
+        Query::Select(_, _, _, _, _, g, ..) => {
+            walk_list(alloc, schema, known, levels, g)?;
+            Ok(())
+        }
         Query::Combined(..) => Ok(()),
     }
 }
@@ -267,11 +318,13 @@ pub(crate) fn walk_query(
             walk_maybe(alloc, schema, known, wide.as_slice(), w)?;
             walk_group(alloc, schema, known, here, q)?;
             walk_maybe(alloc, schema, known, here, h)?;
-            walk_order(alloc, schema, known, here, q)
+            walk_order(alloc, schema, known, here, q)?;
+            Ok(())
         }
         Query::Combined(a, _, _, b, _, _) => {
             walk_query(alloc, schema, known, around, a)?;
-            walk_query(alloc, schema, known, around, b)
+            walk_query(alloc, schema, known, around, b)?;
+            Ok(())
         }
     }
 }
