@@ -35,16 +35,16 @@ pub three : (ts : List TableDecl) (k : Known) (xs ys zs : List Backwards) (f g h
 three ts k xs ys zs f g h =
     joined ts (after ts k xs f) ys zs g h ∙ joined ts k xs (ys ++ zs) f (λ n. g n ++ h (n + length ys))
 
-pub seven : (ts : List TableDecl) (k : Known) (as bs cs ds es fs gs : List Backwards) (a b c d e f g : ℕ → List Use)
-    → after ts (after ts (after ts (after ts (after ts (after ts (after ts k as a) bs b) cs c) ds d) es e) fs f) gs g
-    ≡ after ts k (as ++ (bs ++ (cs ++ (ds ++ (es ++ (fs ++ gs))))))
-    (λ n. a n ++ (b (n + length as) ++ (c (n + length as + length bs)
-    ++ (d (n + length as + length bs + length cs)
-    ++ (e (n + length as + length bs + length cs + length ds)
-    ++ (f (n + length as + length bs + length cs + length ds + length es)
-    ++ g (n + length as + length bs + length cs + length ds + length es + length fs)))))))
-seven ts k as bs cs ds es fs gs a b c d e f g =
-    let k1 = after ts k as a in
+pub seven : (ts : List TableDecl) (k : Known) (ps bs cs ds es fs gs : List Backwards) (a b c d e f g : ℕ → List Use)
+    → after ts (after ts (after ts (after ts (after ts (after ts (after ts k ps a) bs b) cs c) ds d) es e) fs f) gs g
+    ≡ after ts k (ps ++ (bs ++ (cs ++ (ds ++ (es ++ (fs ++ gs))))))
+    (λ n. a n ++ (b (n + length ps) ++ (c (n + length ps + length bs)
+    ++ (d (n + length ps + length bs + length cs)
+    ++ (e (n + length ps + length bs + length cs + length ds)
+    ++ (f (n + length ps + length bs + length cs + length ds + length es)
+    ++ g (n + length ps + length bs + length cs + length ds + length es + length fs)))))))
+seven ts k ps bs cs ds es fs gs a b c d e f g =
+    let k1 = after ts k ps a in
     let k2 = after ts k1 bs b in
     let k3 = after ts k2 cs c in
     let k4 = after ts k3 ds d in
@@ -55,7 +55,7 @@ seven ts k as bs cs ds es fs gs a b c d e f g =
     ∙ joined ts k1 bs (cs ++ (ds ++ (es ++ (fs ++ gs)))) b
     (λ n. c n ++ (d (n + length cs) ++ (e (n + length cs + length ds) ++ (f (n + length cs + length ds + length es)
     ++ g (n + length cs + length ds + length es + length fs)))))
-    ∙ joined ts k as (bs ++ (cs ++ (ds ++ (es ++ (fs ++ gs))))) a
+    ∙ joined ts k ps (bs ++ (cs ++ (ds ++ (es ++ (fs ++ gs))))) a
     (λ n. b n ++ (c (n + length bs) ++ (d (n + length bs + length cs) ++ (e (n + length bs + length cs + length ds)
     ++ (f (n + length bs + length cs + length ds + length es)
     ++ g (n + length bs + length cs + length ds + length es + length fs))))))

@@ -208,8 +208,7 @@ pub(crate) fn source_end(n: usize, s: &Source) -> Result<usize, NoMemory>
 
 fn start_of(n: usize, d: &Distinctness, q: &Query) -> usize
     ensures { result
-        ≡ capped
-        (n + (length (l.tables_distinct (distinctness_tree d.now)) + lists.selected (query_tree q.now))) }
+        ≡ capped (n + lists.before_from (distinctness_tree d.now) (query_tree q.now)) }
 {
     let distinct = count_distinct(n, d);
     count_selected(distinct, q)
@@ -217,8 +216,8 @@ fn start_of(n: usize, d: &Distinctness, q: &Query) -> usize
 
 /// The number of the first leaf of a select statement's FROM, where the first leaf that stands in the statement has number n.
 pub(crate) fn source_start(n: usize, d: &Distinctness, q: &Query) -> Result<usize, NoMemory>
-    ensures { IfOk result (λ m. m
-        ≡ n + (length (l.tables_distinct (distinctness_tree d.now)) + lists.selected (query_tree q.now))) }
+    ensures { IfOk result
+        (λ m. m ≡ n + lists.before_from (distinctness_tree d.now) (query_tree q.now)) }
 {
     exact(start_of(n, d, q))
 }

@@ -104,7 +104,9 @@ impl Known {
             ≡ record self.old {
               meanings =
                   self.old.meanings
-                  ++ meant.sought schema.now.tables (l.backwards names.now.first names.now.more) levels.now
+                  ++ meant.sought schema.now.tables
+                  (l.backwards names.now.first names.now.more)
+                  levels.now
                   ∷ [];
             }) }
     {

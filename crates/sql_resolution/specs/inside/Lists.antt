@@ -18,6 +18,10 @@ abbrev pub selected : t.Query → ℕ
 selected (t.Select u es f w g h o p k) = length (l.tables_expressions es)
 selected (t.Combined a by all b o p) = 0
 
+-- what stands before a select statement's FROM
+abbrev pub before_from : t.Distinctness → t.Query → ℕ
+before_from d q = length (l.tables_distinct d) + selected q
+
 abbrev pub grouped : t.Query → ℕ
 grouped (t.Select u es f w g h o p k) = length (l.tables_group g)
 grouped (t.Combined a by all b o p) = 0
