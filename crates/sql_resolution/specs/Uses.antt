@@ -1,7 +1,7 @@
 -- The column paths of a text, in the order of the text, each with the levels in which it is sought, the innermost first
 -- (PostgreSQL, Value Expressions, Scalar Subqueries; SELECT, FROM, WHERE and SELECT List; MySQL, Correlated Subqueries).
 use Rattle.std.specs.Prelude.{ℕ, ◌+◌, List, [], ◌∷◌, ◌++◌, length}
-use Rattle.sql_grammar.specs.MarkTree.{Expression, Path, Placeholder, SingleValue, Exists, Compared, Connected, Not, NullTest, CountAll, Count, InList, InQuery, Constant, Expressions, OnlyExpression, MoreExpression, Items, OnlyItem, MoreItem, Source, Table, Alias, Join, MaybeExpression, NoExpression, SomeExpression, MaybeExpressions, NoExpressions, SomeExpressions, MaybeItems, NoItems, SomeItems, MaybeSource, NoSource, SomeSource, Distinctness, Every, Distinct, DistinctOn, Query, Select, Combined}
+use Rattle.sql_grammar.specs.Tree.{Expression, Path, Placeholder, SingleValue, Exists, Compared, Connected, Not, NullTest, CountAll, Count, InList, InQuery, Constant, Expressions, OnlyExpression, MoreExpression, Items, OnlyItem, MoreItem, Source, Table, Alias, Join, MaybeExpression, NoExpression, SomeExpression, MaybeExpressions, NoExpressions, SomeExpressions, MaybeItems, NoItems, SomeItems, MaybeSource, NoSource, SomeSource, Distinctness, Every, Distinct, DistinctOn, Query, Select, Combined}
 use Rattle.sql_resolution.specs.Leaves.{Backwards, backwards, Level, tables_expression, tables_expressions, tables_source, tables_maybe, tables_group, tables_from, tables_distinct, tables_query, leaves_source, leaves_from}
 
 pub record Use : Type 0 where
@@ -11,7 +11,7 @@ pub record Use : Type 0 where
 abbrev mutual
   -- In a clause that sees these levels, where the next leaf has number n. What a subselect in it seeks outwards, it seeks in
   -- them.
-  pub uses_expression : List Level → ℕ → Expression → List Use
+  pub uses_expression : {P : Type 0} → List Level → ℕ → Expression P → List Use
   uses_expression ls n (Path a ns) = record { path = backwards a ns; levels = ls } ∷ []
   uses_expression ls n (Placeholder m) = []
   uses_expression ls n (SingleValue q) = uses_query ls n q
@@ -28,18 +28,18 @@ abbrev mutual
   uses_expression ls n (InQuery k a q) = uses_expression ls n a ++ uses_query ls (n + length (tables_expression a)) q
   uses_expression ls n (Constant b) = []
 
-  pub uses_expressions : List Level → ℕ → Expressions → List Use
+  pub uses_expressions : {P : Type 0} → List Level → ℕ → Expressions P → List Use
   uses_expressions ls n (OnlyExpression a) = uses_expression ls n a
   uses_expressions ls n (MoreExpression a more) =
       uses_expression ls n a ++ uses_expressions ls (n + length (tables_expression a)) more
 
-  pub uses_items : List Level → ℕ → Items → List Use
+  pub uses_items : {P : Type 0} → List Level → ℕ → Items P → List Use
   uses_items ls n (OnlyItem a by) = uses_expression ls n a
   uses_items ls n (MoreItem a by more) =
       uses_expression ls n a ++ uses_items ls (n + length (tables_expression a)) more
 
   -- an ON sees the leaves of its join
-  pub uses_source : ℕ → Source → List Use
+  pub uses_source : {P : Type 0} → ℕ → Source P → List Use
   uses_source n (Table a ns o s) = []
   uses_source n (Alias a ns b) = []
   uses_source n (Join k a b on) =
@@ -47,30 +47,30 @@ abbrev mutual
       ++ uses_expression (leaves_source n (Join k a b on) ∷ [])
       (n + length (tables_source a) + length (tables_source b)) on)
 
-  pub uses_maybe : List Level → ℕ → MaybeExpression → List Use
+  pub uses_maybe : {P : Type 0} → List Level → ℕ → MaybeExpression P → List Use
   uses_maybe ls n NoExpression = []
   uses_maybe ls n (SomeExpression e) = uses_expression ls n e
 
-  pub uses_group : List Level → ℕ → MaybeExpressions → List Use
+  pub uses_group : {P : Type 0} → List Level → ℕ → MaybeExpressions P → List Use
   uses_group ls n NoExpressions = []
   uses_group ls n (SomeExpressions es) = uses_expressions ls n es
 
-  pub uses_order : List Level → ℕ → MaybeItems → List Use
+  pub uses_order : {P : Type 0} → List Level → ℕ → MaybeItems P → List Use
   uses_order ls n NoItems = []
   uses_order ls n (SomeItems is) = uses_items ls n is
 
-  pub uses_from : ℕ → MaybeSource → List Use
+  pub uses_from : {P : Type 0} → ℕ → MaybeSource P → List Use
   uses_from n NoSource = []
   uses_from n (SomeSource s) = uses_source n s
 
-  pub uses_distinct : List Level → ℕ → Distinctness → List Use
+  pub uses_distinct : {P : Type 0} → List Level → ℕ → Distinctness P → List Use
   uses_distinct ls n Every = []
   uses_distinct ls n Distinct = []
   uses_distinct ls n (DistinctOn es) = uses_expressions ls n es
 
   -- WHERE sees its select's leaves and then, outwards, what the clause around the select sees; each other clause its select's leaves
   -- alone. The sides of a combination are enclosed as the combination is.
-  pub uses_query : List Level → ℕ → Query → List Use
+  pub uses_query : {P : Type 0} → List Level → ℕ → Query P → List Use
   uses_query around n (Select u es f w g h o p l) =
       let n1 = n + length (tables_distinct u) in
       let n2 = n1 + length (tables_expressions es) in

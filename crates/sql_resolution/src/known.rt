@@ -13,7 +13,7 @@ use std::alloc::Global;
 use std::marker::Model;
 
 /// What is known of a text so far, in its order.
-#[derive(Debug, Drop)]
+#[derive(Drop)]
 pub(crate) struct Known {
     tables: Vec<Option<SqlText>>,
     meanings: Vec<Meaning>,
@@ -28,7 +28,7 @@ impl Model for Known {
 }
 
 fn name_of(alloc: Global, table: Option<&Table>) -> Result<Option<SqlText>, NoMemory>
-    ensures { IfOk result (λ n. n ≡ option_map (λ t. t.now.name) table) }
+    ensures { IfOk result (λ n. n ≡ option_map (λ t. t.now.name) table.entry) }
 {
     match table {
         None => Ok(None),

@@ -1,7 +1,6 @@
 ghost use Rattle.std.specs.Prelude.{◌≡◌, ◌∷◌, ◌++◌, ◌+◌, [], length, IfOk, OnOk};
 ghost use Rattle.sql_resolution.specs.Leaves as l;
-ghost use Rattle.sql_resolution.specs.inside.Lists.{exposed_by};
-ghost use Rattle.sql_resolution.specs.inside.After.{own_level};
+ghost use Rattle.sql_resolution.specs.inside.After as after;
 ghost use Rattle.sql_tree.specs.View.{source_tree, query_tree, maybe_source_tree};
 
 use crate::count::{source_end, source_start};
@@ -14,7 +13,7 @@ use std::rc::Rc;
 use std::slice::from_ref;
 
 /// A table or an alias in a FROM.
-#[derive(Debug, Drop)]
+#[derive(Drop)]
 pub(crate) struct Leaf {
     number: usize,
     alias: Option<SqlText>,
@@ -62,7 +61,6 @@ impl Leaf {
 }
 
 /// The leaves that a clause sees at once. Copies share them.
-#[derive(Debug)]
 pub(crate) struct Level {
     leaves: Rc<Vec<Leaf>>,
 }
@@ -188,7 +186,7 @@ fn from_level(alloc: Global, number: usize, source: &Option<Source>) -> Result<L
 
 /// The leaves of a select statement, where the first leaf that stands in it has that number.
 pub(crate) fn own_level(alloc: Global, number: usize, query: &Query) -> Result<Level, NoMemory>
-    ensures { IfOk result (λ level. level ≡ own_level number (query_tree query.now)) }
+    ensures { IfOk result (λ level. level ≡ after.own_level number (query_tree query.now)) }
 {
     match query {
         Query::Select(distinct, _, _, source, ..) => {

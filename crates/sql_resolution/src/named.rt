@@ -16,7 +16,7 @@ fn column_at(
     sql_name: &str,
 ) -> Result<Option<ColumnUse>, NoMemory>
     ensures { IfOk result
-        (λ u. u ≡ meant.column_at leaf (option_map (λ t. t.now) table) sql_name.now) }
+        (λ u. u ≡ meant.column_at leaf (option_map (λ t. t.now) table.entry) sql_name.now) }
 {
     let Some(table) = table else {
         return Ok(None);

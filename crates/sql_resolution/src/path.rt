@@ -1,4 +1,4 @@
-ghost use Rattle.std.specs.Prelude.{◌≡◌, IfOk, find, option_map};
+ghost use Rattle.std.specs.Prelude.{◌≡◌, [], ◌∷◌, IfOk, find, option_map};
 ghost use Rattle.std.specs.Cmp.Lexicographic.{pointwise};
 ghost use Rattle.std.specs.Str.{bytes_eq};
 ghost use Rattle.sql_resolution.specs.Leaves.{backwards};
@@ -29,16 +29,32 @@ pub(crate) fn names_backwards(alloc: Global, names: &Names) -> Result<Vec<SqlTex
     Ok(path)
 }
 
+fn is_name(name: &str, path: &[SqlText]) -> bool
+    ensures { result ≡ pointwise bytes_eq (name.now ∷ []) path.now }
+{
+    match path {
+        [last] => name == last.as_str(),
+        _ => false,
+    }
+}
+
+fn is_name_in(schema: &str, name: &str, path: &[SqlText]) -> bool
+    ensures { result ≡ pointwise bytes_eq (name.now ∷ (schema.now ∷ [])) path.now }
+{
+    match path {
+        [last, first] => name == last.as_str() && schema == first.as_str(),
+        _ => false,
+    }
+}
+
 /// Whether the path is the table's.
 fn is_at(table: &Table, path: &[SqlText]) -> bool
     ensures { result ≡ pointwise bytes_eq (meant.path_of_table table.now) path.now }
 {
-    match (table.path(), path) {
-        ((None, name), [last]) => name == last.as_str(),
-        ((Some(schema), name), [last, first]) => {
-            name == last.as_str() && schema == first.as_str()
-        }
-        _ => false,
+    let (schema, name) = table.path();
+    match schema {
+        None => is_name(name, path),
+        Some(schema) => is_name_in(schema, name, path),
     }
 }
 
