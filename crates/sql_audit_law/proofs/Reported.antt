@@ -33,9 +33,9 @@ use Rattle.sql_law.proofs.TextLaws.{has_text}
 use Rattle.sql_resolution.specs.Leaves as l
 use Rattle.sql_resolution.specs.Meant.{name_at, meaning, path_of_table, table_at}
 use Rattle.sql_resolution.specs.Uses as u
-use Rattle.sql_resolution.specs.declared.meaning.ColumnUse.{ColumnUse}
-use Rattle.sql_resolution.specs.declared.meaning.Meaning.{Meaning}
-use Rattle.sql_resolution.specs.declared.meaning.Meaning.TheVariants.{Nothing, Several, Column}
+use Rattle.sql_resolution.specs.declared.column_use.ColumnUse.{ColumnUse}
+use Rattle.sql_resolution.specs.declared.column_use.Meaning.{Meaning}
+use Rattle.sql_resolution.specs.declared.column_use.Meaning.TheVariants.{Nothing, Several, Column}
 use Rattle.sql_audit.specs.Report.{tables_of, meanings_of, is_nothing, is_several, settled_refusal, IsReport, IsReported, IsRefused}
 use Rattle.sql_audit.specs.declared.error.AuditError.{AuditError}
 use Rattle.sql_audit.specs.declared.error.AuditError.TheVariants.{NotInGrammar, UnknownTable, NotInScope, Ambiguous, NoMemory}

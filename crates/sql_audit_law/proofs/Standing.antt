@@ -20,8 +20,8 @@ use Rattle.sql_resolution.specs.Leaves.{Backwards, backwards, Level}
 use Rattle.sql_resolution.specs.Meant.{meaning}
 use Rattle.sql_resolution.specs.Uses as u
 use Rattle.sql_resolution.specs.Uses.{Use}
-use Rattle.sql_resolution.specs.declared.meaning.ColumnUse.{ColumnUse}
-use Rattle.sql_resolution.specs.declared.meaning.Meaning.TheVariants.{Column}
+use Rattle.sql_resolution.specs.declared.column_use.ColumnUse.{ColumnUse}
+use Rattle.sql_resolution.specs.declared.column_use.Meaning.TheVariants.{Column}
 use Rattle.sql_audit_law.specs.Own.{AllPairs, IsOwn, Owned, kept}
 use Rattle.sql_audit_law.proofs.Pairs.{both, pairs_append, get_front, get_back}
 use Rattle.sql_audit_law.proofs.Places.{in_trees, alone}

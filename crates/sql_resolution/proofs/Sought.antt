@@ -2,9 +2,9 @@
 use Rattle.std.proofs.Common.{◌≡◌, ℕ, List, [], ◌∷◌, ◌++◌, refl, sym, ap, ◌∙◌, Option, Some, None}
 use Rattle.std.specs.Option.{option_to_list}
 use Rattle.sql_resolution.specs.Meant.{one_of}
-use Rattle.sql_resolution.specs.declared.meaning.ColumnUse.{ColumnUse}
-use Rattle.sql_resolution.specs.declared.meaning.Meaning.{Meaning}
-use Rattle.sql_resolution.specs.declared.meaning.Meaning.TheVariants.{Nothing, Several, Column}
+use Rattle.sql_resolution.specs.declared.column_use.ColumnUse.{ColumnUse}
+use Rattle.sql_resolution.specs.declared.column_use.Meaning.{Meaning}
+use Rattle.sql_resolution.specs.declared.column_use.Meaning.TheVariants.{Nothing, Several, Column}
 
 -- what is found in a level alone is what is found in it before others, unless it is nothing
 pub none_further : (us : List ColumnUse) (further : Meaning) → one_of us Nothing ≡ Nothing → one_of us further ≡ further

@@ -8,9 +8,9 @@ use Rattle.sql_grammar.specs.MarkTree.{Name}
 use Rattle.sql_schema.specs.declared.declaration.TableDecl.{TableDecl}
 use Rattle.sql_resolution.specs.Leaves.{Backwards, Leaf, Level}
 use Rattle.sql_resolution.specs.Uses.{Use}
-use Rattle.sql_resolution.specs.declared.meaning.ColumnUse.{ColumnUse}
-use Rattle.sql_resolution.specs.declared.meaning.Meaning.{Meaning}
-use Rattle.sql_resolution.specs.declared.meaning.Meaning.TheVariants.{Nothing, Several, Column}
+use Rattle.sql_resolution.specs.declared.column_use.ColumnUse.{ColumnUse}
+use Rattle.sql_resolution.specs.declared.column_use.Meaning.{Meaning}
+use Rattle.sql_resolution.specs.declared.column_use.Meaning.TheVariants.{Nothing, Several, Column}
 
 -- ## Tables
 

@@ -3,8 +3,8 @@ ghost use Rattle.sql_resolution.specs.Leaves as l;
 ghost use Rattle.sql_resolution.specs.Meant as meant;
 ghost use Rattle.sql_resolution.specs.inside.After as after;
 
+use crate::column_use::Meaning;
 use crate::leaf::Level;
-use crate::meaning::Meaning;
 use crate::named::sought;
 use crate::path::{copied, names_backwards, table_at};
 use sql_schema::{NoMemory, Schema, SqlText, Table};

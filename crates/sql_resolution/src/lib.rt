@@ -2,14 +2,14 @@
 //! tables of a schema alone. The leaves of a text are the tables and aliases in its FROM clauses.
 #![tactic(auto)]
 
+mod column_use;
 mod count;
 mod known;
 mod leaf;
-mod meaning;
 mod named;
 mod path;
-mod resolve;
+mod resolving;
 mod walk;
 
-pub use meaning::{ColumnUse, Meaning};
-pub use resolve::{Resolution, resolve};
+pub use column_use::{ColumnUse, Meaning};
+pub use resolving::{Resolution, resolve};

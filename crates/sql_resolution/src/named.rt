@@ -1,10 +1,10 @@
 ghost use Rattle.std.specs.Prelude.{◌≡◌, IfOk, option_map};
 ghost use Rattle.std.specs.Option.{option_to_list};
 ghost use Rattle.sql_resolution.specs.Meant as meant;
-ghost use Rattle.sql_resolution.specs.declared.meaning.Meaning.TheVariants.{Nothing};
+ghost use Rattle.sql_resolution.specs.declared.column_use.Meaning.TheVariants.{Nothing};
 
+use crate::column_use::{ColumnUse, Meaning};
 use crate::leaf::{Leaf, Level};
-use crate::meaning::{ColumnUse, Meaning};
 use crate::path::{column_of, copied, table_at};
 use sql_schema::{NoMemory, Schema, SqlText, Table};
 use std::alloc::Global;

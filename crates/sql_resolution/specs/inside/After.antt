@@ -10,7 +10,7 @@ use Rattle.sql_resolution.specs.Leaves.{Backwards, Level}
 use Rattle.sql_resolution.specs.Meant.{name_at, meaning}
 use Rattle.sql_resolution.specs.Uses as u
 use Rattle.sql_resolution.specs.Uses.{Use}
-use Rattle.sql_resolution.specs.declared.meaning.Meaning.{Meaning}
+use Rattle.sql_resolution.specs.declared.column_use.Meaning.{Meaning}
 
 pub record Known : Type 0 where
   pub tables : List (Option Name)

@@ -4,8 +4,8 @@ ghost use Rattle.sql_resolution.specs.Leaves as l;
 ghost use Rattle.sql_resolution.specs.Meant as meant;
 ghost use Rattle.sql_resolution.specs.Uses as u;
 
+use crate::column_use::Meaning;
 use crate::known::Known;
-use crate::meaning::Meaning;
 use crate::walk::walk_query;
 use sql_schema::{NoMemory, Schema, SqlText};
 use sql_tree::Query;
