@@ -8,38 +8,38 @@ fn reports(rt: HostRuntime) -> Result<(), Fail> {
         ("SELECT $1", ":"),
         (
             "SELECT \"users\".\"id\" FROM \"users\"",
-            "users: 0.users.id",
+            "users : 0.users.id",
         ),
         // a subselect looks outwards where its own FROM has no such leaf
         (
             "SELECT \"users\".\"id\", \"users\".\"name\" FROM \"users\" WHERE EXISTS (SELECT \"posts\".\"id\" \
              FROM \"posts\" WHERE (\"posts\".\"user_id\" = \"users\".\"id\"))",
-            "users posts: 0.users.id 0.users.name 1.posts.id 1.posts.user_id 0.users.id",
+            "users posts : 0.users.id 0.users.name 1.posts.id 1.posts.user_id 0.users.id",
         ),
         // and in its own first
         (
             "SELECT \"users\".\"id\" FROM \"users\" WHERE EXISTS (SELECT $1 FROM \"users\" WHERE (\"users\".\"id\" = $2))",
-            "users users: 0.users.id 1.users.id",
+            "users users : 0.users.id 1.users.id",
         ),
         // a subselect in the selection stands before FROM, and sees what the selection sees
         (
             "SELECT (SELECT \"posts\".\"id\" FROM \"posts\" WHERE (\"posts\".\"user_id\" = \"users\".\"id\")) FROM \"users\"",
-            "posts users: 0.posts.id 0.posts.user_id 1.users.id",
+            "posts users : 0.posts.id 0.posts.user_id 1.users.id",
         ),
         // a condition of a join comes after the conditions in its sides
         (
             "SELECT \"a\".\"id\" FROM ((\"users\" AS \"a\" INNER JOIN \"users\" AS \"b\" ON (\"a\".\"id\" = \"b\".\"id\")) \
              INNER JOIN \"posts\" ON (\"posts\".\"id\" = \"b\".\"id\"))",
-            "users users posts: 0.users.id 0.users.id 1.users.id 2.posts.id 1.users.id",
+            "users users posts : 0.users.id 0.users.id 1.users.id 2.posts.id 1.users.id",
         ),
         // a part of a path may stand for it
         (
             "SELECT \"s\".\"mod\".\"type\", \"mod\".\"id\", \"type\" FROM \"s\".\"mod\"",
-            "parts: 0.parts.kind 0.parts.id 0.parts.kind",
+            "parts : 0.parts.kind 0.parts.id 0.parts.kind",
         ),
         (
             "(SELECT \"users\".\"id\" FROM \"users\") UNION (SELECT \"posts\".\"id\" FROM \"posts\")",
-            "users posts: 0.users.id 1.posts.id",
+            "users posts : 0.users.id 1.posts.id",
         ),
     ] {
         let found = audited(rt.alloc(), &schema, text)?;

@@ -36,14 +36,12 @@ pub fn schema(alloc: Global) -> Result<Schema, Fail> {
     Ok(builder.build()?)
 }
 
-/// The tables of the leaves, and each use with its leaf: `users posts: 0.users.id 1.posts.id`.
+/// The tables of the leaves, and each use with its leaf: `users posts : 0.users.id 1.posts.id`.
 fn shown(alloc: Global, report: &AuditReport) -> Result<String, NoMemory> {
     let mut out = String::new(alloc);
-    let mut space = "";
     for table in report.tables.as_slice() {
-        out.push_str(space)?;
         out.push_str(table.as_str())?;
-        space = " ";
+        out.push_str(" ")?;
     }
     out.push_str(":")?;
     for used in report.uses.as_slice() {

@@ -125,12 +125,13 @@ pub join_after : (ts : List TableDecl) (k : Known) (kind : t.JoinKind) (a b : t.
     ≡ x.after_expression ts (level ∷ []) (x.after_source ts (x.after_source ts k a) b) on
 unfolding x.after_source x.after_expression
 join_after ts k kind a b on level is =
-    same_after ts k _ _ _
-    (ap (λ (own : Level).
-    u.uses_source (length k.tables) a ++ (u.uses_source (length k.tables + length (l.tables_source a)) b
-    ++ u.uses_expression (own ∷ [])
-    (length k.tables + length (l.tables_source a) + length (l.tables_source b)) on))
-    (sym is))
+    let n1 = length (l.tables_source a) in
+    let n2 = length (l.tables_source b) in
+    let uses_with : Level → ℕ → List Use =
+    λ own n.
+    u.uses_source n a ++ (u.uses_source (n + n1) b ++ u.uses_expression (own ∷ []) (n + n1 + n2) on) in
+    same_after ts k (l.tables_source (t.Join kind a b on)) (λ n. u.uses_source n (t.Join kind a b on)) (uses_with level)
+    (ap (λ (own : Level). uses_with own (length k.tables)) (sym is))
     ∙ sym (three ts k (l.tables_source a) (l.tables_source b) (l.tables_expression on) (λ n. u.uses_source n a)
     (λ n. u.uses_source n b) (λ n. u.uses_expression (level ∷ []) n on))
 
@@ -140,3 +141,52 @@ pub combined_after : (ts : List TableDecl) (ls : List Level) (k : Known) (a : t.
 unfolding x.after_query
 combined_after ts ls k a by all b o p =
     sym (joined ts k (l.tables_query a) (l.tables_query b) (λ n. u.uses_query ls n a) (λ n. u.uses_query ls n b))
+
+pub single_after : (ts : List TableDecl) (ls : List Level) (k : Known) (q : t.Query)
+    → x.after_expression ts ls k (t.SingleValue q) ≡ x.after_query ts ls k q
+unfolding x.after_expression x.after_query
+single_after ts ls k q = refl
+
+pub exists_after : (ts : List TableDecl) (ls : List Level) (k : Known) (q : t.Query)
+    → x.after_expression ts ls k (t.Exists q) ≡ x.after_query ts ls k q
+unfolding x.after_expression x.after_query
+exists_after ts ls k q = refl
+
+pub not_after : (ts : List TableDecl) (ls : List Level) (k : Known) (a : t.Expression)
+    → x.after_expression ts ls k (t.Not a) ≡ x.after_expression ts ls k a
+unfolding x.after_expression
+not_after ts ls k a = refl
+
+pub null_test_after : (ts : List TableDecl) (ls : List Level) (k : Known) (negated : Bool) (a : t.Expression)
+    → x.after_expression ts ls k (t.NullTest negated a) ≡ x.after_expression ts ls k a
+unfolding x.after_expression
+null_test_after ts ls k negated a = refl
+
+pub count_after : (ts : List TableDecl) (ls : List Level) (k : Known) (a : t.Expression)
+    → x.after_expression ts ls k (t.Count a) ≡ x.after_expression ts ls k a
+unfolding x.after_expression
+count_after ts ls k a = refl
+
+pub in_list_after : (ts : List TableDecl) (ls : List Level) (k : Known) (negated : Bool) (a : t.Expression) (m : t.Mark)
+    (ms : List t.Mark) → x.after_expression ts ls k (t.InList negated a m ms) ≡ x.after_expression ts ls k a
+unfolding x.after_expression
+in_list_after ts ls k negated a m ms = refl
+
+pub ruleset nodes = (
+  path_after,
+  compared_after,
+  connected_after,
+  in_query_after,
+  placeholder_after,
+  count_all_after,
+  constant_after,
+  single_after,
+  exists_after,
+  not_after,
+  null_test_after,
+  count_after,
+  in_list_after,
+  table_after,
+  alias_after,
+  combined_after,
+)

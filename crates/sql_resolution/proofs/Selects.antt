@@ -5,6 +5,7 @@ use Rattle.sql_schema.specs.declared.declaration.TableDecl.{TableDecl}
 use Rattle.sql_resolution.specs.Leaves as l
 use Rattle.sql_resolution.specs.Leaves.{Level}
 use Rattle.sql_resolution.specs.Uses as u
+use Rattle.sql_resolution.specs.Uses.{Use}
 use Rattle.sql_resolution.specs.inside.After as x
 use Rattle.sql_resolution.specs.inside.After.{Known, after, own_level}
 use Rattle.sql_resolution.proofs.Joined.{same_after, seven}
@@ -23,19 +24,21 @@ clauses_after : (ts : List TableDecl) (around : List Level) (k : Known) (d : t.D
     (l.tables_maybe h) (λ n. u.uses_maybe (own ∷ []) n h))
     (l.tables_order o) (λ n. u.uses_order (own ∷ []) n o)
 clauses_after ts around k d es f w g h o p m own is =
-    let n = length k.tables in
-    let n1 = n + length (l.tables_distinct d) in
-    let n2 = n1 + length (l.tables_expressions es) in
-    let n3 = n2 + length (l.tables_from f) in
-    let n4 = n3 + length (l.tables_maybe w) in
-    let n5 = n4 + length (l.tables_group g) in
-    let n6 = n5 + length (l.tables_maybe h) in
-    same_after ts k _ _ _
-    (ap (λ (level : Level).
-    u.uses_distinct (level ∷ []) n d ++ (u.uses_expressions (level ∷ []) n1 es ++ (u.uses_from n2 f
-    ++ (u.uses_maybe (level ∷ around) n3 w ++ (u.uses_group (level ∷ []) n4 g ++ (u.uses_maybe (level ∷ []) n5 h
-    ++ u.uses_order (level ∷ []) n6 o))))))
-    is)
+    let m0 = length (l.tables_distinct d) in
+    let m1 = length (l.tables_expressions es) in
+    let m2 = length (l.tables_from f) in
+    let m3 = length (l.tables_maybe w) in
+    let m4 = length (l.tables_group g) in
+    let m5 = length (l.tables_maybe h) in
+    let uses_with : Level → ℕ → List Use =
+    λ level n.
+    u.uses_distinct (level ∷ []) n d ++ (u.uses_expressions (level ∷ []) (n + m0) es ++ (u.uses_from (n + m0 + m1) f
+    ++ (u.uses_maybe (level ∷ around) (n + m0 + m1 + m2) w ++ (u.uses_group (level ∷ []) (n + m0 + m1 + m2 + m3) g
+    ++ (u.uses_maybe (level ∷ []) (n + m0 + m1 + m2 + m3 + m4) h
+    ++ u.uses_order (level ∷ []) (n + m0 + m1 + m2 + m3 + m4 + m5) o))))) in
+    same_after ts k (l.tables_query (t.Select d es f w g h o p m))
+    (λ n. u.uses_query around n (t.Select d es f w g h o p m)) (uses_with own)
+    (ap (λ (level : Level). uses_with level (length k.tables)) is)
     ∙ sym (seven ts k (l.tables_distinct d) (l.tables_expressions es) (l.tables_from f) (l.tables_maybe w)
     (l.tables_group g) (l.tables_maybe h) (l.tables_order o)
     (λ n. u.uses_distinct (own ∷ []) n d) (λ n. u.uses_expressions (own ∷ []) n es) (λ n. u.uses_from n f)

@@ -14,6 +14,7 @@ use std::slice::from_ref;
 
 /// Takes in an expression of a clause that sees these levels.
 #[cycle(walk)]
+#[tactic(auto, using(crate::proofs::Joined::nodes))]
 fn walk_expression(
     alloc: Global,
     schema: &Schema,
@@ -141,6 +142,7 @@ fn walk_items(
 
 /// Takes in a source: its leaves and its conditions, each of which sees the leaves of its join.
 #[cycle(walk)]
+#[tactic(auto, using(crate::proofs::Joined::nodes))]
 fn walk_source(
     alloc: Global,
     schema: &Schema,
@@ -170,6 +172,7 @@ fn walk_source(
 }
 
 #[cycle(walk)]
+#[tactic(auto, using(crate::proofs::Lists::parts))]
 fn walk_maybe(
     alloc: Global,
     schema: &Schema,
@@ -191,6 +194,7 @@ fn walk_maybe(
 }
 
 #[cycle(walk)]
+#[tactic(auto, using(crate::proofs::Lists::parts))]
 fn walk_from(
     alloc: Global,
     schema: &Schema,
@@ -210,6 +214,7 @@ fn walk_from(
 }
 
 #[cycle(walk)]
+#[tactic(auto, using(crate::proofs::Lists::parts))]
 fn walk_distinct(
     alloc: Global,
     schema: &Schema,
@@ -234,6 +239,7 @@ fn walk_distinct(
 
 /// Takes in what a select statement selects.
 #[cycle(walk)]
+#[tactic(auto, using(crate::proofs::Lists::parts))]
 fn walk_selected(
     alloc: Global,
     schema: &Schema,
@@ -256,6 +262,7 @@ fn walk_selected(
 }
 
 #[cycle(walk)]
+#[tactic(auto, using(crate::proofs::Lists::parts))]
 fn walk_group(
     alloc: Global,
     schema: &Schema,
@@ -277,6 +284,7 @@ fn walk_group(
 }
 
 #[cycle(walk)]
+#[tactic(auto, using(crate::proofs::Lists::parts))]
 fn walk_order(
     alloc: Global,
     schema: &Schema,
@@ -296,6 +304,7 @@ fn walk_order(
 
 /// Takes in a statement that a clause which sees these levels encloses.
 #[cycle(walk)]
+#[tactic(auto, using(crate::proofs::Joined::nodes))]
 pub(crate) fn walk_query(
     alloc: Global,
     schema: &Schema,
