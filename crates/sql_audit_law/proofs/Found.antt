@@ -119,14 +119,18 @@ columns-apart (u ∷ us) e t (inr h) =
     columns-apart us (neither (has_duplicate_column u) (list_any has_duplicate_column us) e).1 t h
 
 -- what a search finds passes its test
+found-further : {A : Type 0} (test : A → Bool) (x : A) (xs : List A) → test x ≡ false → find test (x ∷ xs) ≡ find test xs
+found-further test x xs no = rw no refl
+
+some-step : {A : Type 0} (test : A → Bool) (P : A → Type 0) → ((x : A) → test x ≡ true → P x) → (x : A) (xs : List A)
+    (b : Bool) → test x ≡ b → (is_some (find test xs) ≡ true → AnyOf P xs)
+    → is_some (find test (x ∷ xs)) ≡ true → AnyOf P (x ∷ xs)
+some-step test P f x xs true is more e = inl (f x is)
+some-step {A = A} test P f x xs false is more e =
+    inr (more (subst (λ (o : Option A). is_some o ≡ true) (found-further test x xs is) e))
+
 pub some-passes : {A : Type 0} (test : A → Bool) (P : A → Type 0) → ((x : A) → test x ≡ true → P x) → (xs : List A)
     → is_some (find test xs) ≡ true → AnyOf P xs
 some-passes test P f [] e = absurd (false≢true e)
-some-passes {A} test P f (x ∷ xs) e = go (test x) refl
-  where
-    go : (b : Bool) → test x ≡ b → AnyOf P (x ∷ xs)
-    go true is = inl (f x is)
-    go false is = inr (some-passes test P f xs (subst (λ (o : Option A). is_some o ≡ true) (found-not is) e))
-      where
-        found-not : test x ≡ false → find test (x ∷ xs) ≡ find test xs
-        found-not no = rw no refl
+some-passes test P f (x ∷ xs) e =
+    some-step test P f x xs (test x) refl (λ h. some-passes test P f xs h) e

@@ -113,15 +113,20 @@ module _ (ts : List TableDecl) (d : Dialect) where
         let p3 : Each (FinePart ts) q3 = each_back (FinePart ts) (in_from f) q3 p2 in
         let p4 : Each (FinePart ts) q4 = each_back (FinePart ts) (in_maybe wide w) q4 p3 in
         let p5 : Each (FinePart ts) q5 = each_back (FinePart ts) (in_maybe v g) q5 p4 in
-        each_append (IsKnown ts) (sources_distinct d u) _
+        let s6 = sources_maybe d h ++ sources_order d o in
+        let s5 = sources_maybe d g ++ s6 in
+        let s4 = sources_maybe d w ++ s5 in
+        let s3 = sources_from d f ++ s4 in
+        let s2 = sources_expr d e ++ s3 in
+        each_append (IsKnown ts) (sources_distinct d u) s2
         (known-distinct v u (each_front (FinePart ts) (in_distinct v u) q1 p.1))
-        (each_append (IsKnown ts) (sources_expr d e) _
+        (each_append (IsKnown ts) (sources_expr d e) s3
         (known-expr v e (each_front (FinePart ts) (in_expr v e) q2 p1))
-        (each_append (IsKnown ts) (sources_from d f) _
+        (each_append (IsKnown ts) (sources_from d f) s4
         (known-from f p.0.1 (each_front (FinePart ts) (in_from f) q3 p2))
-        (each_append (IsKnown ts) (sources_maybe d w) _
+        (each_append (IsKnown ts) (sources_maybe d w) s5
         (known-maybe wide w (each_front (FinePart ts) (in_maybe wide w) q4 p3))
-        (each_append (IsKnown ts) (sources_maybe d g) _
+        (each_append (IsKnown ts) (sources_maybe d g) s6
         (known-maybe v g (each_front (FinePart ts) (in_maybe v g) q5 p4))
         (each_append (IsKnown ts) (sources_maybe d h) (sources_order d o)
         (known-maybe v h (each_front (FinePart ts) (in_maybe v h) (in_order v o) p5))

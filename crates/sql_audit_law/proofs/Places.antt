@@ -13,6 +13,7 @@ use Rattle.sql_pass.specs.declared.value.Bound.TheVariants.{Value as OneValue, L
 use Rattle.sql_pass.specs.declared.value.Value.{Value}
 use Rattle.sql_node.specs.Tree.{Origin, Expr, column, value, list, count_star, nullable, not_of, null_test, count, compared, joined, exists, single, among_values, among_rows, Exprs, no_exprs, more_exprs, Items, no_items, more_items, MaybeExpr, no_expr, an_expr, Source, of_table, of_alias, join, From, no_source, from, Distinct, every, distinct, distinct_on, Order, no_order, order_by, Statement, select, combination}
 use Rattle.sql_reading.specs.Filled.{first_name, more_names, column_path, lead, expressions_from, expressions_of, Item, items_from, items_of, one_by_one, among_as, trees, trees_in, item_trees, maybe_tree, group_tree, on_tree, source_tree, from_tree, distinct_tree, order_tree, filled}
+use Rattle.sql_reading.specs.Words.{comparison_of, logic_of}
 use Rattle.sql_reading.specs.inside.HasText.{IsSingle, ExprHasText, ExprsHaveText, ItemsHaveText, MaybeHasText, GroupHasText, OnHasText, SourceHasText, FromHasText, DistinctHasText, OrderHasText, HasText}
 use Rattle.sql_resolution.specs.Leaves as l
 use Rattle.sql_resolution.specs.Leaves.{Backwards, backwards}
@@ -30,6 +31,9 @@ places os = map place os
 abbrev pub in_trees : List (g.Expression Bound) → List Backwards
 in_trees [] = []
 in_trees (t ∷ ts) = l.tables_expression t ++ in_trees ts
+
+one-table : (t : g.Expression Bound) → in_trees (t ∷ []) ≡ l.tables_expression t
+one-table t = append-nil (l.tables_expression t)
 
 in_trees-append : (xs ys : List (g.Expression Bound)) → in_trees (xs ++ ys) ≡ in_trees xs ++ in_trees ys
 in_trees-append [] ys = refl
@@ -108,25 +112,30 @@ joined-places xs ys os ps p q = both p q ∙ sym (map-append place os ps)
 module _ (d : Dialect) where
   mutual
     pub expr-tables : (e : Expr) → ExprHasText d e → in_trees (trees d e) ≡ places (sources_expr d e)
-    expr-tables (column o c) h = append-nil _ ∙ column-tables o.alias o.table c.sql_name
+    expr-tables (column o c) h =
+        one-table (column_path o.alias o.table c.sql_name) ∙ column-tables o.alias o.table c.sql_name
     expr-tables (value t x) h = refl
     expr-tables (list es) h = exprs-tables es h
     expr-tables count_star h = refl
     expr-tables (nullable e) h = expr-tables e h
-    expr-tables (not_of e) h = append-nil _ ∙ operand-tables e h
-    expr-tables (null_test n e) h = append-nil _ ∙ operand-tables e h
-    expr-tables (count e) h = append-nil _ ∙ operand-tables e h
+    expr-tables (not_of e) h = one-table (g.Not (lead (trees d e))) ∙ operand-tables e h
+    expr-tables (null_test n e) h = one-table (g.NullTest n (lead (trees d e))) ∙ operand-tables e h
+    expr-tables (count e) h = one-table (g.Count (lead (trees d e))) ∙ operand-tables e h
     expr-tables (compared by a b) h =
-        append-nil _ ∙ joined-places _ _ (sources_expr d a) (sources_expr d b) (operand-tables a h.0) (operand-tables b h.1)
+        one-table (g.Compared (comparison_of by) (lead (trees d a)) (lead (trees d b)))
+        ∙ joined-places _ _ (sources_expr d a) (sources_expr d b) (operand-tables a h.0) (operand-tables b h.1)
     expr-tables (joined by a b) h =
-        append-nil _ ∙ joined-places _ _ (sources_expr d a) (sources_expr d b) (operand-tables a h.0) (operand-tables b h.1)
-    expr-tables (exists q) h = append-nil _ ∙ query-tables q h
-    expr-tables (single q) h = append-nil _ ∙ query-tables q h
+        one-table (g.Connected (logic_of by) (lead (trees d a)) (lead (trees d b)))
+        ∙ joined-places _ _ (sources_expr d a) (sources_expr d b) (operand-tables a h.0) (operand-tables b h.1)
+    expr-tables (exists q) h = one-table (g.Exists (filled d q)) ∙ query-tables q h
+    expr-tables (single q) h = one-table (g.SingleValue (filled d q)) ∙ query-tables q h
     expr-tables (among_values n e t vs) h =
-        append-nil _ ∙ among-tables (array d) n (lead (trees d e)) (ManyValues t vs) t vs
+        one-table (among_as (array d) n (lead (trees d e)) (ManyValues t vs) (map (OneValue t) vs))
+        ∙ among-tables (array d) n (lead (trees d e)) (ManyValues t vs) t vs
         ∙ ap (kept (array d) vs) (operand-tables e h) ∙ kept-places (array d) vs (sources_expr d e)
     expr-tables (among_rows n e q) h =
-        append-nil _ ∙ joined-places _ _ (sources_expr d e) (sources d q) (operand-tables e h.0) (query-tables q h.1)
+        one-table (g.InQuery n (lead (trees d e)) (filled d q))
+        ∙ joined-places _ _ (sources_expr d e) (sources d q) (operand-tables e h.0) (query-tables q h.1)
 
     pub operand-tables : (e : Expr) → IsSingle e × ExprHasText d e
         → l.tables_expression (lead (trees d e)) ≡ places (sources_expr d e)

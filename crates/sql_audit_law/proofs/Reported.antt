@@ -16,6 +16,7 @@ use Rattle.sql_grammar.specs.MarkTree.{Name, Query}
 use Rattle.sql_grammar.specs.Numbering.{mark_of, each_query}
 use Rattle.sql_grammar.specs.Reading.{OnlyReading}
 use Rattle.sql_pass.specs.Pieces.{text_of}
+use Rattle.sql_pass.specs.declared.value.Bound.{Bound}
 use Rattle.sql_node.specs.Pieces.{pieces}
 use Rattle.sql_node.specs.Tree.{Origin, Expr, column, Statement}
 use Rattle.sql_reading.specs.Filled.{filled, normal}
@@ -159,10 +160,10 @@ reported schema d s sound counted h =
     let fine = fine-parts schema d s h in
     let st = query-uses ts good.tables_differ good.columns_differ os d [] [] zero s text refl (all-at os) fine in
     let tables : tables_of ts (normal d s) ≡ map Some (map name_of os) =
-    ap (map (name_at ts)) (tables-query (λ n v. mark_of d n) 0 (filled d s) ∙ p.query-tables d s text)
+    ap (map (name_at ts)) (tables-query (λ (n : ℕ) (v : Bound). mark_of d n) 0 (filled d s) ∙ p.query-tables d s text)
     ∙ names-known ts good.tables_differ os (known-query ts d [] s fine) in
     let meanings : meanings_of ts (normal d s) ≡ map Column st.0 =
-    ap (map (meaning ts)) (uses-query (λ n v. mark_of d n) [] 0 0 (filled d s)) ∙ st.1 in
+    ap (map (meaning ts)) (uses-query (λ (n : ℕ) (v : Bound). mark_of d n) [] 0 0 (filled d s)) ∙ st.1 in
     let none : settled_refusal (tables_of ts (normal d s)) (meanings_of ts (normal d s)) ≡ None =
     ap (λ ns. settled_refusal ns (meanings_of ts (normal d s))) tables
     ∙ ap (settled_refusal (map Some (map name_of os))) meanings ∙ none-settled (map name_of os) st.0 in (

@@ -10,17 +10,18 @@ use Rattle.sql_schema.specs.declared.declaration.TableDecl.{TableDecl}
 use Rattle.sql_schema.specs.Refusals.{any_two, tables_clash, has_duplicate_column}
 use Rattle.sql_grammar.specs.Tree as g
 use Rattle.sql_pass.specs.declared.value.Bound.{Bound}
-use Rattle.sql_pass.specs.declared.value.Bound.TheVariants.{List as ManyValues}
+use Rattle.sql_pass.specs.declared.value.Bound.TheVariants.{Value as OneValue, List as ManyValues}
 use Rattle.sql_leaf.specs.declared.table_source.JoinKind.{JoinKind}
 use Rattle.sql_leaf.specs.declared.table_source.JoinKind.TheVariants.{Inner, LeftOuter}
 use Rattle.sql_node.specs.Tree.{Origin, Form, unboxed, boxed, Expr, column, value, list, count_star, nullable, not_of, null_test, count, compared, joined, exists, single, among_values, among_rows, Exprs, no_exprs, more_exprs, Items, no_items, more_items, MaybeExpr, no_expr, an_expr, Source, of_table, of_alias, join, From, no_source, from, Distinct, every, distinct, distinct_on, Order, no_order, order_by, Statement, select, combination}
 use Rattle.sql_source.specs.Leaves.{Leaf, leaves, in_right_side}
 use Rattle.sql_source.specs.Origins.{a_table, an_alias}
-use Rattle.sql_reading.specs.Filled.{first_name, more_names, column_path, lead, expressions_of, trees, trees_in, item_trees, maybe_tree, group_tree, on_tree, source_tree, from_tree, distinct_tree, order_tree, filled}
+use Rattle.sql_reading.specs.Filled.{first_name, more_names, column_path, lead, expressions_of, among_as, trees, trees_in, item_trees, maybe_tree, group_tree, on_tree, source_tree, from_tree, distinct_tree, order_tree, filled}
+use Rattle.sql_reading.specs.Words.{comparison_of, logic_of}
 use Rattle.sql_reading.specs.inside.HasText.{IsSingle, ExprHasText, ExprsHaveText, ItemsHaveText, MaybeHasText, GroupHasText, OnHasText, SourceHasText, FromHasText, DistinctHasText, OrderHasText, HasText}
 use Rattle.sql_rules.specs.Lists.{AnyOf, Each}
 use Rattle.sql_rules.specs.Names.{path, NamesOnly}
-use Rattle.sql_rules.specs.Scope.{View, origins, origins_of, widest, Part, a_select, a_combination, parts, in_expr, in_exprs, in_items, in_maybe, in_source, in_from, in_distinct, in_order, Place, in_on, in_where, in_group_by, in_having, Clause, clauses, maybe_clause, ons, ons_of, distinct_clause, item_clauses, order_clauses, own, nodes, nodes_of}
+use Rattle.sql_rules.specs.Scope.{View, origins, origins_of, widest, Part, a_select, a_combination, parts, in_expr, in_exprs, in_items, in_maybe, in_source, in_from, in_distinct, in_order, Place, in_selection, in_on, in_where, in_group_by, in_having, Clause, clauses, maybe_clause, ons, ons_of, distinct_clause, item_clauses, order_clauses, own, nodes, nodes_of}
 use Rattle.sql_law.proofs.Lists.{each_front, each_back}
 use Rattle.sql_resolution.specs.Leaves as l
 use Rattle.sql_resolution.specs.Leaves.{Level, backwards}
@@ -150,22 +151,26 @@ module _ (ts : List TableDecl) (apart : any_two tables_clash ts ≡ false)
         stand-same ts os _ _ (columns_expr d e) (one-tree ls n (g.Count (lead (trees d e))))
         (operand-uses v ls n e t s at f.1 p)
     expr-uses v ls n (compared by a b) t s at f p =
-        stand-same ts os _ _ (columns_expr d a ++ columns_expr d b) (append-nil _)
+        stand-same ts os _ _ (columns_expr d a ++ columns_expr d b)
+        (one-tree ls n (g.Compared (comparison_of by) (lead (trees d a)) (lead (trees d b))))
         (pair-uses v ls n a b t s at f.1 p)
     expr-uses v ls n (joined by a b) t s at f p =
-        stand-same ts os _ _ (columns_expr d a ++ columns_expr d b) (append-nil _)
+        stand-same ts os _ _ (columns_expr d a ++ columns_expr d b)
+        (one-tree ls n (g.Connected (logic_of by) (lead (trees d a)) (lead (trees d b))))
         (pair-uses v ls n a b t s at f.1 p)
     expr-uses v ls n (exists q) t s at f p =
-        stand-same ts os _ _ (columns_in d q) (append-nil _) (query-uses v ls n q t s at p)
+        stand-same ts os _ _ (columns_in d q) (one-tree ls n (g.Exists (filled d q))) (query-uses v ls n q t s at p)
     expr-uses v ls n (single q) t s at f p =
-        stand-same ts os _ _ (columns_in d q) (append-nil _) (query-uses v ls n q t s at p)
+        stand-same ts os _ _ (columns_in d q) (one-tree ls n (g.SingleValue (filled d q))) (query-uses v ls n q t s at p)
     expr-uses v ls n (among_values k e ty vs) t s at f p =
-        stand-same ts os _ _ (kept (array d) vs (columns_expr d e)) (append-nil _)
+        stand-same ts os _ _ (kept (array d) vs (columns_expr d e))
+        (one-tree ls n (among_as (array d) k (lead (trees d e)) (ManyValues ty vs) (map (OneValue ty) vs)))
         (among-stands ts os ls n (array d) k (lead (trees d e)) (ManyValues ty vs) ty vs (sources_expr d e) (columns_expr d e)
         at (λ a. operand-uses v ls n e t s a f.1 p))
     expr-uses v ls n (among_rows k e q) t s at f p =
         let m = length (l.tables_expression (lead (trees d e))) in
-        stand-same ts os _ _ (columns_expr d e ++ columns_in d q) (append-nil _)
+        stand-same ts os _ _ (columns_expr d e ++ columns_in d q)
+        (one-tree ls n (g.InQuery k (lead (trees d e)) (filled d q)))
         (two (u.uses_expression ls n (lead (trees d e))) (u.uses_query ls (n + m) (filled d q)) (columns_expr d e)
         (columns_in d q)
         (operand-uses v ls n e t.0 s (at-front os n (sources_expr d e) (sources d q) at) f.1
@@ -347,7 +352,8 @@ module _ (ts : List TableDecl) (apart : any_two tables_clash ts ≡ false)
         let c4 = maybe_clause in_group_by v gr ++ c5 in
         let c3 = maybe_clause in_where wide wh ++ c4 in
         let c2 = ons_of f ++ c3 in
-        let f1 = each_back (FineClause ts) (distinct_clause v w) _ p.0.0 in
+        let c1 : List Clause = record { place = in_selection; view = v; expr = e } ∷ c2 in
+        let f1 : Each (FineClause ts) c1 = each_back (FineClause ts) (distinct_clause v w) c1 p.0.0 in
         let f2 : Each (FineClause ts) c2 = f1.1 in
         let f3 : Each (FineClause ts) c3 = each_back (FineClause ts) (ons_of f) c3 f2 in
         let f4 : Each (FineClause ts) c4 = each_back (FineClause ts) (maybe_clause in_where wide wh) c4 f3 in
@@ -371,24 +377,36 @@ module _ (ts : List TableDecl) (apart : any_two tables_clash ts ≡ false)
         level-from n2 f t.2 (at-front os n2 (sources_from d f) s4 a2) p.0.1 in
         let near : Sees ts os v here = sees-here v level seen in
         let far : Sees ts os wide (level ∷ around) = sees-wide form f outer around level seen s in
-        two _ _ (columns_distinct d w) _
+        let x0 = u.uses_distinct here n (distinct_tree d w) in
+        let x1 = u.uses_expressions here n1 (expressions_of (trees d e)) in
+        let x2 = u.uses_from n2 (from_tree d f) in
+        let x3 = u.uses_maybe (level ∷ around) n3 (maybe_tree d wh) in
+        let x4 = u.uses_group here n4 (group_tree d gr) in
+        let x5 = u.uses_maybe here n5 (maybe_tree d h) in
+        let x6 = u.uses_order here n6 (order_tree d o) in
+        let k5 = columns_maybe d h ++ columns_order d o in
+        let k4 = columns_maybe d gr ++ k5 in
+        let k3 = columns_maybe d wh ++ k4 in
+        let k2 = columns_from d f ++ k3 in
+        let k1 = columns_expr d e ++ k2 in
+        two x0 (x1 ++ (x2 ++ (x3 ++ (x4 ++ (x5 ++ x6))))) (columns_distinct d w) k1
         (distinct-uses v here n w t.0 near (at-front os n (sources_distinct d w) s2 at)
-        (each_front (FineClause ts) (distinct_clause v w) _ p.0.0) (each_front (FinePart ts) (in_distinct v w) q1 p.1))
-        (two _ _ (columns_expr d e) _
+        (each_front (FineClause ts) (distinct_clause v w) c1 p.0.0) (each_front (FinePart ts) (in_distinct v w) q1 p.1))
+        (two x1 (x2 ++ (x3 ++ (x4 ++ (x5 ++ x6)))) (columns_expr d e) k2
         (list-uses v here n1 e t.1.1 near (at-front os n1 (sources_expr d e) s3 a1) f1.0
         (each_front (FinePart ts) (in_expr v e) q2 p1))
-        (two _ _ (columns_from d f) _
+        (two x2 (x3 ++ (x4 ++ (x5 ++ x6))) (columns_from d f) k3
         (from-uses n2 f t.2 (at-front os n2 (sources_from d f) s4 a2) p.0.1
         (each_front (FineClause ts) (ons_of f) c3 f2) (each_front (FinePart ts) (in_from f) q3 p2))
-        (two _ _ (columns_maybe d wh) _
+        (two x3 (x4 ++ (x5 ++ x6)) (columns_maybe d wh) k4
         (maybe-uses in_where wide (level ∷ around) n3 wh t.3 far (at-front os n3 (sources_maybe d wh) s5 a3)
         (each_front (FineClause ts) (maybe_clause in_where wide wh) c4 f3)
         (each_front (FinePart ts) (in_maybe wide wh) q4 p3))
-        (two _ _ (columns_maybe d gr) _
+        (two x4 (x5 ++ x6) (columns_maybe d gr) k5
         (group-uses v here n4 gr t.4 near (at-front os n4 (sources_maybe d gr) s6 a4)
         (each_front (FineClause ts) (maybe_clause in_group_by v gr) c5 f4)
         (each_front (FinePart ts) (in_maybe v gr) q5 p4))
-        (two _ _ (columns_maybe d h) (columns_order d o)
+        (two x5 x6 (columns_maybe d h) (columns_order d o)
         (maybe-uses in_having v here n5 h t.5 near (at-front os n5 (sources_maybe d h) (sources_order d o) a5)
         (each_front (FineClause ts) (maybe_clause in_having v h) (order_clauses v o) f5)
         (each_front (FinePart ts) (in_maybe v h) (in_order v o) p5))
