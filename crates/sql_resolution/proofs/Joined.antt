@@ -172,21 +172,15 @@ pub in_list_after : (ts : List TableDecl) (ls : List Level) (k : Known) (negated
 unfolding x.after_expression
 in_list_after ts ls k negated a m ms = refl
 
-pub ruleset nodes = (
-  path_after,
-  compared_after,
-  connected_after,
-  in_query_after,
-  placeholder_after,
-  count_all_after,
-  constant_after,
-  single_after,
-  exists_after,
-  not_after,
-  null_test_after,
-  count_after,
-  in_list_after,
-  table_after,
-  alias_after,
-  combined_after,
-)
+-- ## From nothing
+
+pub first_tables : (ts : List TableDecl) (k : Known) (q : t.Query) → k ≡ record { tables = []; meanings = [] }
+    → (x.after_query ts [] k q).tables ≡ map (name_at ts) (l.tables_query q)
+unfolding x.after_query after
+first_tables ts k q e = ap (λ (j : Known). j.tables ++ map (name_at ts) (l.tables_query q)) e
+
+pub first_meanings : (ts : List TableDecl) (k : Known) (q : t.Query) → k ≡ record { tables = []; meanings = [] }
+    → (x.after_query ts [] k q).meanings ≡ map (meaning ts) (u.uses_query [] 0 q)
+unfolding x.after_query after
+first_meanings ts k q e =
+    ap (λ (j : Known). j.meanings ++ map (meaning ts) (u.uses_query [] (length j.tables) q)) e

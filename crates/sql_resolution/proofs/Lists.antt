@@ -151,15 +151,4 @@ query_count q d es s w g h o p m is =
     )
     refl
 
-pub ruleset parts = (
-  every_after,
-  distinct_after,
-  distinct_on_after,
-  none_after,
-  some_after,
-  no_source_after,
-  source_after,
-  selected_none,
-  grouped_none,
-  ordered_none,
-)
+pub ruleset parts = (none_after, some_after, no_source_after, source_after)

@@ -206,6 +206,7 @@ pub(crate) fn source_end(n: usize, s: &Source) -> Result<usize, NoMemory>
     exact(count_source(n, s))
 }
 
+#[tactic(auto, using(sql_tree::proofs::Capped::capped_laws))]
 fn start_of(n: usize, d: &Distinctness, q: &Query) -> usize
     ensures { result
         ≡ capped (n + lists.before_from (distinctness_tree d.now) (query_tree q.now)) }

@@ -1,4 +1,4 @@
-ghost use Rattle.std.specs.Prelude.{◌≡◌, [], ◌∷◌, IfOk, find, option_map};
+ghost use Rattle.std.specs.Prelude.{◌≡◌, [], ◌∷◌, ◌++◌, map, string_bytes, IfOk, OnOk, find, option_map};
 ghost use Rattle.std.specs.Cmp.Lexicographic.{pointwise};
 ghost use Rattle.std.specs.Str.{bytes_eq};
 ghost use Rattle.sql_resolution.specs.Leaves.{backwards};
@@ -16,6 +16,16 @@ pub(crate) fn copied(alloc: Global, name: &str) -> Result<SqlText, NoMemory>
     Ok(SqlText::from(text))
 }
 
+/// Copies these names behind others.
+fn push_copies(alloc: Global, out: &mut Vec<SqlText>, names: &[String]) -> Result<(), NoMemory>
+    ensures { OnOk result (out.new.items ≡ out.old.items ++ map string_bytes names.now) }
+{
+    for name in names {
+        out.push(copied(alloc, name.as_str())?)?;
+    }
+    Ok(())
+}
+
 /// The names of a path, from the last to the first.
 pub(crate) fn names_backwards(alloc: Global, names: &Names) -> Result<Vec<SqlText>, NoMemory>
     ensures { IfOk result (λ v. v.items ≡ backwards names.now.first names.now.more) }
@@ -23,9 +33,7 @@ pub(crate) fn names_backwards(alloc: Global, names: &Names) -> Result<Vec<SqlTex
     let (last, before) = names.from_last();
     let mut path = Vec::new(alloc);
     path.push(copied(alloc, last)?)?;
-    for name in before {
-        path.push(copied(alloc, name.as_str())?)?;
-    }
+    push_copies(alloc, &mut path, before)?;
     Ok(path)
 }
 

@@ -14,7 +14,6 @@ use std::slice::from_ref;
 
 /// Takes in an expression of a clause that sees these levels.
 #[cycle(walk)]
-#[tactic(auto, using(crate::proofs::Joined::nodes))]
 fn walk_expression(
     alloc: Global,
     schema: &Schema,
@@ -142,7 +141,6 @@ fn walk_items(
 
 /// Takes in a source: its leaves and its conditions, each of which sees the leaves of its join.
 #[cycle(walk)]
-#[tactic(auto, using(crate::proofs::Joined::nodes))]
 fn walk_source(
     alloc: Global,
     schema: &Schema,
@@ -214,7 +212,6 @@ fn walk_from(
 }
 
 #[cycle(walk)]
-#[tactic(auto, using(crate::proofs::Lists::parts))]
 fn walk_distinct(
     alloc: Global,
     schema: &Schema,
@@ -239,7 +236,6 @@ fn walk_distinct(
 
 /// Takes in what a select statement selects.
 #[cycle(walk)]
-#[tactic(auto, using(crate::proofs::Lists::parts))]
 fn walk_selected(
     alloc: Global,
     schema: &Schema,
@@ -262,7 +258,6 @@ fn walk_selected(
 }
 
 #[cycle(walk)]
-#[tactic(auto, using(crate::proofs::Lists::parts))]
 fn walk_group(
     alloc: Global,
     schema: &Schema,
@@ -284,7 +279,6 @@ fn walk_group(
 }
 
 #[cycle(walk)]
-#[tactic(auto, using(crate::proofs::Lists::parts))]
 fn walk_order(
     alloc: Global,
     schema: &Schema,
@@ -297,14 +291,16 @@ fn walk_order(
         ≡ after.after_ordered schema.now.tables levels.now known.old (query_tree q.now)) }
 {
     match q {
-        Query::Select(_, _, _, _, _, _, _, o, ..) => { walk_items(alloc, schema, known, levels, o) }
+        Query::Select(_, _, _, _, _, _, _, o, ..) => {
+            walk_items(alloc, schema, known, levels, o)?;
+            Ok(())
+        }
         Query::Combined(..) => Ok(()),
     }
 }
 
 /// Takes in a statement that a clause which sees these levels encloses.
 #[cycle(walk)]
-#[tactic(auto, using(crate::proofs::Joined::nodes))]
 pub(crate) fn walk_query(
     alloc: Global,
     schema: &Schema,
