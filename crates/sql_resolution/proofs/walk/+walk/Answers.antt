@@ -1,6 +1,6 @@
 use Rattle.std.proofs.Common.{refl, ap, ◌∙◌}
 use Rattle.sql_tree.proofs.Views.{every_seen, distinct_seen, distinct_on_seen, compared_seen, connected_seen, in_list_seen, in_query_seen, join_seen, select_seen, combined_seen}
-use Rattle.sql_tree.specs.View.{source_tree, query_tree}
+use Rattle.sql_tree.specs.View.{expression_tree, source_tree, query_tree, kind_of}
 use Rattle.sql_resolution.proofs.Joined.{path_after, placeholder_after, single_after, exists_after, compared_after, connected_after, not_after, null_test_after, count_all_after, count_after, in_list_after, in_query_after, constant_after, table_after, alias_after, join_after, combined_after}
 use Rattle.sql_resolution.proofs.Lists.{every_after, distinct_after, distinct_on_after, selected_after, selected_none, grouped_after, grouped_none, ordered_after, ordered_none}
 use Rattle.sql_resolution.proofs.Seen.{path_seen, placeholder_seen, single_seen, exists_seen, not_seen, null_test_seen, count_all_seen, count_seen, constant_seen, table_seen, alias_seen}
@@ -100,7 +100,7 @@ pub walk_query-returns-in_ok-walk_order-in-Select : goal.walk_query-returns-in_o
 walk_query-returns-in_ok-walk_order-in-Select t c =
     let seen = ap query_tree c.in-Select.is ∙ select_seen _ _ _ _ _ _ _ _ _ _ in
     let level = rw c.count.ensures at c.in_ok-own-in-Select.ensures in
-    let here = c.from_ref-here.ensures in
+    let here = c.from_ref-here.ensures.value in
     let wide = c.as_slice.ensures.value ∙ c.in_ok-wide-in-Select.ensures in
     let k1 = rw here at c.in_ok-walk_distinct-in-Select.ensures in
     let k2 = rw (here, k1) at c.in_ok-walk_selected-in-Select.ensures in
@@ -144,5 +144,10 @@ walk_source-returns-in_ok-walk_expression-in-Join t c =
     let left = rw c.deref.ensures at c.in_ok-walk_source-in-Join.ensures in
     let right = rw (c.deref-in-Join.ensures, left) at c.in_ok-walk_source-in-Join-2.ensures in
     let all =
-    rw (c.from_ref.ensures, c.deref-in-Join-2.ensures, right) at c.in_ok-walk_expression-in-Join.ensures in
-    rw (seen, join_after c.args.schema.now.tables c.args.known.now _ _ _ _ _ level) all
+    rw (c.from_ref.ensures.value, c.deref-in-Join-2.ensures, right) at c.in_ok-walk_expression-in-Join.ensures in
+    rw (
+      seen,
+      join_after c.args.schema.now.tables c.args.known.now (kind_of c.in-Join.field-0) (source_tree c.in-Join.a.value)
+          (source_tree c.in-Join.b.value) (expression_tree c.in-Join.on.value) c.in_ok-level-in-Join.level level,
+    )
+    all
