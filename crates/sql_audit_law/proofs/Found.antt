@@ -120,7 +120,7 @@ columns-apart (u ∷ us) e t (inr h) =
 
 -- what a search finds passes its test
 found-further : {A : Type 0} (test : A → Bool) (x : A) (xs : List A) → test x ≡ false → find test (x ∷ xs) ≡ find test xs
-found-further test x xs no = rw no refl
+found-further test x xs fails = rw fails refl
 
 some-step : {A : Type 0} (test : A → Bool) (P : A → Type 0) → ((x : A) → test x ≡ true → P x) → (x : A) (xs : List A)
     (b : Bool) → test x ≡ b → (is_some (find test xs) ≡ true → AnyOf P xs)

@@ -118,28 +118,24 @@ module _ (d : Dialect) where
     expr-tables (list es) h = exprs-tables es h
     expr-tables count_star h = refl
     expr-tables (nullable e) h = expr-tables e h
-    expr-tables (not_of e) h = one-table (g.Not (lead (trees d e))) ∙ operand-tables e h
-    expr-tables (null_test n e) h = one-table (g.NullTest n (lead (trees d e))) ∙ operand-tables e h
-    expr-tables (count e) h = one-table (g.Count (lead (trees d e))) ∙ operand-tables e h
+    expr-tables (not_of e) h = one-table (g.Not (lead (trees d e))) ∙ operand d e (sources_expr d e) h.0 (expr-tables e h.1)
+    expr-tables (null_test n e) h = one-table (g.NullTest n (lead (trees d e))) ∙ operand d e (sources_expr d e) h.0 (expr-tables e h.1)
+    expr-tables (count e) h = one-table (g.Count (lead (trees d e))) ∙ operand d e (sources_expr d e) h.0 (expr-tables e h.1)
     expr-tables (compared by a b) h =
         one-table (g.Compared (comparison_of by) (lead (trees d a)) (lead (trees d b)))
-        ∙ joined-places _ _ (sources_expr d a) (sources_expr d b) (operand-tables a h.0) (operand-tables b h.1)
+        ∙ joined-places _ _ (sources_expr d a) (sources_expr d b) (operand d a (sources_expr d a) h.0.0 (expr-tables a h.0.1)) (operand d b (sources_expr d b) h.1.0 (expr-tables b h.1.1))
     expr-tables (joined by a b) h =
         one-table (g.Connected (logic_of by) (lead (trees d a)) (lead (trees d b)))
-        ∙ joined-places _ _ (sources_expr d a) (sources_expr d b) (operand-tables a h.0) (operand-tables b h.1)
+        ∙ joined-places _ _ (sources_expr d a) (sources_expr d b) (operand d a (sources_expr d a) h.0.0 (expr-tables a h.0.1)) (operand d b (sources_expr d b) h.1.0 (expr-tables b h.1.1))
     expr-tables (exists q) h = one-table (g.Exists (filled d q)) ∙ query-tables q h
     expr-tables (single q) h = one-table (g.SingleValue (filled d q)) ∙ query-tables q h
     expr-tables (among_values n e t vs) h =
         one-table (among_as (array d) n (lead (trees d e)) (ManyValues t vs) (map (OneValue t) vs))
         ∙ among-tables (array d) n (lead (trees d e)) (ManyValues t vs) t vs
-        ∙ ap (kept (array d) vs) (operand-tables e h) ∙ kept-places (array d) vs (sources_expr d e)
+        ∙ ap (kept (array d) vs) (operand d e (sources_expr d e) h.0 (expr-tables e h.1)) ∙ kept-places (array d) vs (sources_expr d e)
     expr-tables (among_rows n e q) h =
         one-table (g.InQuery n (lead (trees d e)) (filled d q))
-        ∙ joined-places _ _ (sources_expr d e) (sources d q) (operand-tables e h.0) (query-tables q h.1)
-
-    pub operand-tables : (e : Expr) → IsSingle e × ExprHasText d e
-        → l.tables_expression (lead (trees d e)) ≡ places (sources_expr d e)
-    operand-tables e h = operand d e (sources_expr d e) h.0 (expr-tables e h.1)
+        ∙ joined-places _ _ (sources_expr d e) (sources d q) (operand d e (sources_expr d e) h.0.0 (expr-tables e h.0.1)) (query-tables q h.1)
 
     pub exprs-tables : (es : Exprs) → ExprsHaveText d es → in_trees (trees_in d es) ≡ places (sources_exprs d es)
     exprs-tables no_exprs h = refl
@@ -150,12 +146,12 @@ module _ (d : Dialect) where
     pub items-places : (is : Items) → ItemsHaveText d is → in_items (item_trees d is) ≡ places (sources_items d is)
     items-places no_items h = refl
     items-places (more_items e by is) h =
-        joined-places _ _ (sources_expr d e) (sources_items d is) (operand-tables e h.0) (items-places is h.1)
+        joined-places _ _ (sources_expr d e) (sources_items d is) (operand d e (sources_expr d e) h.0.0 (expr-tables e h.0.1)) (items-places is h.1)
 
     pub maybe-tables : (e : MaybeExpr) → MaybeHasText d e
         → l.tables_maybe (maybe_tree d e) ≡ places (sources_maybe d e)
     maybe-tables no_expr h = refl
-    maybe-tables (an_expr e) h = operand-tables e h
+    maybe-tables (an_expr e) h = operand d e (sources_expr d e) h.0 (expr-tables e h.1)
 
     pub group-tables : (e : MaybeExpr) → GroupHasText d e
         → l.tables_group (group_tree d e) ≡ places (sources_maybe d e)
@@ -164,7 +160,7 @@ module _ (d : Dialect) where
 
     pub on-tables : (e : MaybeExpr) → OnHasText d e → l.tables_expression (on_tree d e) ≡ places (sources_maybe d e)
     on-tables no_expr h = refl
-    on-tables (an_expr e) h = operand-tables e h
+    on-tables (an_expr e) h = operand d e (sources_expr d e) h.0 (expr-tables e h.1)
 
     pub source-tables : (s : Source) → SourceHasText d s → l.tables_source (source_tree d s) ≡ places (sources_source d s)
     source-tables (of_table t only sample) h = ap (λ p. p ∷ []) (table-path t)
@@ -187,10 +183,6 @@ module _ (d : Dialect) where
     order-tables no_order h = refl
     order-tables (order_by is) h = items-tables (item_trees d is) ∙ items-places is h.1
 
-    pub selection-tables : (e : Expr) → ExprHasText d e
-        → l.tables_expressions (expressions_of (trees d e)) ≡ places (sources_expr d e)
-    selection-tables e h = expressions-tables (trees d e) ∙ expr-tables e h
-
     pub query-tables : (q : Statement) → HasText d q → l.tables_query (filled d q) ≡ places (sources d q)
     query-tables (select default e f u w o rows g h form marks) t =
         let s6 = sources_maybe d h ++ sources_order d o in
@@ -199,13 +191,21 @@ module _ (d : Dialect) where
         let s3 = sources_from d f ++ s4 in
         let s2 = sources_expr d e ++ s3 in
         joined-places _ _ (sources_distinct d u) s2 (distinct-tables u t.0)
-        (joined-places _ _ (sources_expr d e) s3 (selection-tables e t.1.1)
+        (joined-places _ _ (sources_expr d e) s3 (expressions-tables (trees d e) ∙ expr-tables e t.1.1)
         (joined-places _ _ (sources_from d f) s4 (from-tables-of f t.2)
         (joined-places _ _ (sources_maybe d w) s5 (maybe-tables w t.3)
         (joined-places _ _ (sources_maybe d g) s6 (group-tables g t.4)
         (joined-places _ _ (sources_maybe d h) (sources_order d o) (maybe-tables h t.5) (order-tables o t.6))))))
     query-tables (combination by all a b o rows) t =
         joined-places _ _ (sources d a) (sources d b) (query-tables a t.0) (query-tables b t.2)
+
+  pub operand-tables : (e : Expr) → IsSingle e × ExprHasText d e
+      → l.tables_expression (lead (trees d e)) ≡ places (sources_expr d e)
+  operand-tables e h = operand d e (sources_expr d e) h.0 (expr-tables e h.1)
+
+  pub selection-tables : (e : Expr) → ExprHasText d e
+      → l.tables_expressions (expressions_of (trees d e)) ≡ places (sources_expr d e)
+  selection-tables e h = expressions-tables (trees d e) ∙ expr-tables e h
 
   -- ## How many they are
 

@@ -130,6 +130,29 @@ module _ (ts : List TableDecl) (apart : any_two tables_clash ts ≡ false)
       → Stand ts os (xs ++ ys) (cs ++ ds)
   two xs ys cs ds p q = stand-append ts os xs ys cs ds p q
 
+  -- the one tree of an operand, two of them, and all those of a list
+  one-uses : (ls : List Level) (n : ℕ) (e : Expr) → IsSingle e
+      → Stand ts os (uses_trees ls n (trees d e)) (columns_expr d e)
+      → Stand ts os (u.uses_expression ls n (lead (trees d e))) (columns_expr d e)
+  one-uses ls n e h st =
+      stand-same ts os (u.uses_expression ls n (lead (trees d e))) (uses_trees ls n (trees d e)) (columns_expr d e)
+      (lone d ls n e h) st
+
+  pair-uses : (ls : List Level) (n m : ℕ) (a b : Expr) → IsSingle a → IsSingle b
+      → Stand ts os (uses_trees ls n (trees d a)) (columns_expr d a)
+      → Stand ts os (uses_trees ls (n + m) (trees d b)) (columns_expr d b)
+      → Stand ts os (u.uses_expression ls n (lead (trees d a)) ++ u.uses_expression ls (n + m) (lead (trees d b)))
+      (columns_expr d a ++ columns_expr d b)
+  pair-uses ls n m a b g h p q =
+      two (u.uses_expression ls n (lead (trees d a))) (u.uses_expression ls (n + m) (lead (trees d b))) (columns_expr d a)
+      (columns_expr d b) (one-uses ls n a g p) (one-uses ls (n + m) b h q)
+
+  list-uses : (ls : List Level) (n : ℕ) (e : Expr) → Stand ts os (uses_trees ls n (trees d e)) (columns_expr d e)
+      → Stand ts os (u.uses_expressions ls n (expressions_of (trees d e))) (columns_expr d e)
+  list-uses ls n e st =
+      stand-same ts os (u.uses_expressions ls n (expressions_of (trees d e))) (uses_trees ls n (trees d e)) (columns_expr d e)
+      (expressions-trees ls n (trees d e)) st
+
   mutual
     expr-uses : (v : View) (ls : List Level) (n : ℕ) (e : Expr) → ExprHasText d e → Sees ts os v ls
         → AreAt os n (sources_expr d e) → Each (Fine ts v) (nodes e) → Each (FinePart ts) (in_expr v e)
@@ -143,21 +166,33 @@ module _ (ts : List TableDecl) (apart : any_two tables_clash ts ≡ false)
     expr-uses v ls n (nullable e) t s at f p = expr-uses v ls n e t s at f.1 p
     expr-uses v ls n (not_of e) t s at f p =
         stand-same ts os _ _ (columns_expr d e) (one-tree ls n (g.Not (lead (trees d e))))
-        (operand-uses v ls n e t s at f.1 p)
+        (one-uses ls n e t.0 (expr-uses v ls n e t.1 s at f.1 p))
     expr-uses v ls n (null_test k e) t s at f p =
         stand-same ts os _ _ (columns_expr d e) (one-tree ls n (g.NullTest k (lead (trees d e))))
-        (operand-uses v ls n e t s at f.1 p)
+        (one-uses ls n e t.0 (expr-uses v ls n e t.1 s at f.1 p))
     expr-uses v ls n (count e) t s at f p =
         stand-same ts os _ _ (columns_expr d e) (one-tree ls n (g.Count (lead (trees d e))))
-        (operand-uses v ls n e t s at f.1 p)
+        (one-uses ls n e t.0 (expr-uses v ls n e t.1 s at f.1 p))
     expr-uses v ls n (compared by a b) t s at f p =
         stand-same ts os _ _ (columns_expr d a ++ columns_expr d b)
         (one-tree ls n (g.Compared (comparison_of by) (lead (trees d a)) (lead (trees d b))))
-        (pair-uses v ls n a b t s at f.1 p)
+        (pair-uses ls n (length (l.tables_expression (lead (trees d a)))) a b t.0.0 t.1.0
+        (expr-uses v ls n a t.0.1 s (at-front os n (sources_expr d a) (sources_expr d b) at)
+        (each_front (Fine ts v) (nodes a) (nodes b) f.1) (each_front (FinePart ts) (in_expr v a) (in_expr v b) p))
+        (expr-uses v ls (n + length (l.tables_expression (lead (trees d a)))) b t.1.1 s
+        (at-back os n (sources_expr d a) (sources_expr d b) (length (l.tables_expression (lead (trees d a))))
+        (places.operand-count d a t.0) at)
+        (each_back (Fine ts v) (nodes a) (nodes b) f.1) (each_back (FinePart ts) (in_expr v a) (in_expr v b) p)))
     expr-uses v ls n (joined by a b) t s at f p =
         stand-same ts os _ _ (columns_expr d a ++ columns_expr d b)
         (one-tree ls n (g.Connected (logic_of by) (lead (trees d a)) (lead (trees d b))))
-        (pair-uses v ls n a b t s at f.1 p)
+        (pair-uses ls n (length (l.tables_expression (lead (trees d a)))) a b t.0.0 t.1.0
+        (expr-uses v ls n a t.0.1 s (at-front os n (sources_expr d a) (sources_expr d b) at)
+        (each_front (Fine ts v) (nodes a) (nodes b) f.1) (each_front (FinePart ts) (in_expr v a) (in_expr v b) p))
+        (expr-uses v ls (n + length (l.tables_expression (lead (trees d a)))) b t.1.1 s
+        (at-back os n (sources_expr d a) (sources_expr d b) (length (l.tables_expression (lead (trees d a))))
+        (places.operand-count d a t.0) at)
+        (each_back (Fine ts v) (nodes a) (nodes b) f.1) (each_back (FinePart ts) (in_expr v a) (in_expr v b) p)))
     expr-uses v ls n (exists q) t s at f p =
         stand-same ts os _ _ (columns_in d q) (one-tree ls n (g.Exists (filled d q))) (query-uses v ls n q t s at p)
     expr-uses v ls n (single q) t s at f p =
@@ -166,40 +201,16 @@ module _ (ts : List TableDecl) (apart : any_two tables_clash ts ≡ false)
         stand-same ts os _ _ (kept (array d) vs (columns_expr d e))
         (one-tree ls n (among_as (array d) k (lead (trees d e)) (ManyValues ty vs) (map (OneValue ty) vs)))
         (among-stands ts os ls n (array d) k (lead (trees d e)) (ManyValues ty vs) ty vs (sources_expr d e) (columns_expr d e)
-        at (λ a. operand-uses v ls n e t s a f.1 p))
+        at (λ a. one-uses ls n e t.0 (expr-uses v ls n e t.1 s a f.1 p)))
     expr-uses v ls n (among_rows k e q) t s at f p =
         let m = length (l.tables_expression (lead (trees d e))) in
         stand-same ts os _ _ (columns_expr d e ++ columns_in d q)
         (one-tree ls n (g.InQuery k (lead (trees d e)) (filled d q)))
         (two (u.uses_expression ls n (lead (trees d e))) (u.uses_query ls (n + m) (filled d q)) (columns_expr d e)
         (columns_in d q)
-        (operand-uses v ls n e t.0 s (at-front os n (sources_expr d e) (sources d q) at) f.1
-        (each_front (FinePart ts) (in_expr v e) (parts v q) p))
+        (one-uses ls n e t.0.0 (expr-uses v ls n e t.0.1 s (at-front os n (sources_expr d e) (sources d q) at) f.1 (each_front (FinePart ts) (in_expr v e) (parts v q) p)))
         (query-uses v ls (n + m) q t.1 s (at-back os n (sources_expr d e) (sources d q) m (places.operand-count d e t.0) at)
         (each_back (FinePart ts) (in_expr v e) (parts v q) p)))
-
-    operand-uses : (v : View) (ls : List Level) (n : ℕ) (e : Expr) → IsSingle e × ExprHasText d e → Sees ts os v ls
-        → AreAt os n (sources_expr d e) → Each (Fine ts v) (nodes e) → Each (FinePart ts) (in_expr v e)
-        → Stand ts os (u.uses_expression ls n (lead (trees d e))) (columns_expr d e)
-    operand-uses v ls n e t s at f p =
-        stand-same ts os _ _ (columns_expr d e) (lone d ls n e t.0) (expr-uses v ls n e t.1 s at f p)
-
-    pair-uses : (v : View) (ls : List Level) (n : ℕ) (a b : Expr)
-        → (IsSingle a × ExprHasText d a) × (IsSingle b × ExprHasText d b) → Sees ts os v ls
-        → AreAt os n (sources_expr d a ++ sources_expr d b) → Each (Fine ts v) (nodes a ++ nodes b)
-        → Each (FinePart ts) (in_expr v a ++ in_expr v b)
-        → Stand ts os (u.uses_expression ls n (lead (trees d a))
-        ++ u.uses_expression ls (n + length (l.tables_expression (lead (trees d a)))) (lead (trees d b)))
-        (columns_expr d a ++ columns_expr d b)
-    pair-uses v ls n a b t s at f p =
-        let m = length (l.tables_expression (lead (trees d a))) in
-        two (u.uses_expression ls n (lead (trees d a))) (u.uses_expression ls (n + m) (lead (trees d b))) (columns_expr d a)
-        (columns_expr d b)
-        (operand-uses v ls n a t.0 s (at-front os n (sources_expr d a) (sources_expr d b) at)
-        (each_front (Fine ts v) (nodes a) (nodes b) f) (each_front (FinePart ts) (in_expr v a) (in_expr v b) p))
-        (operand-uses v ls (n + m) b t.1 s
-        (at-back os n (sources_expr d a) (sources_expr d b) m (places.operand-count d a t.0) at)
-        (each_back (Fine ts v) (nodes a) (nodes b) f) (each_back (FinePart ts) (in_expr v a) (in_expr v b) p))
 
     exprs-uses : (v : View) (ls : List Level) (n : ℕ) (es : Exprs) → ExprsHaveText d es → Sees ts os v ls
         → AreAt os n (sources_exprs d es) → Each (Fine ts v) (nodes_of es) → Each (FinePart ts) (in_exprs v es)
@@ -223,8 +234,7 @@ module _ (ts : List TableDecl) (apart : any_two tables_clash ts ≡ false)
         let m = length (l.tables_expression (lead (trees d e))) in
         two (u.uses_expression ls n (lead (trees d e))) (uses_item_trees ls (n + m) (item_trees d is)) (columns_expr d e)
         (columns_items d is)
-        (operand-uses v ls n e t.0 s (at-front os n (sources_expr d e) (sources_items d is) at) f.0
-        (each_front (FinePart ts) (in_expr v e) (in_items v is) p))
+        (one-uses ls n e t.0.0 (expr-uses v ls n e t.0.1 s (at-front os n (sources_expr d e) (sources_items d is) at) f.0 (each_front (FinePart ts) (in_expr v e) (in_items v is) p)))
         (items-uses v ls (n + m) is t.1 s
         (at-back os n (sources_expr d e) (sources_items d is) m (places.operand-count d e t.0) at) f.1
         (each_back (FinePart ts) (in_expr v e) (in_items v is) p))
@@ -234,27 +244,21 @@ module _ (ts : List TableDecl) (apart : any_two tables_clash ts ≡ false)
         → Each (FinePart ts) (in_maybe v e)
         → Stand ts os (u.uses_maybe ls n (maybe_tree d e)) (columns_maybe d e)
     maybe-uses place v ls n no_expr t s at f p = stand-none ts os
-    maybe-uses place v ls n (an_expr e) t s at f p = operand-uses v ls n e t s at f.0 p
+    maybe-uses place v ls n (an_expr e) t s at f p = one-uses ls n e t.0 (expr-uses v ls n e t.1 s at f.0 p)
 
     on-uses : (v : View) (ls : List Level) (n : ℕ) (e : MaybeExpr) → OnHasText d e → Sees ts os v ls
         → AreAt os n (sources_maybe d e) → Each (FineClause ts) (maybe_clause in_on v e)
         → Each (FinePart ts) (in_maybe v e)
         → Stand ts os (u.uses_expression ls n (on_tree d e)) (columns_maybe d e)
     on-uses v ls n no_expr t s at f p = stand-none ts os
-    on-uses v ls n (an_expr e) t s at f p = operand-uses v ls n e t s at f.0 p
-
-    list-uses : (v : View) (ls : List Level) (n : ℕ) (e : Expr) → ExprHasText d e → Sees ts os v ls
-        → AreAt os n (sources_expr d e) → Each (Fine ts v) (nodes e) → Each (FinePart ts) (in_expr v e)
-        → Stand ts os (u.uses_expressions ls n (expressions_of (trees d e))) (columns_expr d e)
-    list-uses v ls n e t s at f p =
-        stand-same ts os _ _ (columns_expr d e) (expressions-trees ls n (trees d e)) (expr-uses v ls n e t s at f p)
+    on-uses v ls n (an_expr e) t s at f p = one-uses ls n e t.0 (expr-uses v ls n e t.1 s at f.0 p)
 
     group-uses : (v : View) (ls : List Level) (n : ℕ) (e : MaybeExpr) → GroupHasText d e → Sees ts os v ls
         → AreAt os n (sources_maybe d e) → Each (FineClause ts) (maybe_clause in_group_by v e)
         → Each (FinePart ts) (in_maybe v e)
         → Stand ts os (u.uses_group ls n (group_tree d e)) (columns_maybe d e)
     group-uses v ls n no_expr t s at f p = stand-none ts os
-    group-uses v ls n (an_expr e) t s at f p = list-uses v ls n e t.1 s at f.0 p
+    group-uses v ls n (an_expr e) t s at f p = list-uses ls n e (expr-uses v ls n e t.1 s at f.0 p)
 
     distinct-uses : (v : View) (ls : List Level) (n : ℕ) (w : Distinct) → DistinctHasText d w → Sees ts os v ls
         → AreAt os n (sources_distinct d w) → Each (FineClause ts) (distinct_clause v w)
@@ -262,7 +266,7 @@ module _ (ts : List TableDecl) (apart : any_two tables_clash ts ≡ false)
         → Stand ts os (u.uses_distinct ls n (distinct_tree d w)) (columns_distinct d w)
     distinct-uses v ls n every t s at f p = stand-none ts os
     distinct-uses v ls n distinct t s at f p = stand-none ts os
-    distinct-uses v ls n (distinct_on e) t s at f p = list-uses v ls n e t.2 s at f.0 p
+    distinct-uses v ls n (distinct_on e) t s at f p = list-uses ls n e (expr-uses v ls n e t.2 s at f.0 p)
 
     order-uses : (v : View) (ls : List Level) (n : ℕ) (o : Order) → OrderHasText d o → Sees ts os v ls
         → AreAt os n (sources_order d o) → Each (FineClause ts) (order_clauses v o) → Each (FinePart ts) (in_order v o)
@@ -393,8 +397,7 @@ module _ (ts : List TableDecl) (apart : any_two tables_clash ts ≡ false)
         (distinct-uses v here n w t.0 near (at-front os n (sources_distinct d w) s2 at)
         (each_front (FineClause ts) (distinct_clause v w) c1 p.0.0) (each_front (FinePart ts) (in_distinct v w) q1 p.1))
         (two x1 (x2 ++ (x3 ++ (x4 ++ (x5 ++ x6)))) (columns_expr d e) k2
-        (list-uses v here n1 e t.1.1 near (at-front os n1 (sources_expr d e) s3 a1) f1.0
-        (each_front (FinePart ts) (in_expr v e) q2 p1))
+        (list-uses here n1 e (expr-uses v here n1 e t.1.1 near (at-front os n1 (sources_expr d e) s3 a1) f1.0 (each_front (FinePart ts) (in_expr v e) q2 p1)))
         (two x2 (x3 ++ (x4 ++ (x5 ++ x6))) (columns_from d f) k3
         (from-uses n2 f t.2 (at-front os n2 (sources_from d f) s4 a2) p.0.1
         (each_front (FineClause ts) (ons_of f) c3 f2) (each_front (FinePart ts) (in_from f) q3 p2))
