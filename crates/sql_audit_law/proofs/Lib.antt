@@ -1,0 +1,9 @@
+pub mod Pairs
+pub mod Marks
+pub mod Places
+pub mod Found
+pub mod Sought
+pub mod Standing
+pub mod Uses
+pub mod Known
+pub mod Reported

@@ -1,0 +1,4 @@
+pub mod Leaves
+pub mod Uses
+pub mod Meant
+pub mod inside
