@@ -1,0 +1,2 @@
+-- What is written for an audited text.
+pub mod Line
