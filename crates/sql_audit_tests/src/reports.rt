@@ -34,8 +34,8 @@ fn reports(rt: HostRuntime) -> Result<(), Fail> {
         ),
         // a part of a path may stand for it
         (
-            "SELECT \"s\".\"mod\".\"type\", \"mod\".\"id\", \"type\" FROM \"s\".\"mod\"",
-            "parts : 0.parts.kind 0.parts.id 0.parts.kind",
+            "SELECT \"s\".\"mod\".\"type\", \"mod\".\"id\" FROM \"s\".\"mod\"",
+            "parts : 0.parts.kind 0.parts.id",
         ),
         (
             "(SELECT \"users\".\"id\" FROM \"users\") UNION (SELECT \"posts\".\"id\" FROM \"posts\")",
@@ -75,17 +75,18 @@ fn refusals(rt: HostRuntime) -> Result<(), Fail> {
              ON (\"p\".\"id\" = \"users\".\"id\")))",
             "NotInScope",
         ),
+        // an alias is spelled as the end of a table's path
         (
-            "SELECT \"id\" FROM (\"users\" INNER JOIN \"posts\" ON (\"posts\".\"user_id\" = \"users\".\"id\"))",
+            "SELECT \"mod\".\"id\" FROM (\"s\".\"mod\" INNER JOIN \"users\" AS \"mod\" ON ($1 = $2))",
             "Ambiguous",
         ),
         // the first refusal that holds anywhere
         (
-            "SELECT \"users\".\"nope\" FROM (\"users\" INNER JOIN \"x\" ON (1=1))",
+            "SELECT \"users\".\"nope\" FROM (\"users\" INNER JOIN \"x\" ON ($1 = $2))",
             "UnknownTable",
         ),
         (
-            "SELECT \"id\", \"users\".\"nope\" FROM (\"users\" INNER JOIN \"posts\" ON (1=1))",
+            "SELECT \"mod\".\"id\", \"users\".\"nope\" FROM (\"s\".\"mod\" INNER JOIN \"users\" AS \"mod\" ON ($1 = $2))",
             "NotInScope",
         ),
     ] {
