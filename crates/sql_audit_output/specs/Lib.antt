@@ -1,2 +1,3 @@
 -- What is written for an audited text.
 pub mod Line
+pub mod Output

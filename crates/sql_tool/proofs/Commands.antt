@@ -10,7 +10,7 @@ use Rattle.sql_document.specs.Names.{dialect_of, dialect_text, dialects}
 use Rattle.sql_tool.proofs.Counts.{count-back, count-some}
 use Rattle.sql_tool.specs.Command.{AreWordsOf, command_of, count_of}
 use Rattle.sql_tool.specs.declared.command.Command.{Command}
-use Rattle.sql_tool.specs.declared.command.Command.TheVariants.{Build, Generate, Read}
+use Rattle.sql_tool.specs.declared.command.Command.TheVariants.{Build, Generate, Read, Audit}
 
 -- ---- tests
 
@@ -82,17 +82,28 @@ reading w v c is h =
     let words : w ∷ v ∷ [] ≡ codes "read" ∷ dialect_text d ∷ [] = λ i. same-words w (codes "read") is i ∷ dialect-back v d named i ∷ [] in
     subst (λ k. AreWordsOf k (w ∷ v ∷ [])) own words
 
-two-words : (w v : List ℕ) (a b : Bool) (c : Command) → bytes_eq w (codes "generate") ≡ a → bytes_eq w (codes "read") ≡ b
-    → cond a (option_map Generate (count_of v)) (cond b (option_map Read (dialect_of v)) None) ≡ Some c
+auditing : (w v : List ℕ) (c : Command) → bytes_eq w (codes "audit") ≡ true → option_map Audit (dialect_of v) ≡ Some c
     → AreWordsOf c (w ∷ v ∷ [])
-two-words w v true b c is it h = generated w v c is h
-two-words w v false true c is it h = reading w v c it h
-two-words w v false false c is it h = none_some c h
+auditing w v c is h =
+    let (d, named, own) = mapped Audit (dialect_of v) c h in
+    let words : w ∷ v ∷ [] ≡ codes "audit" ∷ dialect_text d ∷ [] = λ i. same-words w (codes "audit") is i ∷ dialect-back v d named i ∷ [] in
+    subst (λ k. AreWordsOf k (w ∷ v ∷ [])) own words
+
+two-words : (w v : List ℕ) (a b e : Bool) (c : Command) → bytes_eq w (codes "generate") ≡ a
+    → bytes_eq w (codes "read") ≡ b → bytes_eq w (codes "audit") ≡ e
+    → cond a (option_map Generate (count_of v))
+    (cond b (option_map Read (dialect_of v)) (cond e (option_map Audit (dialect_of v)) None))
+    ≡ Some c → AreWordsOf c (w ∷ v ∷ [])
+two-words w v true b e c is it that h = generated w v c is h
+two-words w v false true e c is it that h = reading w v c it h
+two-words w v false false true c is it that h = auditing w v c that h
+two-words w v false false false c is it that h = none_some c h
 
 told : (given : List (List ℕ)) (c : Command) → command_of given ≡ Some c → AreWordsOf c given
 told [] c h = none_some c h
 told (w ∷ []) c h = one-word w (bytes_eq w (codes "build")) c refl h
-told (w ∷ v ∷ []) c h = two-words w v (bytes_eq w (codes "generate")) (bytes_eq w (codes "read")) c refl refl h
+told (w ∷ v ∷ []) c h =
+    two-words w v (bytes_eq w (codes "generate")) (bytes_eq w (codes "read")) (bytes_eq w (codes "audit")) c refl refl refl h
 told (w ∷ v ∷ u ∷ ws) c h = none_some c h
 
 -- and with its own words a command is told
@@ -101,6 +112,7 @@ telling given Build is = ap command_of is
 telling given (Generate n) (is, within) =
     ap command_of is ∙ ap (option_map Generate) (count-some (decimal n) n within refl)
 telling given (Read d) is = ap command_of is ∙ ap (option_map Read) (dialect-forth d)
+telling given (Audit d) is = ap command_of is ∙ ap (option_map Audit) (dialect-forth d)
 
 pub is-told : (given : List (List ℕ)) (c : Command) → (command_of given ≡ Some c) ↔ AreWordsOf c given
 is-told given c = (told given c, telling given c)

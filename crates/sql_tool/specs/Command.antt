@@ -5,12 +5,14 @@ use Rattle.std.specs.Str.{bytes_eq}
 use Rattle.std.specs.Str.Parse.{digits_value}
 use Rattle.sql_document.specs.Documents.{Document, document}
 use Rattle.sql_document.specs.Names.{dialect_of, dialect_text}
+use Rattle.sql_document.specs.Texts.{Texts, texts_in}
 use Rattle.sql_generate.specs.Summary.{IsSummary}
+use Rattle.sql_audit_output.specs.Output.{IsAuditOutput, IsAuditOutputPrefix}
 use Rattle.sql_output.specs.Output.{IsOutput, IsOutputPrefix}
 use Rattle.sql_read_output.specs.Input.{input_text}
 use Rattle.sql_read_output.specs.Line.{IsReadingLine}
 use Rattle.sql_tool.specs.declared.command.Command.{Command}
-use Rattle.sql_tool.specs.declared.command.Command.TheVariants.{Build, Generate, Read}
+use Rattle.sql_tool.specs.declared.command.Command.TheVariants.{Build, Generate, Read, Audit}
 use Rattle.sql_tool.specs.declared.command.TheConstants.{MAX_REQUESTS}
 
 -- ---- words
@@ -28,6 +30,7 @@ command_of (w ∷ []) = if bytes_eq w (codes "build") then Some Build else None
 command_of (w ∷ v ∷ []) =
     if bytes_eq w (codes "generate") then option_map Generate (count_of v)
     else if bytes_eq w (codes "read") then option_map Read (dialect_of v)
+    else if bytes_eq w (codes "audit") then option_map Audit (dialect_of v)
     else None
 command_of (w ∷ v ∷ u ∷ words) = None
 
@@ -36,6 +39,7 @@ abbrev pub AreWordsOf : Command → List (List ℕ) → Type 0
 AreWordsOf Build words = words ≡ codes "build" ∷ []
 AreWordsOf (Generate n) words = (words ≡ codes "generate" ∷ decimal n ∷ []) × (n ≤ MAX_REQUESTS)
 AreWordsOf (Read d) words = words ≡ codes "read" ∷ dialect_text d ∷ []
+AreWordsOf (Audit d) words = words ≡ codes "audit" ∷ dialect_text d ∷ []
 
 -- ---- input
 
@@ -44,12 +48,14 @@ abbrev pub reads_source : Command → Bool
 reads_source Build = true
 reads_source (Generate n) = false
 reads_source (Read d) = true
+reads_source (Audit d) = true
 
 -- the bytes aren't what the command reads
 abbrev pub IsBadInput : Command → List ℕ → Type 0
 IsBadInput Build given = document given ≡ None
 IsBadInput (Generate n) given = ⊥
 IsBadInput (Read d) given = input_text given ≡ None
+IsBadInput (Audit d) given = texts_in given ≡ None
 
 -- ---- output
 
@@ -58,6 +64,7 @@ abbrev pub IsOutputOf : Command → List ℕ → List ℕ → Type 0
 IsOutputOf Build given written = (d : Document) × (document given ≡ Some d) × IsOutput d written
 IsOutputOf (Generate n) given written = IsSummary n written
 IsOutputOf (Read d) given written = (t : List ℕ) × (input_text given ≡ Some t) × IsReadingLine d t written
+IsOutputOf (Audit d) given written = (x : Texts) × (texts_in given ≡ Some x) × IsAuditOutput d x written
 
 -- the first bytes of a text
 abbrev pub IsPrefixOf : List ℕ → List ℕ → Type 0
@@ -69,6 +76,7 @@ IsOutputPrefixOf Build given written = (d : Document) × (document given ≡ Som
 IsOutputPrefixOf (Generate n) given written = (whole : List ℕ) × IsSummary n whole × IsPrefixOf whole written
 IsOutputPrefixOf (Read d) given written =
     (t : List ℕ) × (input_text given ≡ Some t) × ((whole : List ℕ) × IsReadingLine d t whole × IsPrefixOf whole written)
+IsOutputPrefixOf (Audit d) given written = (x : Texts) × (texts_in given ≡ Some x) × IsAuditOutputPrefix d x written
 
 -- What a command that is done has read and written, where its source had these bytes, AtEnd says that it is at the end now, and
 -- Written which bytes the sink has taken.

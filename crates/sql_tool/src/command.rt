@@ -16,6 +16,8 @@ pub enum Command {
     Generate(u32),
     /// `read D`: reads a text in a dialect, and writes it as its tree is written, in one line.
     Read(Dialect),
+    /// `audit D`: reads a schema and texts in a dialect, and writes a line for each text: which tables and columns it uses.
+    Audit(Dialect),
 }
 
 impl Command {
@@ -45,6 +47,7 @@ impl Command {
         match word {
             "generate" => Some(Command::Generate(count(argument)?)),
             "read" => Some(Command::Read(dialect(argument)?)),
+            "audit" => Some(Command::Audit(dialect(argument)?)),
             _ => None,
         }
     }
@@ -54,7 +57,7 @@ impl Command {
         ensures { result ≡ reads_source self }
     {
         match self {
-            Command::Build | Command::Read(_) => true,
+            Command::Build | Command::Read(_) | Command::Audit(_) => true,
             Command::Generate(_) => false,
         }
     }
