@@ -39,7 +39,10 @@ writes() { ended 0 '' && cmp "$work/out" "$1"; }
 run build <"$top/crates/sql_tool/stdin"
 check 'the stored run' writes "$top/crates/sql_tool/stdout"
 for document in "$top"/examples/*.json; do
-    run build <"$document"
+    case $document in
+    */audit.json) run audit Pg <"$document" ;;
+    *) run build <"$document" ;;
+    esac
     check "${document##*/}" writes "${document%.json}.jsonl"
 done
 # A text is named by what it shows and its dialect.
@@ -79,6 +82,8 @@ check 'generated requests, closed output' ended 5 WriteFault
 printf 'SELECT "\377"."x"' >"$work/bytes"
 run read Pg <"$work/bytes"
 check 'a text that is not UTF-8' is_empty 3 BadDocument
+run audit Pg <"$top/examples/filter.json"
+check 'an audit of no texts' is_empty 3 BadDocument
 # One table and one filter, and the same without the last byte.
 cat >"$work/first" <<'TXT'
 {"schema":{"tables":[{"name":"foo","columns":[{"name":"id","type":"Integer"},{"name":"mytype","sql_name":"type","type":"Integer"},{"name":"hey","sql_name":"bleh","type":"Integer"}]}]},"requests":[{"dialect":"Pg","query":{"from":{"table":"foo"},"calls":[["filter",{"eq":[{"col":["foo","mytype"]},{"bind":["Integer",1]}]}]]}}]}
@@ -149,7 +154,7 @@ done <<'TXT'
 997 4000 ["union",{"from":{"table":"foo"}}]
 998 16000 ["nullable"]
 TXT
-for words in '' 'Build' 'build x' 'generate' 'generate 007' 'generate +7' 'generate 100001' 'read' 'read pg'; do
+for words in '' 'Build' 'build x' 'generate' 'generate 007' 'generate +7' 'generate 100001' 'read' 'read pg' 'audit' 'audit pg'; do
     # shellcheck disable=SC2086
     run $words </dev/null
     check "words '$words'" is_empty 2 Usage

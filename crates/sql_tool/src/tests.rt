@@ -129,6 +129,11 @@ fn words_that_are_no_command(rt: HostRuntime) -> Result<(), Fail> {
     assert_eq!(rt; status_of_words(alloc, &["read"])?, Status::Usage);
     assert_eq!(rt; status_of_words(alloc, &["read", "pg"])?, Status::Usage);
     assert_eq!(rt; status_of_words(alloc, &["read", "Pg"])?, Status::Done);
+    assert_eq!(rt; status_of_words(alloc, &["audit", "pg"])?, Status::Usage);
+    assert_eq!(rt;
+        status_of_words(alloc, &["audit", "Pg"])?,
+        Status::BadDocument
+    );
     Ok(())
 }
 
@@ -250,6 +255,25 @@ fn texts(rt: HostRuntime) -> Result<(), Fail> {
         assert_eq!(rt; to.bytes(), line.as_bytes(), "{text}");
     }
     let (status, to) = answered(alloc, &["read", "Pg"], b"SELECT \"\xff\".\"x\"")?;
+    assert_eq!(rt; status, Status::BadDocument);
+    assert!(rt; to.bytes().is_empty());
+    Ok(())
+}
+
+/// A schema, a text over it, and a text that is none.
+const TEXTS: &str =
+    "{\"schema\":{\"tables\":[{\"name\":\"users\",\"columns\":[{\"name\":\"id\",\"type\":\"Integer\"}]}]},\"texts\":[\"SELECT \\\"users\\\".\\\"id\\\" FROM \\\"users\\\"\",\"x\"]}";
+
+const AUDITED: &str =
+    "{\"columns\":[[\"users\",\"id\"]],\"sources\":[0],\"tables\":[\"users\"]}\n{\"refused\":\"NotInGrammar\"}\n";
+
+#[test]
+fn audited_texts(rt: HostRuntime) -> Result<(), Fail> {
+    let alloc = rt.alloc();
+    let (status, to) = answered(alloc, &["audit", "Pg"], TEXTS.as_bytes())?;
+    assert_eq!(rt; status, Status::Done);
+    assert_eq!(rt; to.bytes(), AUDITED.as_bytes());
+    let (status, to) = answered(alloc, &["audit", "Mysql"], INPUT.as_bytes())?;
     assert_eq!(rt; status, Status::BadDocument);
     assert!(rt; to.bytes().is_empty());
     Ok(())
