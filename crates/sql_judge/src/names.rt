@@ -5,7 +5,7 @@ ghost use Rattle.std.specs.Prelude.{◌≡◌, false, map};
 ghost use Rattle.std.specs.Bool.{Decides};
 ghost use Rattle.std.specs.List.{list_any};
 ghost use Rattle.sql_schema.specs.Refusals.{any_two, tables_clash};
-ghost use Rattle.sql_source.specs.Lent.{origin_of};
+ghost use Rattle.sql_source.specs.Borrowed.{origin_of};
 ghost use Rattle.sql_rules.specs.Lists.{AnyOf};
 ghost use Rattle.sql_rules.specs.Rules.{IsColumn, IsOutOfScope, IsSeen, IsTable, IsUnknownColumn};
 ghost use Rattle.sql_source.specs.Origins.{same_column as one_column, same_table};
