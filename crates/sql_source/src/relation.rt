@@ -33,8 +33,7 @@ fn refers_from(child: &Table, parent: &Table, joinable: &JoinableDecl) -> bool
 fn relation<'s>(schema: &'s Schema, one: &Table, other: &Table) -> Option<&'s JoinableDecl>
     ensures { option_map (λ j. j.now) result ≡ related schema.now one.now other.now }
 {
-    schema.joinables().iter().find(|joinable| refers_from(one, other, joinable)
-        || refers_from(other, one, joinable))
+    schema.relation(one.name(), other.name())
 }
 
 /// The column of a key that has one alone.
