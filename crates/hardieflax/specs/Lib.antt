@@ -4,6 +4,7 @@ pub use Rattle.sql_schema.specs.Columns
 pub use Rattle.sql_schema.specs.Declarations
 pub use Rattle.sql_schema.specs.Equality
 pub use Rattle.sql_schema.specs.Refusals
+pub use Rattle.sql_schema.specs.Relations
 pub use Rattle.sql_schema.specs.Together
 pub use Rattle.sql_schema.specs.declared.declaration.ColumnDecl
 pub use Rattle.sql_schema.specs.declared.declaration.JoinableDecl
