@@ -97,3 +97,8 @@ pub use Rattle.sql_meaning.specs.Fitting as AnswerFitting
 pub use Rattle.sql_meaning.specs.Frames
 pub use Rattle.sql_meaning.specs.Rows
 pub use Rattle.sql_meaning.specs.Values
+-- What the reader gives.
+pub use Rattle.sql_read.specs.Seen as ReadTrees
+pub use Rattle.sql_read.specs.declared.error.ReadError
+pub use Rattle.sql_tree.specs.Counts as TreeCounts
+pub use Rattle.sql_tree.specs.View as TreeViews
