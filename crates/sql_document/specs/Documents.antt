@@ -40,10 +40,14 @@ document_of d = do
   requests ← each request_of items
   Some (record { schema = schema; requests = requests })
 
--- a document in a value whose numbers all are whole and of 64 bits
-unfoldable pub of_data : Data → Option Document
-of_data d = if has_float d then None else document_of d
+-- a value whose numbers all are whole and of 64 bits
+abbrev pub without_floats : Data → Option Data
+without_floats d = if has_float d then None else Some d
+
+-- the value that the bytes are
+unfoldable pub value_in : List ℕ → Option Data
+value_in bytes = if is_utf8 bytes then read bytes >>= without_floats else None
 
 -- the document that the bytes are
 unfoldable pub document : List ℕ → Option Document
-document bytes = if is_utf8 bytes then read bytes >>= of_data else None
+document bytes = value_in bytes >>= document_of

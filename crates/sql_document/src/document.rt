@@ -1,6 +1,6 @@
 ghost use Rattle.std.specs.Prelude.{◌≡◌, map, option_map};
 ghost use Rattle.serde_json.specs.View.{view, items_view};
-ghost use Rattle.sql_document.specs.Documents.{request_of, document_of, of_data, document};
+ghost use Rattle.sql_document.specs.Documents.{request_of, document_of, without_floats, value_in, document};
 ghost use Rattle.sql_document.specs.Members.{each, items_at};
 ghost use Rattle.sql_document.specs.Giving.{Gives};
 ghost use Rattle.sql_document.specs.Trees.{request_tree, document_tree};
@@ -65,7 +65,7 @@ fn take_items(alloc: Global, value: Value, name: &str) -> Option<Vec<Value>>
 }
 
 #[tactic(auto, unfolding(crate::specs::Documents::document_of))]
-fn whole(alloc: Global, value: Value) -> Result<Document, Refusal>
+pub(crate) fn whole(alloc: Global, value: Value) -> Result<Document, Refusal>
     ensures { Gives document_tree result (document_of (view value)) }
 {
     let declarations = value.get("schema").ok_or(Refusal::NotADocument)?;
@@ -78,24 +78,31 @@ fn whole(alloc: Global, value: Value) -> Result<Document, Refusal>
     })
 }
 
-#[tactic(auto, unfolding(crate::specs::Documents::of_data))]
-fn of_value(alloc: Global, value: Value) -> Result<Document, Refusal>
-    ensures { Gives document_tree result (of_data (view value)) }
+fn whole_numbers(value: Value) -> Result<Value, Refusal>
+    ensures { Gives view result (without_floats (view value)) }
 {
     if has_float(&value) {
         return Err(Refusal::NotADocument);
     }
-    whole(alloc, value)
+    Ok(value)
 }
 
-/// The document that the bytes are, else `NotADocument`; or `NoMemory`.
-#[tactic(auto, unfolding(crate::specs::Documents::document, crate::specs::Documents::of_data))]
-pub fn read_document(alloc: Global, bytes: &[u8]) -> Result<Document, Refusal>
-    ensures { Gives document_tree result (document bytes.now) }
+/// The JSON value that the bytes are, where its numbers all are whole.
+pub(crate) fn json(alloc: Global, bytes: &[u8]) -> Result<Value, Refusal>
+    ensures { Gives view result (value_in bytes.now) }
 {
     match Value::from_slice(alloc, bytes) {
-        Ok(value) => of_value(alloc, value),
+        Ok(value) => whole_numbers(value),
         Err(error) if error.is_memory() => Err(Refusal::NoMemory),
         Err(_) => Err(Refusal::NotADocument),
     }
+}
+
+/// The document that the bytes are, else `NotADocument`; or `NoMemory`.
+#[tactic(auto, unfolding(crate::specs::Documents::document))]
+pub fn read_document(alloc: Global, bytes: &[u8]) -> Result<Document, Refusal>
+    ensures { Gives document_tree result (document bytes.now) }
+{
+    let value = json(alloc, bytes)?;
+    whole(alloc, value)
 }

@@ -1,4 +1,4 @@
-//! Documents: a schema and requests, as JSON.
+//! Documents: a schema and requests, as JSON; also with a guard, or with texts in place of requests.
 //!
 //! A document is decoded into plain syntax, in which tables and columns are the names that it gives them. All forms are
 //! checked in this one pass. Whether the schema has the names is looked up afterwards, request by request.
@@ -9,6 +9,7 @@ mod document;
 mod each;
 mod expr;
 mod float;
+mod guard;
 mod member;
 mod names;
 mod order;
@@ -16,9 +17,12 @@ mod query;
 mod refusal;
 mod schema;
 mod source;
+mod texts;
 mod value;
 
 pub use document::{Document, Request, read_document};
+pub use guard::{Guard, Guarded, read_guarded};
 pub use names::{dialect_name, type_name};
 pub use query::depth_changes_nothing;
 pub use refusal::Refusal;
+pub use texts::{Texts, read_texts};

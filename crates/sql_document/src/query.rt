@@ -6,7 +6,7 @@ ghost use Rattle.serde_json.specs.View.{view, items_view};
 ghost use Rattle.sql_document.specs.Members.{each, each_if_any};
 ghost use Rattle.sql_document.specs.Giving.{Gives};
 ghost use Rattle.sql_document.specs.Queries.{start_of, query_from, expr_of, source_of, query_of, call_of, nesting_bound};
-ghost use Rattle.sql_syntax.specs.View.{query_tree, query_start_tree, call_tree};
+ghost use Rattle.sql_syntax.specs.View.{expr_tree, query_tree, query_start_tree, call_tree};
 
 use crate::call::call;
 use crate::expr::expr;
@@ -98,6 +98,13 @@ pub(crate) fn whole_query(alloc: Global, value: &Value) -> Result<Query, Refusal
     ensures { Gives query_tree result (query_of nesting_bound (view value.now)) }
 {
     query(alloc, value, NESTING_BOUND)
+}
+
+/// The expression that a JSON value is.
+pub(crate) fn whole_expr(alloc: Global, value: &Value) -> Result<Expr, Refusal>
+    ensures { Gives expr_tree result (expr_of nesting_bound (view value.now)) }
+{
+    expr(alloc, value, NESTING_BOUND)
 }
 
 /// Beyond a value's own depth, the bound on the nesting changes nothing.

@@ -1,0 +1,44 @@
+ghost use Rattle.std.specs.Prelude.{◌≡◌};
+ghost use Rattle.serde_json.specs.View.{view};
+ghost use Rattle.sql_document.specs.Texts.{texts_of, texts_in};
+ghost use Rattle.sql_document.specs.Giving.{Gives};
+ghost use Rattle.sql_document.specs.Trees.{texts_tree};
+
+use crate::document::json;
+use crate::each::decode_each;
+use crate::member::items;
+use crate::refusal::Refusal;
+use crate::schema::schema;
+use serde_json::Value;
+use sql_schema::{Schema, SqlList, SqlText};
+use std::alloc::Global;
+
+/// A schema and texts: `{"schema":SCHEMA,"texts":[text..]}`.
+#[derive(Drop)]
+pub struct Texts {
+    pub schema: Schema,
+    pub texts: SqlList<SqlText>,
+}
+
+#[tactic(auto, unfolding(crate::specs::Texts::texts_of))]
+fn whole_texts(alloc: Global, value: &Value) -> Result<Texts, Refusal>
+    ensures { Gives texts_tree result (texts_of (view value.now)) }
+{
+    let declarations = value.get("schema").ok_or(Refusal::NotADocument)?;
+    let schema = schema(alloc, declarations)?;
+    let items = items(value, "texts").ok_or(Refusal::NotADocument)?;
+    let texts: Vec<SqlText> = decode_each(alloc, items)?;
+    Ok(Texts {
+        schema,
+        texts: SqlList::from(texts),
+    })
+}
+
+/// The schema and texts that the bytes are, else `NotADocument`; or `NoMemory`.
+#[tactic(auto, unfolding(crate::specs::Texts::texts_in))]
+pub fn read_texts(alloc: Global, bytes: &[u8]) -> Result<Texts, Refusal>
+    ensures { Gives texts_tree result (texts_in bytes.now) }
+{
+    let value = json(alloc, bytes)?;
+    whole_texts(alloc, &value)
+}
