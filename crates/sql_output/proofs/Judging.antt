@@ -14,7 +14,7 @@ use Rattle.sql_output.specs.Objects.{line_object, refused, statement_data}
 use Rattle.sql_output.specs.Judgement.{IsAccepted, Judges, refuses, accepts}
 use Rattle.sql_output.specs.Output.{Line, StatementRequest}
 use Rattle.sql_rows.specs.declared.cache.RequestKey.{RequestKey}
-use Rattle.sql_output.specs.inside.Keys.{keyed, id_found, IsKept, HasLine}
+use Rattle.sql_output.specs.inside.Keys.{keyed, id_found, line_found, IsKept, HasLine}
 
 option_or-none : (o : Option ℕ) → o ≡ option_or o None
 option_or-none None = refl
@@ -39,12 +39,12 @@ module _ (schema : Declarations) (r : StatementRequest) (n : ℕ) (f : RequestKe
   abbrev IsObject : Data → Line → Type 0
   IsObject v l = v ≡ line_object l.dialect l.id l.judgement
 
-  pub unknown-line : (v : Data) → None ≡ r.statement → v ≡ refused (rule_text UnknownName)
-      → HasLine schema r n f f (IsObject v)
-  unknown-line v none is = (
+  pub unknown-line : (Said : Line → Type 0) → None ≡ r.statement
+      → Said (line_found f n r.dialect (refuses (rule_text UnknownName))) → HasLine schema r n f f Said
+  unknown-line Said none said = (
     refuses (rule_text UnknownName),
     subst (λ o. Judges schema r.dialect o (refuses (rule_text UnknownName))) none refl,
-    is,
+    said,
     kept-none f n,
   )
 

@@ -6,5 +6,5 @@ mod line;
 mod object;
 
 pub use known::request_id;
-pub use line::{compile_cached_for, compile_for, request_line};
+pub use line::{compile_cached_for, compile_for, refusal_line, request_line, statement_line};
 pub use sql_rows::{RequestKey, StatementCache};

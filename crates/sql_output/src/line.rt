@@ -1,5 +1,6 @@
-ghost use Rattle.std.specs.Prelude.{◌≡◌, IfOk, IfErr, OnOk, Some, option_map, string_bytes};
+ghost use Rattle.std.specs.Prelude.{◌≡◌, [], ◌∷◌, ◌++◌, false, IfOk, IfErr, OnOk, Some, option_map, string_bytes};
 ghost use Rattle.serde_json.specs.View.{view};
+ghost use Rattle.serde_json.specs.Written.{compact_text, has_float};
 ghost use Rattle.sql_check.specs.Compiled.{IsBuilt, IsLeast, IsRead};
 ghost use Rattle.sql_check.specs.Errors.{rule_of};
 ghost use Rattle.sql_document.specs.Trees.{request_tree};
@@ -12,7 +13,7 @@ ghost use Rattle.sql_output.specs.Output.{line_text, statement_request};
 ghost use Rattle.sql_output.specs.inside.Keys.{keyed, id_found, seen_at, IsKept, HasLine};
 
 use crate::known::request_id;
-use crate::object::{accepted, refused};
+use crate::object::{accepted, refused, refused_by};
 use serde_json::Value as Json;
 use sql_build::statement;
 use sql_check::{Built, CompileError, Rule};
@@ -113,27 +114,65 @@ fn refuse(alloc: Global, error: CompileError) -> Result<Json, AllocError>
     }
 }
 
-/// The object of the request with this number, where `seen` has the keys of those before it. What the cache holds changes no answer.
-fn request_object(
+/// The object of a statement, as that of the request with this number, where `seen` has the keys of those before it. What the cache
+/// holds changes no answer.
+fn statement_object(
     alloc: Global,
     cache: &mut StatementCache,
     seen: &mut BTreeMap<RequestKey, u64>,
     number: u64,
-    request: &Request,
+    dialect: Dialect,
+    statement: &Statement,
 ) -> Result<Json, AllocError>
     ensures object { IfOk result (λ v. HasLine cache.old.schema
-        (statement_request cache.old.schema (request_tree request.now))
+        (record { dialect = dialect; statement = Some (statement_tree statement.now) })
         number (seen_at seen.old) (seen_at seen.new)
         (λ l. view v ≡ line_object l.dialect l.id l.judgement)) }
     ensures schema { cache.new.schema ≡ cache.old.schema }
 {
-    match statement(alloc, cache.schema(), request.dialect, &request.query)? {
-        None => refused(alloc, Rule::UnknownName),
-        Some(statement) => match compile_cached_for(alloc, request.dialect, cache, &statement) {
-            Ok(built) => accept(alloc, request.dialect, seen, number, built),
-            Err(error) => refuse(alloc, error),
-        },
+    match compile_cached_for(alloc, dialect, cache, statement) {
+        Ok(built) => accept(alloc, dialect, seen, number, built),
+        Err(error) => refuse(alloc, error),
     }
+}
+
+/// Compact JSON, and a newline.
+fn line_of(alloc: Global, object: &Json) -> Result<String, AllocError>
+    ensures { IfOk result (λ text. has_float (view object.now) ≡ false
+        → string_bytes text ≡ compact_text (view object.now) ++ 10 ∷ []) }
+{
+    let mut text = object.to_string(alloc)?;
+    text.push_str("\n")?;
+    Ok(text)
+}
+
+/// The line of a request that is refused by this name: `{"refused":"NotInScope"}` and a newline.
+pub fn refusal_line(alloc: Global, name: &str) -> Result<String, AllocError>
+    ensures { IfOk result (λ text. string_bytes text
+        ≡ compact_text (refused_data name.now) ++ 10 ∷ []) }
+{
+    let object = refused_by(alloc, name)?;
+    line_of(alloc, &object)
+}
+
+/// The line of a statement, as that of the request with this number, where `seen` has the keys of those before it. What the cache holds
+/// changes no line.
+pub fn statement_line(
+    alloc: Global,
+    cache: &mut StatementCache,
+    seen: &mut BTreeMap<RequestKey, u64>,
+    number: u64,
+    dialect: Dialect,
+    statement: &Statement,
+) -> Result<String, AllocError>
+    ensures line { IfOk result (λ text. HasLine cache.old.schema
+        (record { dialect = dialect; statement = Some (statement_tree statement.now) })
+        number (seen_at seen.old) (seen_at seen.new)
+        (λ l. string_bytes text ≡ line_text l)) }
+    ensures schema { cache.new.schema ≡ cache.old.schema }
+{
+    let object = statement_object(alloc, cache, seen, number, dialect, statement)?;
+    line_of(alloc, &object)
 }
 
 /// The line of the request with this number, where `seen` has the keys of those before it. What the cache holds changes no line.
@@ -150,8 +189,10 @@ pub fn request_line(
         (λ l. string_bytes text ≡ line_text l)) }
     ensures schema { cache.new.schema ≡ cache.old.schema }
 {
-    let value = request_object(alloc, cache, seen, number, request)?;
-    let mut text = value.to_string(alloc)?;
-    text.push_str("\n")?;
-    Ok(text)
+    match statement(alloc, cache.schema(), request.dialect, &request.query)? {
+        None => refusal_line(alloc, Rule::UnknownName.name()),
+        Some(statement) => {
+            statement_line(alloc, cache, seen, number, request.dialect, &statement)
+        }
+    }
 }

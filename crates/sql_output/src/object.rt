@@ -101,9 +101,16 @@ pub fn accepted(
     })
 }
 
-/// The line of a refused request: `{"refused":"NotInScope"}`.
+/// The line of a request that is refused by this name: `{"refused":"NotInScope"}`.
+pub fn refused_by(alloc: Global, name: &str) -> Result<Json, AllocError>
+    ensures { IfOk result (λ v. view v ≡ refused_data name.now) }
+{
+    json!(in alloc; {"refused": name})
+}
+
+/// The line of a request that breaks a rule.
 pub fn refused(alloc: Global, rule: Rule) -> Result<Json, AllocError>
     ensures { IfOk result (λ v. view v ≡ refused_data (rule_text rule)) }
 {
-    json!(in alloc; {"refused": rule.name()})
+    refused_by(alloc, rule.name())
 }

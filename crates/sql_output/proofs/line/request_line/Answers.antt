@@ -1,19 +1,37 @@
-use Rattle.std.proofs.Common.{◌≡◌, ◌++◌, ◌∷◌, [], false, ap, ◌∙◌}
-use Rattle.serde_json.specs.View.{view}
-use Rattle.serde_json.specs.Written.{has_float, compact_text}
-use Rattle.sql_output.proofs.Lines.{float-object}
-use Rattle.sql_output.specs.Output.{line_text}
-use Rattle.sql_output.specs.inside.Keys.{line_found, seen_at}
+use Rattle.std.proofs.Common.{◌≡◌, ◌++◌, ◌∷◌, [], None, Some, option_map, sym, subst, ap, ◌∙◌}
+use Rattle.std.specs.Prelude.{IfOk, string_bytes}
+use Rattle.std.proofs.lemmas.Result.{IfOk-weaker}
+use Rattle.serde_json.specs.Written.{compact_text}
+use Rattle.sql_schema.specs.Declarations.{Declarations}
+use Rattle.sql_node.specs.View.{statement_tree}
+use Rattle.sql_document.specs.Trees.{request_tree}
+use Rattle.sql_output.proofs.Judging.{unknown-line}
+use Rattle.sql_output.specs.Objects.{refused}
+use Rattle.sql_output.specs.Output.{line_text, statement_request}
+use Rattle.sql_output.specs.inside.Keys.{HasLine, seen_at}
 use Rattle.sql_output.proofs.line.request_line.Goals as goal
 
-pub returns-clause-line : goal.returns-clause-line
+pub returns-in-None-clause-line : goal.returns-in-None-clause-line
 unfolding line_text
+returns-in-None-clause-line c =
+    let schema = c.args.cache.now.schema in
+    let r = statement_request schema (request_tree c.args.request.now) in
+    let none : None ≡ r.statement =
+    ap (option_map statement_tree) (sym c.in-None.is) ∙ c.in_ok-statement.ensures
+    ∙ ap (λ (w : Declarations). (statement_request w (request_tree c.args.request.now)).statement) c.schema.ensures in
+    IfOk-weaker c.refusal_line.result _ _
+    (λ text is. unknown-line schema r c.args.number (seen_at c.args.seen.now) (λ l. string_bytes text ≡ line_text l) none
+    (is ∙ ap (λ q. compact_text (refused q) ++ 10 ∷ []) c.name.ensures)) c.refusal_line.ensures
+
+pub returns-clause-line : goal.returns-clause-line
 returns-clause-line c =
-    let (j, judges, is, kept) = c.in_ok-value.ensures.object in
-    let l = line_found (seen_at c.args.seen.now) c.args.number c.args.request.now.dialect j in
-    let whole : has_float (view c.in_ok-value.value) ≡ false = ap has_float is ∙ float-object l.dialect l.id j in (
-      j,
-      judges,
-      c.in_ok-push_str.ensures.bytes ∙ ap (λ t. t ++ 10 ∷ []) (c.in_ok-text.ensures.text whole ∙ ap compact_text is),
-      kept,
-    )
+    let schema = c.args.cache.now.schema in
+    let r = statement_request schema (request_tree c.args.request.now) in
+    let s = statement_tree c.in-Some.statement in
+    let some : Some s ≡ r.statement =
+    ap (option_map statement_tree) (sym c.in-Some.is) ∙ c.in_ok-statement.ensures
+    ∙ ap (λ (w : Declarations). (statement_request w (request_tree c.args.request.now)).statement) c.schema.ensures in
+    subst
+    (λ o. IfOk c.statement_line.result (λ text. HasLine schema (record { dialect = r.dialect; statement = o }) c.args.number
+    (seen_at c.args.seen.now) (seen_at c.statement_line.new.seen) (λ l. string_bytes text ≡ line_text l)))
+    some c.statement_line.ensures.line
