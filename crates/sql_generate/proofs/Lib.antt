@@ -1,5 +1,4 @@
 pub mod Totals
 pub mod Counting
 pub mod Tallies
-pub mod Named
 pub mod Summaries

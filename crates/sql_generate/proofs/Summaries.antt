@@ -4,10 +4,11 @@ use Rattle.sql_dialect.specs.declared.backend.Dialect.TheVariants.{Sqlite}
 use Rattle.sql_output.proofs.Lines.{lines-length}
 use Rattle.sql_output.proofs.Once.{same-lines}
 use Rattle.sql_output.specs.Output.{Line, AreLines}
-use Rattle.sql_generate.specs.Generated.{dialect_at, form_at, generated, request}
-use Rattle.sql_generate.specs.Schema.{declarations}
+use Rattle.sql_series.specs.Generated.{dialect_at, form_at}
+use Rattle.sql_generate.specs.Generated.{generated, request}
+use Rattle.sql_series.specs.Schema.{declarations}
 use Rattle.sql_generate.specs.Summary.{IsSummary, summary_text}
-use Rattle.sql_generate.specs.declared.form.Form.TheVariants.{WithPosts}
+use Rattle.sql_series.specs.declared.form.Form.TheVariants.{WithPosts}
 
 -- ---- what is left of remainders
 

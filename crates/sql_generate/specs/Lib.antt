@@ -1,5 +1,4 @@
 -- The line that sums up generated requests.
-pub mod Schema
 pub mod Generated
 pub mod Counts
 pub mod Summary

@@ -8,7 +8,7 @@ use Rattle.sql_rules.specs.declared.rule.Rule.{Rule}
 use Rattle.sql_output.specs.Output.{Line, AreLines}
 use Rattle.sql_generate.specs.Counts.{accepted, binds, bytes, ids, refused_as}
 use Rattle.sql_generate.specs.Generated.{generated}
-use Rattle.sql_generate.specs.Schema.{declarations}
+use Rattle.sql_series.specs.Schema.{declarations}
 
 -- a count, cut at the last number of 64 bits
 abbrev pub cut : ℕ → ℕ

@@ -3,10 +3,7 @@
 #![tactic(auto)]
 
 mod counts;
-mod form;
 mod requests;
-mod schema;
-mod statements;
 mod summary;
 
 pub use requests::{generate, one_summary};

@@ -5,19 +5,19 @@ ghost use Rattle.sql_rules.specs.declared.rule.Rule.{Rule};
 ghost use Rattle.sql_output.specs.inside.Keys.{HasLine, IsKept, id_found, keyed, seen_at};
 ghost use Rattle.sql_generate.specs.Counts.{is_own as is_own_number};
 ghost use Rattle.sql_generate.specs.Generated.{request};
-ghost use Rattle.sql_generate.specs.Schema.{declarations};
+ghost use Rattle.sql_series.specs.Schema.{declarations};
 ghost use Rattle.sql_generate.specs.Summary.{IsSummary};
-ghost use Rattle.sql_generate.specs.inside.Counting.{AreNamed, IsWithRefused, TellMore, with_accepted};
+ghost use Rattle.sql_series.specs.inside.Named.{AreNamed};
+ghost use Rattle.sql_generate.specs.inside.Counting.{IsWithRefused, TellMore, with_accepted};
 
 use crate::counts::Counts;
-use crate::form::{dialect_of, form_of};
-use crate::statements::Named;
 use crate::summary::summary_line;
 use sql_check::{Built, CompileError};
 use sql_dialect::Dialect;
 use sql_key::QueryKey;
 use sql_output::{RequestKey, compile_for, request_id};
 use sql_schema::NoMemory;
+use sql_series::{Named, dialect_of, form_of};
 use std::alloc::{AllocError, Global};
 use std::collections::BTreeMap;
 

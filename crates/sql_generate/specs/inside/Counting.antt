@@ -1,26 +1,13 @@
--- What the functions inside `generate` promise: the program's own counters, and the names that it has looked up.
+-- What the functions inside `generate` promise: the program's own counters.
 use Rattle.std.specs.Prelude.{◌≡◌, ℕ, zero, suc, ◌+◌, List, [], ◌∷◌, ◌++◌, length, Bool, Option, Some, None}
 use Rattle.std.specs.BTreeMap.{get_by_text}
 use Rattle.std.specs.Map.{update}
 use Rattle.std.specs.Option.{unwrap_or}
 use Rattle.std.specs.Str.{bytes_eq}
-use Rattle.sql_schema.specs.Columns.{column_of}
 use Rattle.sql_output.specs.Output.{Line}
 use Rattle.sql_generate.specs.Counts.{one_if, accepted, binds, bytes, ids, refused_as}
-use Rattle.sql_generate.specs.Schema as given
 use Rattle.sql_generate.specs.Summary.{cut}
 use Rattle.sql_generate.specs.declared.counts.Counts.{Counts}
-use Rattle.sql_generate.specs.declared.statements.Named.{Named}
-
--- these are the schema, and the tables and columns of it that requests name
-pub record AreNamed (n : Named) : Type 0 where
-  pub schema : n.schema ≡ given.declarations
-  pub users : n.users ≡ given.users
-  pub id : n.id ≡ column_of given.users given.id
-  pub name : n.name ≡ column_of given.users given.name
-  pub posts : n.posts ≡ given.posts
-  pub user_id : n.user_id ≡ column_of given.posts given.user_id
-  pub title : n.title ≡ column_of given.posts given.title
 
 -- ---- what a look-up by name has of lines
 

@@ -7,10 +7,11 @@ use Rattle.sql_node.specs.View.{statement_tree}
 use Rattle.sql_output.specs.Output.{StatementRequest}
 use Rattle.sql_output.specs.inside.Keys.{HasLine, seen_at}
 use Rattle.sql_generate.proofs.Counting.{accepted-counted, refused-counted}
-use Rattle.sql_generate.specs.Generated.{request, dialect_of, form_of, statement_with}
-use Rattle.sql_generate.specs.Schema.{declarations}
+use Rattle.sql_series.specs.Generated.{dialect_of, form_of, statement_with}
+use Rattle.sql_generate.specs.Generated.{request}
+use Rattle.sql_series.specs.Schema.{declarations}
 use Rattle.sql_generate.specs.inside.Counting.{TellMore}
-use Rattle.sql_generate.specs.declared.form.Form.{Form}
+use Rattle.sql_series.specs.declared.form.Form.{Form}
 use Rattle.sql_generate.proofs.requests.count.Goals as goal
 
 -- a request of these parts

@@ -4,8 +4,9 @@ use Rattle.sql_output.proofs.Lines.{line-found, line-kept, lines-more}
 use Rattle.sql_output.specs.Output.{AreLines}
 use Rattle.sql_output.specs.inside.Keys.{line_found, seen_at}
 use Rattle.sql_generate.proofs.Summaries.{generated-more, next-number}
-use Rattle.sql_generate.specs.Generated.{generated, request, dialect_of}
-use Rattle.sql_generate.specs.Schema.{declarations}
+use Rattle.sql_series.specs.Generated.{dialect_of}
+use Rattle.sql_generate.specs.Generated.{generated, request}
+use Rattle.sql_series.specs.Schema.{declarations}
 use Rattle.sql_generate.proofs.requests.generate.Goals as goal
 
 pub loop-number-init : goal.loop-number-init

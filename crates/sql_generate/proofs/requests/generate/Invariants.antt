@@ -4,7 +4,7 @@ use Rattle.sql_output.proofs.Keys.{Tells}
 use Rattle.sql_output.specs.Output.{Line, AreLines}
 use Rattle.sql_output.specs.inside.Keys.{seen_at}
 use Rattle.sql_generate.specs.Generated.{generated}
-use Rattle.sql_generate.specs.Schema.{declarations}
+use Rattle.sql_series.specs.Schema.{declarations}
 use Rattle.sql_generate.specs.inside.Counting.{Tell}
 use Rattle.sql_generate.proofs.requests.generate.Given as goal
 

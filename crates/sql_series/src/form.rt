@@ -1,11 +1,11 @@
 ghost use Rattle.std.specs.Prelude.{◌≡◌};
-ghost use Rattle.sql_generate.specs.Generated.{dialect_of as dialect_numbered, form_of as form_numbered};
+ghost use Rattle.sql_series.specs.Generated.{dialect_of as dialect_numbered, form_of as form_numbered};
 
 use sql_dialect::Dialect;
 
 /// What a generated request asks for.
 #[derive(Debug, Clone, Copy, PartialEq, Eq)]
-pub(crate) enum Form {
+pub enum Form {
     /// The user of a number.
     ById,
     /// As many names and titles as a number.
@@ -25,7 +25,7 @@ pub(crate) enum Form {
 }
 
 /// The form of the request of this number.
-pub(crate) fn form_of(number: u32) -> Form
+pub fn form_of(number: u32) -> Form
     ensures { result ≡ form_numbered number }
 {
     match number / 3 % 8 {
@@ -41,7 +41,7 @@ pub(crate) fn form_of(number: u32) -> Form
 }
 
 /// The dialect of the request of this number.
-pub(crate) fn dialect_of(number: u32) -> Dialect
+pub fn dialect_of(number: u32) -> Dialect
     ensures { result ≡ dialect_numbered number }
 {
     match number % 3 {

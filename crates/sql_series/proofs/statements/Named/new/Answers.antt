@@ -1,5 +1,5 @@
-use Rattle.sql_generate.proofs.Named.{are-users, are-posts, is-id, is-name, is-user_id, is-title}
-use Rattle.sql_generate.proofs.statements.Named.new.Goals as goal
+use Rattle.sql_series.proofs.Named.{are-users, are-posts, is-id, is-name, is-user_id, is-title}
+use Rattle.sql_series.proofs.statements.Named.new.Goals as goal
 
 pub returns : goal.returns
 returns c =

@@ -1,5 +1,5 @@
 ghost use Rattle.std.specs.Prelude.{◌≡◌, [], ◌∷◌, IfOk, None};
-ghost use Rattle.sql_generate.specs.Schema as given;
+ghost use Rattle.sql_series.specs.Schema as given;
 
 use sql_schema::{
     Base, ColumnDecl, NoMemory, Schema, SchemaBuilder, SqlList, SqlText, SqlType, TableDecl,

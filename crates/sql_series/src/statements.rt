@@ -8,8 +8,8 @@ ghost use Rattle.sql_dialect.specs.declared.combination.DuplicateRule.TheVariant
 ghost use Rattle.sql_node.specs.View.{boxed_select_statement_tree, expr_tree, select_statement_tree, statement_tree};
 ghost use Rattle.sql_node.specs.Words as by;
 ghost use Rattle.sql_select.specs.Changes.{boxed_for, combined, filtered, selected};
-ghost use Rattle.sql_generate.specs.Generated as asked;
-ghost use Rattle.sql_generate.specs.inside.Counting.{AreNamed};
+ghost use Rattle.sql_series.specs.Generated as asked;
+ghost use Rattle.sql_series.specs.inside.Named.{AreNamed};
 
 use crate::form::Form;
 use crate::schema::schema;
@@ -31,8 +31,8 @@ const WHOLE_NUMBER: SqlType = SqlType {
 
 /// The schema, and those of its tables and columns that requests name.
 #[derive(Drop)]
-pub(crate) struct Named {
-    pub(crate) schema: Schema,
+pub struct Named {
+    pub schema: Schema,
     users: Table,
     id: Column,
     name: Column,
@@ -317,7 +317,7 @@ fn with_posts(alloc: Global, named: &Named) -> Result<Statement, NoMemory>
 }
 
 impl Named {
-    pub(crate) fn new(alloc: Global) -> Result<Named, NoMemory>
+    pub fn new(alloc: Global) -> Result<Named, NoMemory>
         ensures { IfOk result AreNamed }
     {
         let schema = schema(alloc)?;
@@ -339,7 +339,7 @@ impl Named {
     }
 
     /// The statement of a form.
-    pub(crate) fn statement(
+    pub fn statement(
         &self,
         alloc: Global,
         form: Form,

@@ -3,7 +3,7 @@ use Rattle.std.proofs.Common.{◌≡◌, ◌∙◌, codes, Some, refl, ap}
 use Rattle.sql_schema.specs.Columns.{DeclaredColumn, column_in, column_of, table_named}
 use Rattle.sql_schema.specs.Declarations.{Declarations}
 use Rattle.sql_schema.specs.declared.declaration.TableDecl.{TableDecl}
-use Rattle.sql_generate.specs.Schema.{declarations, users, posts, id, name, user_id, title}
+use Rattle.sql_series.specs.Schema.{declarations, users, posts, id, name, user_id, title}
 
 one-some : {X : Type 0} (x y : X) → Some x ≡ Some y → x ≡ y
 one-some x y h = cc

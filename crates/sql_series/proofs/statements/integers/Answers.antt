@@ -1,7 +1,7 @@
 use Rattle.std.proofs.Common.{◌≡◌, ◌∙◌, ℕ, suc, ◌+◌, ◌++◌, ◌∷◌, [], pos, ap, arith, rules}
 use Rattle.sql_pass.specs.declared.value.Value.TheVariants.{Integer}
-use Rattle.sql_generate.specs.Generated.{integers}
-use Rattle.sql_generate.proofs.statements.integers.Goals as goal
+use Rattle.sql_series.specs.Generated.{integers}
+use Rattle.sql_series.proofs.statements.integers.Goals as goal
 
 integers-more : (n : ℕ) → integers n ++ Integer (pos n) ∷ [] ≡ integers (n + 1)
 integers-more n = let e : suc n ≡ n + 1 = omega arith in ap integers e
