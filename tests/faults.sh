@@ -2,8 +2,9 @@
 # Fails each allocation of a run in turn, and then each from there on. The run has to end as it does when none fails, or with NoMemory
 # (the program: status 6) and a prefix of that output. By hand, with a C compiler; it takes minutes.
 #   tests/faults.sh crates/sql_tool/out/sql_tool [crates/sql_tool/out/sql_tool_tests crates/sql_tests/out/sql_tests_tests ..]
-# The program answers three documents and a text of `examples/`, and generates requests; of the tests, as `rt test` builds them, `every_call_once` is run.
-[ $# -ge 1 ] || { sed -n '2,5s/^# *//p' "$0"; exit 2; }
+# The program answers three documents and a text of `examples/`, and generates requests; of the tests, as `rt test` builds them,
+# `every_call_once` is run, and where a crate has it `the_same_call_again`.
+[ $# -ge 1 ] || { sed -n '2,6s/^# *//p' "$0"; exit 2; }
 command -v cc >/dev/null || { echo "skipped: no C compiler"; exit 0; }
 top=$(cd "$(dirname "$0")/.." && pwd) || exit 1
 work=$(mktemp -d) || exit 1
@@ -56,5 +57,8 @@ each text 6 "$top/examples/spaces.Pg.sql" "$program" read Pg
 each generate 6 /dev/null "$program" generate 24
 for tests in "$@"; do
     each "${tests##*/}" 101 /dev/null "$tests" every_call::every_call_once
+    case $tests in
+        */sql_tests_tests) each "the same call again" 101 /dev/null "$tests" again::the_same_call_again ;;
+    esac
 done
 exit "$failed"

@@ -1,6 +1,6 @@
 #!/bin/sh
-# Checks docs/document.schema.json and docs/answer.schema.json: documents and answers are valid, and what is none is not, but for
-# what a schema cannot refuse. Needs python3 and its module jsonschema. Ends with 'N passed, M failed'.
+# Checks docs/document.schema.json, docs/answer.schema.json and docs/reading.schema.json: documents, answers and lines of texts are valid,
+# and what is none is not, but for what a schema cannot refuse. Needs python3 and its module jsonschema. Ends with 'N passed, M failed'.
 #   tests/schema.sh [crates/sql_tool/out/sql_tool]
 # Given the program, it also checks that the program takes the small documents below, and refuses what is none.
 # With ROWS=DIR in the environment it also checks the files NAME.in.json of that folder. NAME.status has the status of `build`,
@@ -24,6 +24,7 @@ def schema_of(name):
 
 
 is_document, is_answer = schema_of("document.schema.json"), schema_of("answer.schema.json")
+is_reading = schema_of("reading.schema.json")
 
 
 def parsed(text):
@@ -401,7 +402,13 @@ def expect_answers(path):
 
 for path in [*sorted((top / "examples").glob("*.json")), top / "crates/sql_tool/stdin"]:
     expect(path.name, valid(is_document, path.read_text()), True)
-for path in [*sorted((top / "examples").glob("*.jsonl")), top / "crates/sql_tool/stdout"]:
+# an example's lines are answers to its document, or of the text that is read
+for path in sorted((top / "examples").glob("*.sql")):
+    for number, line in enumerate(path.with_suffix(".jsonl").read_text().splitlines(), 1):
+        expect(f"{path.name}, line {number}", valid(is_reading, line), True)
+        expect(f"{path.name}, line {number}, as an answer", valid(is_answer, line), False)
+answers = [path for path in sorted((top / "examples").glob("*.jsonl")) if path.with_suffix(".json").exists()]
+for path in [*answers, top / "crates/sql_tool/stdout"]:
     expect_answers(path)
 
 DIALECTS = is_document.schema["$defs"]["DIALECT"]["enum"]

@@ -9,11 +9,12 @@ use sql_fixture::{INTEGER, beside, is, schema};
 use sql_judge::first_broken;
 use sql_key::{QueryId, QueryKey, expression_key};
 use sql_places::{Form, Inner, clauses, nodes, own_view, parts, widest_view};
-use sql_rows::compile_sound;
+use sql_rows::{StatementCache, compile_sound};
 use sql_schema::Schema;
 use sql_select::{Query, QueryDsl};
 use sql_types::{columns, has_too_many_binds, type_of};
 use std::alloc::Global;
+use std::num::NonZeroUsize;
 use std::test::Fail;
 
 #[test]
@@ -24,7 +25,8 @@ fn every_call_once(rt: HostRuntime) -> Result<(), Fail> {
     places(alloc)?;
     types(alloc)?;
     verdicts(alloc)?;
-    sound_types(alloc)
+    sound_types(alloc)?;
+    cached(alloc)
 }
 
 fn key(alloc: Global) -> Result<Option<QueryKey>, Fail> {
@@ -140,4 +142,15 @@ fn sound_types(alloc: Global) -> Result<(), Fail> {
     let found = sound_types_of(alloc, &schema, &ids);
     drop(ids);
     found
+}
+
+fn cached(alloc: Global) -> Result<(), Fail> {
+    let mut cache = StatementCache::new(alloc, schema(alloc)?, NonZeroUsize::MIN)?;
+    let ids = ids(alloc)?.into_statement();
+    let built = cache.compile_cached(alloc, &Pg, &ids);
+    drop(ids);
+    is(
+        built?.sql.as_str() == "SELECT \"users\".\"id\" FROM \"users\"",
+        "a statement that a cache keeps",
+    )
 }

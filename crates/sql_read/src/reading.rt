@@ -49,8 +49,8 @@ fn is_written(alloc: Global, dialect: Dialect, tree: &Tree, text: &str) -> Resul
 
 /// Reads a text in a dialect as the one tree that the grammar has for it.
 ///
-/// It takes one pass over the text, in time linear in it, and no recursion over its nesting. `NoMemory` may stand in place of any
-/// answer, and does where brackets nest deeper than `MAX_DEPTH`.
+/// The time is linear in the text: its tokens are read from the last to the first into a tree, without recursion, and the tree is then
+/// written and compared with them. `NoMemory` may stand in place of any answer, and does where brackets nest deeper than `MAX_DEPTH`.
 pub fn read(alloc: Global, dialect: Dialect, text: &str) -> Result<Tree, ReadError>
     // Ok is the text's only reading, and `NotInGrammar` says that there is none.
     ensures reading { IfOk result (λ tree. OnlyReading dialect text.now (tree_of tree)) }

@@ -6,4 +6,6 @@
 #[cfg(test)]
 mod deep;
 #[cfg(test)]
+mod every_call;
+#[cfg(test)]
 mod texts;

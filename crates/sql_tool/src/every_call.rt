@@ -4,7 +4,10 @@
 use crate::run::run;
 use crate::status::Status;
 use sql_build::statement;
+use sql_dialect::Dialect;
 use sql_document::{Document, read_document};
+use sql_generate::generate;
+use sql_read_output::reading_line;
 use sql_stream::{MemorySink, SureSource, read_all};
 use std::alloc::Global;
 use std::num::NonZeroUsize;
@@ -15,6 +18,13 @@ const DOCUMENT: &str =
 
 const LINE: &str =
     "{\"binds\":[],\"columns\":[\"Integer\"],\"id\":1,\"safe\":true,\"sql\":\"SELECT \\\"foo\\\".\\\"id\\\" FROM \\\"foo\\\"\"}\n";
+
+/// What becomes of the first generated request.
+const SUM: &str =
+    "{\"accepted\":1,\"binds\":1,\"bytes\":74,\"ids\":1,\"refused\":{},\"requests\":1}\n";
+
+/// What is told of `SELECT ?`.
+const TOLD: &str = "{\"placeholders\":1,\"sql\":\"SELECT ?\"}\n";
 
 fn source(alloc: Global) -> Result<SureSource, Fail> {
     Ok(SureSource::new(Vec::from_slice(alloc, DOCUMENT.as_bytes())?))
@@ -47,9 +57,20 @@ fn the_program(alloc: Global) -> Result<(), Fail> {
     }
 }
 
+fn lines(alloc: Global) -> Result<(), Fail> {
+    let sum = generate(alloc, 1)?;
+    let told = reading_line(alloc, Dialect::Sqlite, "SELECT ?")?;
+    if sum.as_str() == SUM && told.as_str() == TOLD {
+        Ok(())
+    } else {
+        Err("other lines")?
+    }
+}
+
 #[test]
 fn every_call_once(rt: HostRuntime) -> Result<(), Fail> {
     let alloc = rt.alloc();
     documents(alloc)?;
+    lines(alloc)?;
     the_program(alloc)
 }

@@ -241,6 +241,8 @@ fn texts(rt: HostRuntime) -> Result<(), Fail> {
         ("Pg", "SELECT   ( \"a\".\"x\"=$7 )\n", READ),
         ("Pg", "SELECT \"a\".\"x\"\n\n", NOT_READ),
         ("Mysql", "SELECT   ( \"a\".\"x\"=$7 )", NOT_READ),
+        ("Pg", "SELECT $01", NOT_READ),
+        ("Pg", "", NOT_READ),
         ("Sqlite", "", NOT_READ),
     ] {
         let (status, to) = answered(alloc, &["read", dialect], text.as_bytes())?;
