@@ -14,7 +14,7 @@ use crate::refusal::Refusal;
 use crate::source::source;
 use serde_json::Value;
 use sql_schema::SqlList;
-use sql_syntax::{Call, Query, QueryStart, all_stand};
+use sql_syntax::{Call, Expr, Query, QueryStart, all_stand};
 use std::alloc::Global;
 
 /// More than the deepest value that `serde_json` reads.

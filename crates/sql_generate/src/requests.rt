@@ -7,7 +7,7 @@ ghost use Rattle.sql_generate.specs.Counts.{is_own as is_own_number};
 ghost use Rattle.sql_generate.specs.Generated.{request};
 ghost use Rattle.sql_series.specs.Schema.{declarations};
 ghost use Rattle.sql_generate.specs.Summary.{IsSummary};
-ghost use Rattle.sql_series.specs.inside.Named.{AreNamed};
+ghost use Rattle.sql_series.specs.inside.LookedUp.{AreNamed};
 ghost use Rattle.sql_generate.specs.inside.Counting.{IsWithRefused, TellMore, with_accepted};
 
 use crate::counts::Counts;

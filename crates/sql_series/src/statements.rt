@@ -9,7 +9,7 @@ ghost use Rattle.sql_node.specs.View.{boxed_select_statement_tree, expr_tree, se
 ghost use Rattle.sql_node.specs.Words as by;
 ghost use Rattle.sql_select.specs.Changes.{boxed_for, combined, filtered, selected};
 ghost use Rattle.sql_series.specs.Generated as asked;
-ghost use Rattle.sql_series.specs.inside.Named.{AreNamed};
+ghost use Rattle.sql_series.specs.inside.LookedUp.{AreNamed};
 
 use crate::form::Form;
 use crate::schema::schema;

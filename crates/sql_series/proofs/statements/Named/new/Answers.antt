@@ -1,4 +1,4 @@
-use Rattle.sql_series.proofs.Named.{are-users, are-posts, is-id, is-name, is-user_id, is-title}
+use Rattle.sql_series.proofs.LookedUp.{are-users, are-posts, is-id, is-name, is-user_id, is-title}
 use Rattle.sql_series.proofs.statements.Named.new.Goals as goal
 
 pub returns : goal.returns
