@@ -28,7 +28,7 @@ pub struct Guarded {
 }
 
 #[tactic(auto, unfolding(crate::specs::Guards::guard_of))]
-fn guard(alloc: Global, value: &Value) -> Result<Guard, Refusal>
+fn guard_in(alloc: Global, value: &Value) -> Result<Guard, Refusal>
     ensures { Gives guard_tree result (guard_of (view value.now)) }
 {
     let name = text(value, "table").ok_or(Refusal::NotADocument)?;
@@ -43,7 +43,7 @@ fn whole_guarded(alloc: Global, value: Value) -> Result<Guarded, Refusal>
     ensures { Gives guarded_tree result (guarded_of (view value)) }
 {
     let asked = value.get("guard").ok_or(Refusal::NotADocument)?;
-    let guard = guard(alloc, asked)?;
+    let guard = guard_in(alloc, asked)?;
     let document = whole(alloc, value)?;
     Ok(Guarded { document, guard })
 }
