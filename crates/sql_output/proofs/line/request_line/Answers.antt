@@ -23,8 +23,8 @@ returns-in-None-clause-line c =
     (λ text is. unknown-line schema r c.args.number (seen_at c.args.seen.now) (λ l. string_bytes text ≡ line_text l) none
     (is ∙ ap (λ q. compact_text (refused q) ++ 10 ∷ []) c.name.ensures)) c.refusal_line.ensures
 
-pub returns-clause-line : goal.returns-clause-line
-returns-clause-line c =
+pub returns-in-Some-clause-line : goal.returns-in-Some-clause-line
+returns-in-Some-clause-line c =
     let schema = c.args.cache.now.schema in
     let r = statement_request schema (request_tree c.args.request.now) in
     let s = statement_tree c.in-Some.statement in

@@ -22,8 +22,8 @@ returns-in-Ok-clause-object c =
     (seen_at c.accept.new.seen) (view v) refl c.in-Ok.ensures.built c.in-Ok.ensures.read is kept)
     c.accept.ensures.object c.accept.ensures.kept
 
-pub returns-clause-object : goal.returns-clause-object
-returns-clause-object c =
+pub returns-in-Err-clause-object : goal.returns-in-Err-clause-object
+returns-in-Err-clause-object c =
     let schema = c.args.cache.now.schema in
     let s = statement_tree c.args.statement.now in
     let r : StatementRequest = record { dialect = c.args.dialect; statement = Some s } in
