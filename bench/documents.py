@@ -8,8 +8,9 @@ import sys
 KINDS = ["Integer", "Text", "BigInt", "Bool"]
 # A statement nests at most so deep (`MAX_DEPTH` of `sql_depth`).
 MAX_DEPTH = 1000
-# PostgreSQL allows a table so many columns.
+# PostgreSQL allows a table so many columns, and MySQL so many.
 MAX_COLUMNS = 1600
+MYSQL_COLUMNS = 4096
 
 
 def table(name, columns):
@@ -171,6 +172,13 @@ def tables(count):
 
 
 def columns(count):
+    """Columns of one table, of which three are selected."""
+    some = [{"col": ["wide", name]} for name in ("id", "c0", f"c{count - 2}")]
+    return called([["select", some]], {"from": {"table": "wide"}}, [wide("wide", count)])
+
+
+def default_selection(count):
+    """All columns of a table."""
     return one({"from": {"table": "wide"}}, [wide("wide", count)])
 
 
@@ -234,6 +242,7 @@ DIRECTIONS = {
     "compared": (compared, None),
     "tables": (tables, None),
     "columns": (columns, None),
+    "default_selection": (default_selection, MYSQL_COLUMNS),
     "relations": (relations, None),
     "grouped": (grouped, MAX_COLUMNS),
     "distinct_ordered": (distinct_ordered, MAX_COLUMNS),

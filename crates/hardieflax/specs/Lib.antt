@@ -4,6 +4,7 @@ pub use Rattle.sql_schema.specs.Columns
 pub use Rattle.sql_schema.specs.Declarations
 pub use Rattle.sql_schema.specs.Equality
 pub use Rattle.sql_schema.specs.Refusals
+pub use Rattle.sql_schema.specs.Relations
 pub use Rattle.sql_schema.specs.Together
 pub use Rattle.sql_schema.specs.declared.declaration.ColumnDecl
 pub use Rattle.sql_schema.specs.declared.declaration.JoinableDecl
@@ -101,3 +102,8 @@ pub use Rattle.sql_tenant.specs.Restricted
 pub use Rattle.sql_tenant.specs.Tenant
 pub use Rattle.sql_guard.specs.Refused
 pub use Rattle.sql_guard.specs.declared.error.RestrictError
+-- What the reader gives.
+pub use Rattle.sql_read.specs.Seen as ReadTrees
+pub use Rattle.sql_read.specs.declared.error.ReadError
+pub use Rattle.sql_tree.specs.Counts as TreeCounts
+pub use Rattle.sql_tree.specs.View as TreeViews

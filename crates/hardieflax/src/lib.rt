@@ -89,6 +89,9 @@ pub use sql_guard::{
 pub use sql_grammar::{joined_texts, one_reading, quoted_name, token_rules, written};
 pub use sql_law::{
     a_statement_is_accepted, accepted_are_read, accepted_have_text, accepted_values_fit, equal_ids,
-    list_lengths_can_be_exchanged, names_one_leaf, premises_are_needed, safe_without_value_lists,
-    values_can_be_exchanged,
+    list_lengths_can_be_exchanged, lists_are_flat, names_one_leaf, premises_are_needed,
+    safe_without_value_lists, values_can_be_exchanged,
 };
+
+// The reader: the tree of a text, and the text of a tree.
+pub use sql_read::{ReadError, Tree, placeholders, read, write};

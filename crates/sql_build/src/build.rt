@@ -8,7 +8,7 @@ ghost use Rattle.sql_build.specs.Made.{form_of};
 ghost use Rattle.sql_build.specs.Named.{both, only_where};
 
 use crate::{call, name, operator, source};
-use sql_depth::is_too_deep;
+use sql_depth::{is_expr_too_deep, is_too_deep};
 use sql_dialect::Dialect;
 use sql_expr::{Expr, InValues, JoinRhs, OrderItem, Source, Statement, count_star};
 use sql_schema::{NoMemory, Schema};
@@ -39,6 +39,29 @@ pub fn statement(
         dialect,
     };
     builder.query(query)
+}
+
+/// The expression that is written, its names looked up in the schema. None where it names a table or a column that the schema lacks, in a
+/// subselect too; and where a call in a subselect does not stand on the form that the calls before it give. One that nests deeper than
+/// `MAX_DEPTH` is NoMemory.
+pub fn expression(
+    alloc: Global,
+    schema: &Schema,
+    dialect: Dialect,
+    expr: &sql_syntax::Expr,
+) -> Result<Option<Expr>, NoMemory>
+    ensures { IfOk result (λ o. option_map expr_tree o
+        ≡ expr_in schema.now dialect (written.expr_tree expr.now)) }
+{
+    if is_expr_too_deep(expr) {
+        return Err(AllocError);
+    }
+    let builder = Builder {
+        alloc,
+        schema,
+        dialect,
+    };
+    builder.expr(expr)
 }
 
 /// Makes nodes of what is written, for a dialect.

@@ -10,4 +10,4 @@ mod operator;
 mod select;
 mod source;
 
-pub use build::statement;
+pub use build::{expression, statement};

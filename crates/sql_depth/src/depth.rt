@@ -18,6 +18,13 @@ pub fn is_too_deep(query: &Query) -> bool
     query_depth(query) > MAX_DEPTH
 }
 
+/// Whether the expression nests deeper than `MAX_DEPTH`.
+pub fn is_expr_too_deep(expr: &Expr) -> bool
+    ensures { IsTrue result ↔ (MAX_DEPTH < deep.expr_depth (expr_tree expr.now)) }
+{
+    expr_depth(expr) > MAX_DEPTH
+}
+
 #[cycle(depth)]
 #[tactic(auto, using(sql_syntax::proofs::Trees::opens_query, crate::proofs::Depths::query_capped))]
 fn query_depth(query: &Query) -> usize

@@ -3,4 +3,4 @@
 
 mod depth;
 
-pub use depth::{MAX_DEPTH, is_too_deep};
+pub use depth::{MAX_DEPTH, is_expr_too_deep, is_too_deep};

@@ -22,7 +22,7 @@ pub enum ExistsSyntax {
 /// How a value is compared with those of a list.
 #[derive(Debug, Clone, Copy, PartialEq, Eq)]
 pub enum ArrayComparison {
-    /// Each value has a place: `x IN (?, ?)`.
+    /// Each value has a placeholder: `x IN (?, ?)`.
     AnsiSqlArrayComparison,
     /// The list is one value: `x = ANY($1)`.
     PgStyleArrayComparison,

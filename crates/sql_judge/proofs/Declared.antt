@@ -1,10 +1,12 @@
 -- The tables of a schema have different names, so that the one of a table's name alone has to be compared with it.
-use Rattle.std.proofs.Common.{◌≡◌, ◌≢◌, Bool, true, false, ◌&&◌, ◌||◌, cond, ℕ, List, [], ◌∷◌, Option, Some, None, refl, sym, ap, ◌∙◌, subst, inl, inr}
+use Rattle.std.proofs.Common.{arith, ◌≡◌, ◌≢◌, ◌<◌, Bool, true, false, not, ◌&&◌, ◌||◌, cond, ℕ, zero, suc, length, List, [], ◌∷◌, Option, Some, None, refl, sym, ap, ◌∙◌, subst, inl, inr}
+use Rattle.std.specs.Prelude.{Contains}
 use Rattle.std.specs.Bool.{Decides}
 use Rattle.std.specs.List.{list_any, find}
 use Rattle.std.specs.Option.{option_eq}
 use Rattle.std.specs.Str.{bytes_eq}
 use Rattle.std.proofs.lemmas.Bool.{false≢true, true≢false, false_from_ne_true}
+use Rattle.std.proofs.lemmas.Bool.Decides.{Decides-like, Decides-not}
 use Rattle.std.proofs.lemmas.Cmp.{nat_list_eq_equiv}
 use Rattle.sql_schema.specs.Columns.{table_named}
 use Rattle.sql_schema.specs.Refusals.{any_two, tables_clash}
@@ -73,3 +75,16 @@ one-of-name ts apart t u p q e =
     let one = among-found ts apart t p in
     let other = among-found ts apart u q in
     let both : Some t ≡ Some u = sym one ∙ ap (table_named ts) e ∙ other in cc
+
+-- an element that a list contains is one of its elements
+pub contained-any : {X : Type 0} (xs : List X) (x : X) → Contains xs x → AnyOf (λ d. d ≡ x) xs
+contained-any [] x (k, l, e) = let n : k < 0 = l in omega arith
+contained-any (y ∷ ys) x (zero, l, e) = inl e
+contained-any (y ∷ ys) x (suc k, l, e) =
+    let n : suc k < suc (length ys) = l in
+    let m : k < length ys = omega arith in
+    inr (contained-any ys x (k, m, e))
+
+-- of two of which the second holds, the first alone has to be tested
+pub not-both : {P Q : Type 0} (b : Bool) → Q → Decides b P → Decides (not b) (¬ (P × Q))
+not-both b q d = Decides-not b (Decides-like b (λ p. (p, q)) (λ both. both.0) d)

@@ -2,7 +2,7 @@
 use Rattle.std.specs.Prelude.{◌≡◌, map}
 use Rattle.std.specs.Bool.{Decides}
 use Rattle.sql_schema.specs.Declarations.{Declarations}
-use Rattle.sql_source.specs.Lent.{origin_of}
+use Rattle.sql_source.specs.Borrowed.{origin_of}
 use Rattle.sql_rules.specs.Rules.{HasUnknownName}
 use Rattle.sql_rules.specs.Scope as scope
 use Rattle.sql_rules.specs.Scope.{a_select, a_combination}

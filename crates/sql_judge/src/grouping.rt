@@ -6,7 +6,7 @@ ghost use Rattle.std.specs.Bool.{Decides};
 ghost use Rattle.std.specs.List.{list_any};
 ghost use Rattle.sql_node.specs.View.{distinct_clause_tree, expr_tree, exprs_of, items_of, maybe_of, order_item_tree};
 ghost use Rattle.std.specs.Str.{bytes_eq};
-ghost use Rattle.sql_source.specs.Lent.{origin_of};
+ghost use Rattle.sql_source.specs.Borrowed.{origin_of};
 ghost use Rattle.sql_source.specs.Origins.{same_origin};
 ghost use Rattle.sql_rules.specs.Scope.{nodes_of};
 ghost use Rattle.sql_rules.specs.Rules.{CountsAggregate, HasAggregate, IsMisgrouped, distinct_verdict as distinct_gives, items_verdict as items_give, order_verdict as order_gives};

@@ -4,7 +4,7 @@
 ghost use Rattle.std.specs.Prelude.{◌≡◌, IfOk, IsTrue, map, option_map};
 ghost use Rattle.std.specs.Bool.{Decides};
 ghost use Rattle.sql_schema.specs.Refusals.{any_two};
-ghost use Rattle.sql_source.specs.Lent.{origin_of};
+ghost use Rattle.sql_source.specs.Borrowed.{origin_of};
 ghost use Rattle.sql_rules.specs.Lists.{AnyPair};
 ghost use Rattle.sql_rules.specs.Rules.{Clash as clash, MayNotMeet};
 ghost use Rattle.sql_judge.specs.Ends.{front_under, last_under, leaf_ends, leaves_clash, path_ends, tables_part};

@@ -5,27 +5,17 @@ ghost use Rattle.std.specs.Prelude.{◌≡◌, false, map};
 ghost use Rattle.std.specs.Bool.{Decides};
 ghost use Rattle.std.specs.List.{list_any};
 ghost use Rattle.sql_schema.specs.Refusals.{any_two, tables_clash};
-ghost use Rattle.sql_source.specs.Lent.{origin_of};
+ghost use Rattle.sql_source.specs.Borrowed.{origin_of};
 ghost use Rattle.sql_rules.specs.Lists.{AnyOf};
 ghost use Rattle.sql_rules.specs.Rules.{IsColumn, IsOutOfScope, IsSeen, IsTable, IsUnknownColumn};
-ghost use Rattle.sql_source.specs.Origins.{same_column as one_column, same_table};
+ghost use Rattle.sql_source.specs.Origins.{same_table};
 ghost use Rattle.sql_judge.specs.Tables.{named_alike};
 ghost use Rattle.sql_judge.specs.Seen.{IsUnseen, SeesNames};
 
 use crate::test::NodeTest;
 use sql_node::Expr;
-use sql_schema::{Column, ColumnDecl, Schema, SizeRestrictedColumn, Table};
+use sql_schema::{Column, Schema, Table};
 use sql_source::Origin;
-
-/// Whether the column is declared so.
-fn is_declared_so(column: &Column, decl: &ColumnDecl) -> bool
-    ensures { result ≡ one_column decl.now column.now.decl }
-{
-    decl.name.as_str() == column.name()
-        && decl.sql_name.as_str() == column.sql_name()
-        && decl.ty == column.ty()
-        && decl.max_length == column.max_length()
-}
 
 pub(crate) fn is_one_table(one: &Table, other: &Table) -> bool
     ensures { result ≡ same_table one.now other.now }
@@ -49,20 +39,6 @@ pub(crate) fn is_table(schema: &Schema, table: &Table) -> bool
         None => false,
         Some(declared) => is_one_table(declared, table),
     }
-}
-
-fn is_declared(column: &Column, columns: &[ColumnDecl]) -> bool
-    ensures { result ≡ list_any (λ d. one_column d column.now.decl) columns.now }
-{
-    columns
-        .iter()
-        .any(|declared| is_declared_so(column, declared))
-}
-
-fn is_column(column: &Column) -> bool
-    ensures { Decides result (IsColumn column.now.table column.now.decl) }
-{
-    is_declared(column, column.table().columns())
 }
 
 /// Whether the schema lacks a table of these.
@@ -96,11 +72,12 @@ pub(crate) struct UnknownColumn<'a> {
     pub schema: &'a Schema,
 }
 
+/// Every column is one of its table's, so what is left to ask is whether the table is the schema's.
 fn is_unknown(schema: &Schema, column: &Column) -> bool
     ensures { Decides result
         (¬ (IsTable schema.now column.now.table × IsColumn column.now.table column.now.decl)) }
 {
-    !(is_table(schema, column.table()) && is_column(column))
+    !is_table(schema, column.table())
 }
 
 impl NodeTest for UnknownColumn<'_> {

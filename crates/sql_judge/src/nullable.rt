@@ -5,7 +5,7 @@ ghost use Rattle.std.specs.Prelude.{◌≡◌, IfOk, map, IsTrue, ◌++◌, ◌&
 ghost use Rattle.std.specs.Bool.{Decides};
 ghost use Rattle.sql_node.specs.View.{expr_tree, exprs_of, from_clause_tree, join_on_tree, source_tree};
 ghost use Rattle.sql_source.specs.Leaves.{in_right_side, is_padded as lies_right, leaves};
-ghost use Rattle.sql_source.specs.Lent.{origin_of};
+ghost use Rattle.sql_source.specs.Borrowed.{origin_of};
 ghost use Rattle.sql_source.specs.Origins.{same_origin};
 ghost use Rattle.sql_rules.specs.Lists.{AnyOf};
 ghost use Rattle.sql_rules.specs.Rules.{IsSeen, bare as bare_in, bare_of};

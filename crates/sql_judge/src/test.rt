@@ -5,7 +5,7 @@ ghost use Rattle.std.specs.Prelude.{IfOk, map};
 ghost use Rattle.std.specs.Bool.{Decides};
 ghost use Rattle.sql_node.specs.Tree as tree;
 ghost use Rattle.sql_node.specs.View.{expr_tree};
-ghost use Rattle.sql_source.specs.Lent.{origin_of};
+ghost use Rattle.sql_source.specs.Borrowed.{origin_of};
 ghost use Rattle.sql_rules.specs.Lists.{AnyOf, AnyPair};
 ghost use Rattle.sql_rules.specs.Scope as scope;
 ghost use Rattle.sql_rules.specs.Scope.{View, nodes as nodes_in};

@@ -3,7 +3,7 @@
 
 ghost use Rattle.std.specs.Prelude.{◌≡◌, ◌⊎◌, IfOk, map};
 ghost use Rattle.std.specs.Bool.{Decides};
-ghost use Rattle.sql_source.specs.Lent.{origin_of};
+ghost use Rattle.sql_source.specs.Borrowed.{origin_of};
 ghost use Rattle.sql_rules.specs.Lists.{AnyOf, Each};
 ghost use Rattle.sql_rules.specs.Rules.{HasUnknownName, IsTable, IsUnknownColumn};
 ghost use Rattle.sql_rules.specs.Scope.{nodes as nodes_in};

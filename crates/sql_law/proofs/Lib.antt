@@ -5,6 +5,7 @@ pub mod TextLaws
 pub mod ReadLaws
 pub mod Views
 pub mod Naming
+pub mod Paths
 pub mod Worked
 pub mod Alike
 pub mod PieceLaws

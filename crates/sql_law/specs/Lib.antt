@@ -6,4 +6,6 @@ pub mod Examples
 pub mod Fitting
 -- Shapes without lengths.
 pub mod Lengths
+-- The names of paths.
+pub mod Paths
 pub mod inside

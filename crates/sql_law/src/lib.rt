@@ -6,6 +6,7 @@
 ghost use Rattle.std.specs.Prelude.{◌≡◌, ◌≢◌, ◌↔◌, Bool, None, Some, IsTrue, List, length, map, pos};
 ghost use Rattle.sql_schema.specs.Declarations.{Declarations};
 ghost use Rattle.sql_schema.specs.Refusals.{least_refusal};
+ghost use Rattle.sql_schema.specs.declared.declaration.ColumnDecl.{ColumnDecl};
 ghost use Rattle.sql_dialect.specs.declared.backend.Dialect.{Dialect};
 ghost use Rattle.sql_dialect.specs.declared.backend.Dialect.TheVariants.{Mysql};
 ghost use Rattle.sql_grammar.specs.Numbering.{Fills};
@@ -17,14 +18,14 @@ ghost use Rattle.sql_pass.specs.declared.value.Value.TheVariants.{Integer, Null}
 ghost use Rattle.sql_leaf.specs.declared.limit_offset.LimitOffsetClause.{LimitOffsetClause};
 ghost use Rattle.sql_leaf.specs.declared.marks.Marks.{Marks};
 ghost use Rattle.sql_node.specs.Pieces.{pieces};
-ghost use Rattle.sql_node.specs.Tree.{Distinct, Expr, Form, From, MaybeExpr, Order, Statement, select};
+ghost use Rattle.sql_node.specs.Tree.{Distinct, Expr, Form, From, MaybeExpr, Order, Origin, Statement, select};
 ghost use Rattle.sql_key.specs.Ids.{has_id};
 ghost use Rattle.sql_key.specs.Keys.{id_of};
 ghost use Rattle.sql_key.specs.Shape.{shape};
 ghost use Rattle.sql_key.specs.declared.kind.KeyNode.{KeyNode};
-ghost use Rattle.sql_reading.specs.Filled.{filled, lead, normal, trees};
+ghost use Rattle.sql_reading.specs.Filled.{column_path, filled, lead, normal, trees};
 ghost use Rattle.sql_reading.specs.inside.HasText.{HasNumbers, HasText};
-ghost use Rattle.sql_rules.specs.Names.{IsNamed};
+ghost use Rattle.sql_rules.specs.Names.{IsNamed, path};
 ghost use Rattle.sql_rules.specs.Rules.{Accepted, Broken};
 ghost use Rattle.sql_rules.specs.Safety.{IsSafeIn, is_safe_in};
 ghost use Rattle.sql_rules.specs.Scope.{EachNode, flat};
@@ -36,6 +37,7 @@ ghost use Rattle.sql_rules.specs.Counted.{PlacesAreCounted};
 ghost use Rattle.sql_law.specs.Examples.{first_users, one_table, one_value, two_values, users_among, users_where_id};
 ghost use Rattle.sql_law.specs.Fitting.{ValuesFit, values_fit};
 ghost use Rattle.sql_law.specs.Lengths.{shape_without_lengths};
+ghost use Rattle.sql_law.specs.Paths.{names_in};
 
 /// What rules keep a statement from having no text: lists without an element, joins without a condition, lists and other
 /// things without a type as operands, and what the dialect lacks. One more keeps placeholders from having no number.
@@ -70,10 +72,13 @@ pub fn accepted_are_read()
 /// written, names exactly one of what its clause sees: that which it is a column of. So it is in each clause of each
 /// select statement, however deep.
 pub fn names_one_leaf()
-    ensures { (schema : Declarations) (d : Dialect) (s : Statement) →
+    ensures named { (schema : Declarations) (d : Dialect) (s : Statement) →
         ¬ Broken UnknownName schema d s → ¬ Broken Ambiguous schema d s →
         ¬ Broken NameClash schema d s → ¬ Broken NotInScope schema d s →
         EachNode IsNamed s }
+    // That path is the column's path in the tree that the statement is read as.
+    ensures path { (o : Origin) (c : ColumnDecl) →
+        names_in (column_path o.alias o.table c.sql_name) ≡ path o c }
 {}
 
 /// The laws are of something: here are declarations that make a schema, and a statement that breaks no rule in any dialect.

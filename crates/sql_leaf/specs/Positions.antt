@@ -1,4 +1,4 @@
--- Order by the place of a column in the answer (PostgreSQL, SELECT, ORDER BY Clause).
+-- Order by the position of a column in the answer (PostgreSQL, SELECT, ORDER BY Clause).
 use Rattle.std.specs.Prelude.{List, [], ◌++◌, codes, decimal}
 use Rattle.sql_pass.specs.Pieces.{Piece, one, Text}
 use Rattle.sql_leaf.specs.declared.position.Direction.{Direction}

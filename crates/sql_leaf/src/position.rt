@@ -18,7 +18,7 @@ pub enum Direction {
     Desc,
 }
 
-/// A column of the answer by its place, counted from 1. Whether there is such a column is not checked.
+/// A column of the answer by its position, counted from 1. Whether there is such a column is not checked.
 #[derive(Debug, Clone, Copy, PartialEq, Eq)]
 pub struct OrderColumn(pub u32);
 

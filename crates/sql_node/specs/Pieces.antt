@@ -133,7 +133,7 @@ abbrev pub positions_pieces : Option (List PositionalItem) → List Piece
 positions_pieces None = []
 positions_pieces (Some ps) = one (Text order_by_sql) ++ commas true (map (λ p. position_pieces p.column p.direction) ps)
 
--- `(x IN (?, ?))`, and what is written in its place where there is no value
+-- `(x IN (?, ?))`, and what is written instead where there is no value
 abbrev pub one_by_one : Dialect → Bool → List Piece → SqlType → List Value → List Piece
 one_by_one d n x t vs =
     if nat_eq (length vs) 0 then (one Unsafe ++ one (Text (constant_sql n)))
@@ -191,7 +191,7 @@ abbrev mutual
       alone (around (codes "(") (spread true (expr_parts d e)) (among_sql d n)
       ++ (pieces d q ++ one (Text (codes "))"))))
 
-  -- the elements of a list, those of lists inside it in their place
+  -- the elements of a list, with those of lists inside it where these stand
   pub exprs_parts : Dialect → Exprs → List (List Piece)
   exprs_parts d no_exprs = []
   exprs_parts d (more_exprs e es) = each (expr_parts d e) ++ exprs_parts d es

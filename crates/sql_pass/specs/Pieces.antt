@@ -17,7 +17,7 @@ pub data Piece : Type 0 where
 unfoldable pub one : Piece → List Piece
 one p = p ∷ []
 
--- what one piece writes where n places are numbered
+-- what one piece writes where n values are numbered
 abbrev pub text_at : Dialect → ℕ → Piece → List ℕ
 text_at d n (Text t) = t
 text_at d n (Ident t) = quoted d t
@@ -54,7 +54,7 @@ noop_at (Bind b) = false
 noop_at (ValueOnly b) = true
 noop_at Unsafe = true
 
--- the text, from where n places are numbered
+-- the text, from where n values are numbered
 abbrev pub text_of : Dialect → ℕ → List Piece → List ℕ
 text_of d n [] = []
 text_of d n (p ∷ ps) = text_at d n p ++ text_of d (count_at d n p) ps

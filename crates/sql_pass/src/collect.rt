@@ -57,7 +57,7 @@ pub trait BindCollector {
         ensures err { OnErr result (holds self.new ≡ holds self.old) }
         ensures long { IsErrOf result CollectError.TooLong
             → IsTrue (is_too_long (bound_of bound.entry)) }
-        // `NoMemory` may be the answer in its place.
+        // `NoMemory` may be the answer instead.
         ensures refused { IsTrue (is_too_long (bound_of bound.entry)) → IsErr result };
 
     /// Appends a NULL of that type.

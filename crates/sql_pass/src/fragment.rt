@@ -69,7 +69,7 @@ pub trait QueryFragment<DB: Backend> {
         ensures many { ¬ IsErrOf result PassError.TooManyBinds }
         ensures long { IsErrOf result PassError.TooLong
             → IsTrue (list_any is_too_long (values_of (pieces self.now))) }
-        // `NoMemory` may be the answer in its place.
+        // `NoMemory` may be the answer instead.
         ensures refused { IsTrue (list_any is_too_long (values_of (pieces self.now)))
             → IsErr result }
     {

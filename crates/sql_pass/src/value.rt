@@ -16,7 +16,7 @@ pub enum Value {
     Null,
 }
 
-/// What is bound at a place: a value, or a list of values as one.
+/// What is bound to a placeholder: a value, or a list of values as one.
 #[derive(Debug, Drop, PartialEq, Eq)]
 pub enum Bound {
     Value(SqlType, Value),

@@ -1,7 +1,7 @@
 -- The clauses of a select statement, borrowed.
 use Rattle.std.specs.Prelude.{map}
 use Rattle.sql_node.specs.View.{expr_tree}
-use Rattle.sql_source.specs.Lent.{origin_of}
+use Rattle.sql_source.specs.Borrowed.{origin_of}
 use Rattle.sql_rules.specs.Scope as scope
 use Rattle.sql_rules.specs.Scope.{in_selection, in_distinct_on, in_on, in_where, in_group_by, in_having, in_order_by}
 use Rattle.sql_places.specs.declared.clause.Clause.{Clause}

@@ -1,7 +1,7 @@
 -- The statements inside a statement, borrowed.
 use Rattle.std.specs.Prelude.{List, [], map}
 use Rattle.sql_node.specs.View.{Among, among_list, among_query}
-use Rattle.sql_source.specs.Lent.{origin_of}
+use Rattle.sql_source.specs.Borrowed.{origin_of}
 use Rattle.sql_rules.specs.Scope as scope
 use Rattle.sql_rules.specs.Scope.{View, a_select, a_combination, parts}
 use Rattle.sql_places.specs.Borrowed.{combined_of, select_of}

@@ -3,7 +3,7 @@
 
 ghost use Rattle.std.specs.Prelude.{◌≡◌, ◌++◌, IfOk, map, [], ◌∷◌, option_map};
 ghost use Rattle.sql_node.specs.View.{distinct_clause_tree, expr_tree, from_clause_tree, items_of, join_on_tree, maybe_of, order_item_tree, source_tree};
-ghost use Rattle.sql_source.specs.Lent.{origin_of};
+ghost use Rattle.sql_source.specs.Borrowed.{origin_of};
 ghost use Rattle.sql_rules.specs.Scope.{clauses_by, distinct_clause, in_order_by, item_clauses, maybe_clause, ons, ons_of, order_clauses};
 ghost use Rattle.sql_places.specs.Gathers.{Gathers};
 ghost use Rattle.sql_places.specs.Claused.{clause_of, place_of};

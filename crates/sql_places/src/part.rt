@@ -3,7 +3,7 @@
 
 ghost use Rattle.std.specs.Prelude.{◌≡◌, ◌++◌, IfOk, map, [], ◌∷◌};
 ghost use Rattle.sql_node.specs.View.{boxed_select_statement_tree, combination_clause_tree, distinct_clause_tree, join_on_tree, expr_tree, exprs_of, from_clause_tree, group_by_clause_tree, having_clause_tree, items_of, order_clause_tree, order_item_tree, select_clause_tree, select_statement_tree, source_tree, statement_tree, where_clause_tree, in_values_tree};
-ghost use Rattle.sql_source.specs.Lent.{origin_of};
+ghost use Rattle.sql_source.specs.Borrowed.{origin_of};
 ghost use Rattle.sql_rules.specs.Scope.{in_distinct, in_expr, in_exprs, in_from, in_items, in_maybe, in_order, in_source, parts as parts_in};
 ghost use Rattle.sql_places.specs.Gathers.{Gathers};
 ghost use Rattle.sql_places.specs.Inside.{inside};

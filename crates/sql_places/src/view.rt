@@ -3,7 +3,7 @@
 
 ghost use Rattle.std.specs.Prelude.{◌≡◌, ◌++◌, OnOk, IfOk, map};
 ghost use Rattle.sql_node.specs.View.{from_clause_tree, join_on_tree, source_tree};
-ghost use Rattle.sql_source.specs.Lent.{origin_of};
+ghost use Rattle.sql_source.specs.Borrowed.{origin_of};
 ghost use Rattle.sql_rules.specs.Scope.{origins as origins_in, origins_of, widest};
 ghost use Rattle.sql_places.specs.Borrowed.{form_of};
 ghost use Rattle.sql_places.specs.Gathers.{Gathers};

@@ -15,7 +15,7 @@ cond-or : (b c : Bool) → cond b true c ≡ (b || c)
 cond-or true c = refl
 cond-or false c = refl
 
-is_eq-then : (o p : Ordering) → is_eq (ordering_then o p) ≡ (is_eq o && is_eq p)
+pub is_eq-then : (o p : Ordering) → is_eq (ordering_then o p) ≡ (is_eq o && is_eq p)
 is_eq-then Less p = refl
 is_eq-then Equal p = refl
 is_eq-then Greater p = refl
@@ -69,7 +69,7 @@ path-added s n k u o q =
     ∙ ap (λ x. x && is_eq (name_cmp k.1 (named q))) (schema-same k.0 o)
     ∙ ap (λ x. option_eq bytes_eq (option_map (λ y. y.now) k.0) o && x) (is_eq-slice_cmp k.1.now q))
 
-any-alike : {A : Type 0} (f g : A → Bool) → ((x : A) → f x ≡ g x) → (xs : List A) → list_any f xs ≡ list_any g xs
+pub any-alike : {A : Type 0} (f g : A → Bool) → ((x : A) → f x ≡ g x) → (xs : List A) → list_any f xs ≡ list_any g xs
 any-alike f g same [] = refl
 any-alike f g same (x ∷ xs) = ap (λ b. b || list_any f xs) (same x) ∙ ap (λ b. g x || b) (any-alike f g same xs)
 

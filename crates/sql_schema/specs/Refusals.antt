@@ -14,7 +14,7 @@ use Rattle.sql_schema.specs.declared.error.SchemaError.TheVariants.{DuplicateTab
 use Rattle.sql_schema.specs.Columns.{table_named, column_named}
 use Rattle.sql_schema.specs.Declarations.{Declarations}
 
--- two places of the list hold a pair that passes the test
+-- two elements of the list, at different indexes, pass the test
 abbrev pub any_two : {A : Type 0} → (A → A → Bool) → List A → Bool
 any_two test [] = false
 any_two test (x ∷ xs) = list_any (test x) xs || any_two test xs

@@ -1,4 +1,5 @@
 pub mod ColumnAt
 pub mod Indices
 pub mod NameSets
+pub mod Pairs
 pub mod Split

@@ -9,6 +9,7 @@ mod error;
 mod laws;
 mod list;
 mod names;
+mod pairs;
 mod refusal;
 mod schema;
 mod table;

@@ -1,7 +1,8 @@
 ghost use Rattle.std.specs.Prelude.{◌≡◌, Bool, IfOk};
-ghost use Rattle.sql_schema.specs.Together.{pair_names, may_stand_together};
+ghost use Rattle.sql_schema.specs.Together.{may_stand_together};
 ghost use Rattle.sql_schema.specs.declared.declaration.TableDecl.{TableDecl};
 
+use crate::pairs::{Pairs, index_of_pair, index_pairs};
 use crate::refusal::{relation_refusal, table_refusal};
 use crate::tables::Tables;
 use crate::{JoinableDecl, NoMemory, SchemaError, SqlText, Table, TableDecl};
@@ -115,11 +116,7 @@ impl SchemaBuilder {
         let refused = relation_refusal(alloc, &tables, joinables.as_slice(), together.as_slice())?;
         match refused {
             Some(refusal) => Err(refusal),
-            None => Ok(Schema {
-                tables,
-                joinables,
-                together,
-            }),
+            None => Ok(Schema::with_indexes(alloc, tables, joinables, together)?),
         }
     }
 }
@@ -130,12 +127,17 @@ pub struct Schema {
     tables: Tables,
     joinables: Vec<JoinableDecl>,
     together: Vec<(SqlText, SqlText)>,
+    /// The relations, by the tables that they relate.
+    relations: Pairs,
+    /// The pairs of `together`, by their tables.
+    allowed: Pairs,
 }
 
 impl Model for Schema {
-    ghost use Rattle.std.specs.Prelude.{◌≡◌, None};
+    ghost use Rattle.std.specs.Prelude.{◌≡◌, None, length};
     ghost use Rattle.sql_schema.specs.Declarations.{Declarations};
     ghost use Rattle.sql_schema.specs.Refusals.{least_refusal};
+    ghost use Rattle.sql_schema.specs.inside.Pairs.{IndexesPairs};
 
     ghost Value = { Declarations };
 
@@ -145,18 +147,49 @@ impl Model for Schema {
       together = s.together.items;
     } };
 
-    ghost invariant = { λ s. least_refusal (record {
+    ghost invariant = { λ s. (least_refusal (record {
       tables = s.tables;
       joinables = s.joinables.items;
       together = s.together.items;
     })
-        ≡ None };
+        ≡ None)
+        × IndexesPairs s.tables (λ j. (j.child, j.parent)) s.relations s.joinables.items
+        (length s.joinables.items)
+        × IndexesPairs s.tables (λ p. p) s.allowed s.together.items (length s.together.items) };
 }
 
 impl Schema {
-    ghost use Rattle.std.specs.Prelude.{◌≡◌, None, option_map};
+    ghost use Rattle.std.specs.Prelude.{◌≡◌, None, IfOk, option_map};
     ghost use Rattle.sql_schema.specs.Columns.{table_named};
     ghost use Rattle.sql_schema.specs.Refusals.{least_refusal};
+    ghost use Rattle.sql_schema.specs.Relations.{relation_of};
+
+    /// The schema of declarations that are not refused.
+    fn with_indexes(
+        alloc: Global,
+        tables: Tables,
+        joinables: Vec<JoinableDecl>,
+        together: Vec<(SqlText, SqlText)>,
+    ) -> Result<Schema, NoMemory>
+        requires { least_refusal (record {
+          tables = tables;
+          joinables = joinables.items;
+          together = together.items;
+        })
+            ≡ None }
+        ensures { IfOk result (λ s. s
+            ≡ record { tables = tables; joinables = joinables.items; together = together.items }) }
+    {
+        let relations = index_pairs(alloc, &tables, joinables.as_slice())?;
+        let allowed = index_pairs(alloc, &tables, together.as_slice())?;
+        Ok(Schema {
+            tables,
+            joinables,
+            together,
+            relations,
+            allowed,
+        })
+    }
 
     /// The table of that name, or None where there is none.
     pub fn table(&self, name: &str) -> Option<&Table>
@@ -180,6 +213,17 @@ impl Schema {
     {
         self.joinables.as_slice()
     }
+
+    /// The relation declared between the tables of these names, in either direction, or None where there is none.
+    pub fn relation(&self, one: &str, other: &str) -> Option<&JoinableDecl>
+        ensures { option_map (λ j. j.now) result
+            ≡ relation_of self.now.joinables one.now other.now }
+    {
+        match index_of_pair(&self.relations, &self.tables, one, other) {
+            None => None,
+            Some(index) => Some(&self.joinables[index]),
+        }
+    }
 }
 
 /// Tells which tables may stand in one statement.
@@ -196,18 +240,6 @@ impl TableNotEqual for Schema {
     ghost stand_together = { λ s. may_stand_together s.together };
 
     fn allowed_together(&self, a: &Table, b: &Table) -> bool {
-        self.together
-            .as_slice()
-            .iter()
-            .any(|pair| names_both(pair, a, b))
+        index_of_pair(&self.allowed, &self.tables, a.name(), b.name()).is_some()
     }
-}
-
-/// Whether the pair is that of the two tables' names, in either order.
-fn names_both(pair: &(SqlText, SqlText), a: &Table, b: &Table) -> bool
-    ensures { result ≡ pair_names pair.now a.now b.now }
-{
-    let one = pair.0.as_str();
-    let other = pair.1.as_str();
-    (one == a.name() && other == b.name()) || (one == b.name() && other == a.name())
 }

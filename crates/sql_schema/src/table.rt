@@ -163,6 +163,8 @@ impl Model for Column {
 }
 
 impl Column {
+    ghost use Rattle.std.specs.Prelude.{◌≡◌, Contains};
+
     /// Its declaration.
     fn decl(&self) -> &ColumnDecl
         ensures { result.now ≡ self.now.decl }
@@ -172,7 +174,9 @@ impl Column {
 
     /// The table that it is a column of.
     pub fn table(&self) -> &Table
-        ensures { result.now ≡ self.now.table }
+        ensures table { result.now ≡ self.now.table }
+        // Every column is one of its table's.
+        ensures own { Contains self.now.table.columns self.now.decl }
     {
         &self.table
     }

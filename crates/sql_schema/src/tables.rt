@@ -2,6 +2,7 @@ ghost use Rattle.std.specs.Prelude.{◌≡◌, false, IfOk, option_map};
 ghost use Rattle.std.specs.List.{list_any};
 ghost use Rattle.sql_schema.specs.Columns.{table_named};
 ghost use Rattle.sql_schema.specs.Refusals.{any_two, tables_clash, is_unsound};
+ghost use Rattle.sql_schema.specs.inside.Pairs.{table_index};
 
 use crate::names::{Names, index_names, index_of};
 use crate::{NoMemory, Table, TableDecl};
@@ -56,6 +57,13 @@ impl Tables {
             None => None,
             Some(index) => Some(&self.items[index]),
         }
+    }
+
+    /// The index of the table of that name, or None where there is none.
+    pub(crate) fn index(&self, name: &str) -> Option<usize>
+        ensures { result ≡ table_index self.now name.now }
+    {
+        index_of(&self.names, name)
     }
 }
 

@@ -1,9 +1,10 @@
 -- Joins, and the ON that a declared relation gives them (PostgreSQL, SELECT, FROM Clause; diesel, `joinable!`, `JoinTo`).
-use Rattle.std.specs.Prelude.{ℕ, List, Bool, false, ◌&&◌, ◌||◌, Option, None, Some, find, option_map, if◌then◌else◌}
+use Rattle.std.specs.Prelude.{ℕ, List, Bool, false, ◌&&◌, Option, None, Some, option_map, if◌then◌else◌}
 use Rattle.std.specs.Str.{bytes_eq}
 use Rattle.sql_schema.specs.Columns.{DeclaredColumn, column_in, column_of, table_named}
 use Rattle.sql_schema.specs.Declarations.{Declarations}
 use Rattle.sql_schema.specs.Refusals.{single_column}
+use Rattle.sql_schema.specs.Relations.{relation_of}
 use Rattle.sql_schema.specs.declared.declaration.JoinableDecl.{JoinableDecl}
 use Rattle.sql_schema.specs.declared.declaration.TableDecl.{TableDecl}
 use Rattle.sql_leaf.specs.declared.table_source.JoinKind.{JoinKind}
@@ -38,7 +39,7 @@ refers_from child parent j = bytes_eq j.child child.name && bytes_eq j.parent pa
 
 -- the relation of two tables, in either direction
 abbrev pub relation : Declarations → TableDecl → TableDecl → Option JoinableDecl
-relation s a b = find (λ j. refers_from a b j || refers_from b a j) s.joinables
+relation s a b = relation_of s.joinables a.name b.name
 
 -- the column of a key that has one alone
 abbrev pub key_column : TableDecl → Option DeclaredColumn

@@ -4,7 +4,7 @@ ghost use Rattle.std.specs.Prelude.{◌≡◌};
 ghost use Rattle.sql_node.specs.Tree.{Origin as Wanted};
 ghost use Rattle.sql_node.specs.View.{source_tree};
 ghost use Rattle.sql_source.specs.Counts.{appearances, once_if};
-ghost use Rattle.sql_source.specs.Lent.{origin_of};
+ghost use Rattle.sql_source.specs.Borrowed.{origin_of};
 ghost use Rattle.sql_source.specs.Origins.{a_table, an_alias, column_origin, field_origin, same_origin};
 
 use crate::origin::Origin;

@@ -2,7 +2,7 @@
 
 ghost use Rattle.std.specs.Prelude.{◌≡◌, IfOk};
 ghost use Rattle.sql_node.specs.View.{expr_tree};
-ghost use Rattle.sql_source.specs.Lent.{origin_of};
+ghost use Rattle.sql_source.specs.Borrowed.{origin_of};
 ghost use Rattle.sql_source.specs.Origins.{a_table, an_alias, column_under, field_origin, same_origin, same_table as one_table};
 
 use sql_leaf::{Alias, AliasedField};

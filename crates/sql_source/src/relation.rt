@@ -6,7 +6,7 @@ ghost use Rattle.sql_node.specs.View.{expr_tree, source_tree};
 ghost use Rattle.sql_node.specs.Words as by;
 ghost use Rattle.sql_source.specs.Joins.{equal_by, implicit_on as implicit, is_declared as stands_in, key_column as key_of, refers_from as goes, related_on as on_of, relation as related};
 ghost use Rattle.sql_source.specs.Leaves.{leaves, leftmost as first_leaf};
-ghost use Rattle.sql_source.specs.Lent.{origin_of};
+ghost use Rattle.sql_source.specs.Borrowed.{origin_of};
 ghost use Rattle.sql_source.specs.Origins.{column_under};
 
 use crate::origin::{Origin, same_table};
@@ -33,8 +33,7 @@ fn refers_from(child: &Table, parent: &Table, joinable: &JoinableDecl) -> bool
 fn relation<'s>(schema: &'s Schema, one: &Table, other: &Table) -> Option<&'s JoinableDecl>
     ensures { option_map (λ j. j.now) result ≡ related schema.now one.now other.now }
 {
-    schema.joinables().iter().find(|joinable| refers_from(one, other, joinable)
-        || refers_from(other, one, joinable))
+    schema.relation(one.name(), other.name())
 }
 
 /// The column of a key that has one alone.

@@ -61,6 +61,59 @@ fn relations(rt: HostRuntime) -> Result<(), Fail> {
     Ok(())
 }
 
+fn key<'s>(schema: &'s Schema, one: &str, other: &str) -> &'s str {
+    match schema.relation(one, other) {
+        None => "",
+        Some(relation) => relation.key.as_str(),
+    }
+}
+
+#[test]
+fn relations_are_found(rt: HostRuntime) -> Result<(), Fail> {
+    let alloc = rt.alloc();
+    let declared: [(&str, &[&str]); 3] = [
+        ("users", &["id"]),
+        ("posts", &["id", "user_id"]),
+        ("comments", &["id", "post_id"]),
+    ];
+    let mut builder = tables(alloc, &declared)?;
+    builder.joinable("posts", "user_id", "users")?;
+    builder.joinable("comments", "post_id", "posts")?;
+    let schema = builder.build()?;
+    let wanted = [
+        ("posts", "users", "user_id"),
+        ("users", "posts", "user_id"),
+        ("comments", "posts", "post_id"),
+        ("posts", "comments", "post_id"),
+        ("users", "comments", ""),
+        ("posts", "posts", ""),
+        ("posts", "nobody", ""),
+        ("nobody", "posts", ""),
+    ];
+    for (one, other, want) in wanted {
+        assert_eq!(rt; key(&schema, one, other), want);
+    }
+    Ok(())
+}
+
+/// Two relations of the same tables are refused, in either direction.
+#[test]
+fn one_relation_of_two_tables(rt: HostRuntime) -> Result<(), Fail> {
+    let alloc = rt.alloc();
+    let second = [("posts", "author_id", "users"), ("users", "post_id", "posts")];
+    for (child, by, parent) in second {
+        let declared: [(&str, &[&str]); 2] = [
+            ("users", &["id", "post_id"]),
+            ("posts", &["id", "user_id", "author_id"]),
+        ];
+        let mut builder = tables(alloc, &declared)?;
+        builder.joinable("posts", "user_id", "users")?;
+        builder.joinable(child, by, parent)?;
+        assert_eq!(rt; message(alloc, builder.build())?.as_str(), "BadJoinable");
+    }
+    Ok(())
+}
+
 #[test]
 fn allowed_together(rt: HostRuntime) -> Result<(), Fail> {
     let alloc = rt.alloc();
@@ -70,6 +123,7 @@ fn allowed_together(rt: HostRuntime) -> Result<(), Fail> {
     let a = schema.table("a").ok_or("no table")?;
     let b = schema.table("b").ok_or("no table")?;
     assert!(rt; schema.allowed_together(b, a));
+    assert!(rt; schema.allowed_together(a, b));
     assert!(rt; !schema.allowed_together(a, a));
     assert_eq!(rt; a.all_columns(alloc)?.len(), 1);
     assert!(rt; a.column(alloc, "id")?.is_some());

@@ -41,5 +41,5 @@ returns-clause-read g c = λ schema none counted.
     (c.accepted_are_read.ensures.only schema d s counted accepted)
     (c.accepted_are_read.ensures.as_many schema d s counted accepted)
     (c.accepted_are_read.ensures.fills schema d s counted accepted)
-    (c.names_one_leaf.ensures schema d s (accepted UnknownName) (accepted Ambiguous) (accepted NameClash)
+    (c.names_one_leaf.ensures.named schema d s (accepted UnknownName) (accepted Ambiguous) (accepted NameClash)
     (accepted NotInScope))

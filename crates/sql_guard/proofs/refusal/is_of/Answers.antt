@@ -7,4 +7,4 @@ pub returns : goal.returns
 returns c =
     origin-test c.is_same.result (column_origin c.args.column.now) (a_table c.args.table.now)
     (c.is_same.ensures
-    ∙ ap₂ same_origin (c.of_table.ensures ∙ ap a_table c.table.ensures) c.of_table-2.ensures)
+    ∙ ap₂ same_origin (c.of_table.ensures ∙ ap a_table c.table.ensures.table) c.of_table-2.ensures)

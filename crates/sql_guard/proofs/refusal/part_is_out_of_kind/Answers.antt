@@ -1,6 +1,6 @@
 use Rattle.std.proofs.Common.{IfOk, map, subst}
 use Rattle.std.specs.Bool.{Decides}
-use Rattle.sql_source.specs.Lent.{origin_of}
+use Rattle.sql_source.specs.Borrowed.{origin_of}
 use Rattle.sql_rules.specs.Scope.{a_select}
 use Rattle.sql_places.specs.Borrowed.{select_of}
 use Rattle.sql_tenant.specs.Tenant.{IsOutOfKind}

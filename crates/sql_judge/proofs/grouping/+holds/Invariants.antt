@@ -1,6 +1,6 @@
 use Rattle.std.proofs.Common.{◌≡◌, drop, map}
 use Rattle.sql_node.specs.View.{expr_tree, exprs_of}
-use Rattle.sql_source.specs.Lent.{origin_of}
+use Rattle.sql_source.specs.Borrowed.{origin_of}
 use Rattle.sql_rules.specs.Verdicts.{fields_of, holds_column}
 use Rattle.sql_judge.proofs.grouping.+holds.Given as goal
 

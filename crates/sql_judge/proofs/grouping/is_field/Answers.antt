@@ -1,6 +1,6 @@
 use Rattle.std.proofs.Common.{◌&&◌, sym, ap, ◌∙◌}
 use Rattle.std.specs.Str.{bytes_eq}
-use Rattle.sql_source.specs.Lent.{origin_of}
+use Rattle.sql_source.specs.Borrowed.{origin_of}
 use Rattle.sql_source.specs.Origins.{same_origin}
 use Rattle.sql_judge.proofs.Alike.{and-swapped}
 use Rattle.sql_judge.proofs.grouping.is_field.Goals as goal

@@ -1,6 +1,6 @@
 use Rattle.std.proofs.Common.{map, ap, sym, subst, ◌∙◌}
 use Rattle.std.proofs.lemmas.Bool.{false≢true}
-use Rattle.sql_source.specs.Lent.{origin_of}
+use Rattle.sql_source.specs.Borrowed.{origin_of}
 use Rattle.sql_rules.specs.Lists.{AnyOf}
 use Rattle.sql_rules.specs.Rules.{IsTable}
 use Rattle.sql_judge.specs.Viewed.{viewed_outer, viewed_select}

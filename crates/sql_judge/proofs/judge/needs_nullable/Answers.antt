@@ -1,6 +1,6 @@
 use Rattle.std.proofs.Common.{IfOk, map, ap, ◌∙◌, subst}
 use Rattle.std.specs.Bool.{Decides}
-use Rattle.sql_source.specs.Lent.{origin_of}
+use Rattle.sql_source.specs.Borrowed.{origin_of}
 use Rattle.sql_rules.specs.Rules.{AnyClause}
 use Rattle.sql_judge.specs.Padded.{LacksNullableAmong}
 use Rattle.sql_judge.specs.Viewed.{viewed_outer, viewed_select}

@@ -1,6 +1,6 @@
 use Rattle.std.proofs.Common.{◌≡◌, refl, sym, ◌∙◌}
 use Rattle.std.proofs.lemmas.Bool.{false≢true}
-use Rattle.sql_source.specs.Lent.{origin_of}
+use Rattle.sql_source.specs.Borrowed.{origin_of}
 use Rattle.sql_rules.proofs.Loops.{here_any, step_any}
 use Rattle.sql_source.proofs.OriginLaws.{origin-decides}
 use Rattle.sql_judge.proofs.names.is_seen.Goals as goal

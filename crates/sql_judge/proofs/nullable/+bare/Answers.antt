@@ -1,6 +1,6 @@
 use Rattle.std.proofs.Common.{map, refl, rules}
 use Rattle.sql_node.specs.View.{expr_tree, exprs_of}
-use Rattle.sql_source.specs.Lent.{origin_of}
+use Rattle.sql_source.specs.Borrowed.{origin_of}
 use Rattle.sql_rules.specs.Rules.{bare, bare_of}
 use Rattle.sql_places.proofs.Gathering.{each-next, each-end}
 use Rattle.sql_judge.proofs.nullable.+bare.Goals as goal

@@ -1,6 +1,6 @@
 use Rattle.std.proofs.Common.{◌≡◌, ◌++◌, drop, map}
 use Rattle.sql_node.specs.View.{expr_tree, exprs_of}
-use Rattle.sql_source.specs.Lent.{origin_of}
+use Rattle.sql_source.specs.Borrowed.{origin_of}
 use Rattle.sql_rules.specs.Rules.{bare_of}
 use Rattle.sql_judge.proofs.nullable.+bare.Given as goal
 

@@ -6,7 +6,7 @@ use Rattle.sql_leaf.specs.declared.table_source.JoinKind.TheVariants.{Inner, Lef
 use Rattle.sql_node.proofs.Trees.{source-of_Join}
 use Rattle.sql_node.specs.View.{join_on_tree, source_tree}
 use Rattle.sql_source.specs.Leaves.{in_right_side, leaves}
-use Rattle.sql_source.specs.Lent.{origin_of}
+use Rattle.sql_source.specs.Borrowed.{origin_of}
 use Rattle.sql_rules.specs.Lists.{AnyOf}
 use Rattle.sql_judge.proofs.Paddings.{LiesRight, pads-left, pads-right, pads-either, inner-into, inner-out, outer-into, outer-out}
 use Rattle.sql_judge.proofs.nullable.+pads.Goals as goal

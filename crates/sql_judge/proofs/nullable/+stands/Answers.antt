@@ -1,7 +1,7 @@
 use Rattle.std.proofs.Common.{sym, ◌∙◌, inl, inr}
 use Rattle.std.proofs.lemmas.Bool.{false≢true}
 use Rattle.std.proofs.lemmas.Bool.Decides.{Decides-like}
-use Rattle.sql_source.specs.Lent.{origin_of}
+use Rattle.sql_source.specs.Borrowed.{origin_of}
 use Rattle.sql_judge.proofs.Sides.{seen-left, seen-right, seen-either}
 use Rattle.sql_judge.proofs.nullable.+stands.Goals as goal
 

@@ -1,5 +1,5 @@
 use Rattle.std.proofs.Common.{map, refl}
-use Rattle.sql_source.specs.Lent.{origin_of}
+use Rattle.sql_source.specs.Borrowed.{origin_of}
 use Rattle.sql_places.specs.Borrowed.{select_of}
 use Rattle.sql_judge.specs.Padded.{IsPaddedAmong}
 use Rattle.sql_rules.proofs.Loops.{here_any}

@@ -2,7 +2,7 @@ use Rattle.std.proofs.Common.{ap, sym, ◌∙◌, subst}
 use Rattle.std.specs.Bool.{Decides}
 use Rattle.sql_node.proofs.Trees.{from_clause-of_FromClause}
 use Rattle.sql_node.specs.View.{from_clause_tree}
-use Rattle.sql_source.specs.Lent.{origin_of}
+use Rattle.sql_source.specs.Borrowed.{origin_of}
 use Rattle.sql_rules.specs.Lists.{AnyOf}
 use Rattle.sql_rules.specs.Scope.{leaves_of}
 use Rattle.sql_judge.proofs.Paddings.{LiesRight}

@@ -1,4 +1,4 @@
-use Rattle.sql_source.specs.Lent.{origin_of}
+use Rattle.sql_source.specs.Borrowed.{origin_of}
 use Rattle.sql_rules.proofs.Tests.{leaf-test}
 use Rattle.sql_judge.proofs.nullable.is_leaf.Goals as goal
 

@@ -1,6 +1,6 @@
 use Rattle.std.proofs.Common.{map, refl}
 use Rattle.sql_node.specs.View.{expr_tree}
-use Rattle.sql_source.specs.Lent.{origin_of}
+use Rattle.sql_source.specs.Borrowed.{origin_of}
 use Rattle.sql_rules.proofs.Loops.{here_any}
 use Rattle.sql_judge.proofs.test.any_node.Goals as goal
 

@@ -1,6 +1,6 @@
 use Rattle.std.proofs.Common.{drop, map}
 use Rattle.sql_node.specs.View.{expr_tree}
-use Rattle.sql_source.specs.Lent.{origin_of}
+use Rattle.sql_source.specs.Borrowed.{origin_of}
 use Rattle.sql_rules.specs.Lists.{AnyOf}
 use Rattle.sql_judge.proofs.test.any_node.Given as goal
 

@@ -1,6 +1,6 @@
 use Rattle.std.proofs.Common.{[], ◌∷◌, map, refl, rules}
 use Rattle.sql_node.specs.View.{items_of, order_item_tree}
-use Rattle.sql_source.specs.Lent.{origin_of}
+use Rattle.sql_source.specs.Borrowed.{origin_of}
 use Rattle.sql_rules.specs.Scope.{in_order_by, item_clauses}
 use Rattle.sql_places.specs.Claused.{clause_of}
 use Rattle.sql_places.proofs.Gathering.{each-next, each-end}

@@ -1,6 +1,6 @@
 use Rattle.std.proofs.Common.{◌≡◌, ◌++◌, drop, map}
 use Rattle.sql_node.specs.View.{items_of, order_item_tree}
-use Rattle.sql_source.specs.Lent.{origin_of}
+use Rattle.sql_source.specs.Borrowed.{origin_of}
 use Rattle.sql_rules.specs.Scope.{item_clauses}
 use Rattle.sql_places.specs.Claused.{clause_of}
 use Rattle.sql_places.proofs.clause.gather_items.Given as goal

@@ -1,6 +1,6 @@
 use Rattle.std.proofs.Common.{◌≡◌, ◌++◌, drop, map}
 use Rattle.sql_node.specs.View.{expr_tree, exprs_of, items_of, order_item_tree}
-use Rattle.sql_source.specs.Lent.{origin_of}
+use Rattle.sql_source.specs.Borrowed.{origin_of}
 use Rattle.sql_rules.specs.Scope.{in_exprs, in_items}
 use Rattle.sql_places.specs.Parted.{part_of}
 use Rattle.sql_places.proofs.part.+parts.Given as goal

@@ -14,7 +14,7 @@ returns-clause-read g c = λ schema told.
     (c.accepted_are_read.ensures.only schema d s places told.accepted)
     (c.accepted_are_read.ensures.as_many schema d s places told.accepted)
     (c.accepted_are_read.ensures.fills schema d s places told.accepted)
-    (c.names_one_leaf.ensures schema d s (told.accepted UnknownName) (told.accepted Ambiguous)
+    (c.names_one_leaf.ensures.named schema d s (told.accepted UnknownName) (told.accepted Ambiguous)
     (told.accepted NameClash) (told.accepted NotInScope))
 
 pub returns-clause-sound : goal.returns-clause-sound

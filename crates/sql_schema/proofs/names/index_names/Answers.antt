@@ -18,7 +18,7 @@ loop-index-preserved g c =
     let within : i < length xs = search rules in
     let is : x ≡ get_or xs i x = search rules in
     let named : string_bytes key ≡ name_of x = c.in_ok-name.ensures.ok ∙ c.declared_name.ensures in
-    indexes-more name_of (get_by_text before) (get_by_text after) xs i x within is
+    indexes-more (λ q y. bytes_eq (name_of y) q) (get_by_text before) (get_by_text after) xs i x within is
     (λ q. btree_map_updates_text (string_bytes key) before after (Some i) c.in_ok-insert.ensures.updates q
     ∙ ap (λ t. update bytes_eq (get_by_text before) t (Some i) q) named)
     c.loop-index.invariant

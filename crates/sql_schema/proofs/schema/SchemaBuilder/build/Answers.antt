@@ -29,8 +29,8 @@ new-requires-clause-sound c =
     (no-table-refused c.self.inside.tables.items
     (ap tables_refusal (sym c.as_slice.ensures.value) ∙ sym c.in_ok-found.ensures ∙ c.in-None.is)).1
 
-pub invariant_of-result : goal.invariant_of-result
-invariant_of-result c =
+pub with_indexes-requires : goal.with_indexes-requires
+with_indexes-requires c =
     let s : Declarations = record {
       tables = c.in_ok-tables.tables;
       joinables = c.self.inside.joinables.items;
@@ -59,8 +59,8 @@ returns-in-Some-refused-clause-refused c =
     inr
     (ap least_refusal (sym own) ∙ least-then s c.in_ok-refused.refused none is ∙ c.in-Some-refused.is)
 
-pub returns-in-None-refused-clause-sound : goal.returns-in-None-refused-clause-sound
-returns-in-None-refused-clause-sound c =
+pub returns-in_ok-with_indexes-in-None-refused-clause-sound : goal.returns-in_ok-with_indexes-in-None-refused-clause-sound
+returns-in_ok-with_indexes-in-None-refused-clause-sound c =
     let s : Declarations = record {
       tables = c.in_ok-tables.tables;
       joinables = c.self.inside.joinables.items;
