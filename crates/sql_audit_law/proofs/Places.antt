@@ -27,7 +27,7 @@ place o = path_of_table o.table
 abbrev pub places : List Origin → List Backwards
 places os = map place os
 
--- the tables of trees, one behind the other
+-- the tables of trees, one after the other
 abbrev pub in_trees : List (g.Expression Bound) → List Backwards
 in_trees [] = []
 in_trees (t ∷ ts) = l.tables_expression t ++ in_trees ts

@@ -1,4 +1,4 @@
--- Paths that stand for columns of their own sources, and trees one behind the other.
+-- Paths that stand for columns of their own sources, and trees one after the other.
 use Rattle.std.proofs.Common.{◌≡◌, ℕ, zero, suc, ◌+◌, List, [], ◌∷◌, ◌++◌, map, length, Bool, Option, None, Some, refl, sym, ap, ◌∙◌, subst, append_assoc, length-append, arith}
 use Rattle.std.proofs.lemmas.List.{append-nil, map-append}
 use Rattle.std.specs.Prelude.{slice_get}
@@ -65,7 +65,7 @@ pub stand-same : (ts : List TableDecl) (os : List Origin) (xs ys : List Use) (cs
     → Stand ts os ys cs → Stand ts os xs cs
 stand-same ts os xs ys cs e p = subst (λ zs. Stand ts os zs cs) (sym e) p
 
--- ## Trees one behind the other
+-- ## Trees one after the other
 
 abbrev pub uses_trees : List Level → ℕ → List (g.Expression Bound) → List Use
 uses_trees ls n [] = []

@@ -1,4 +1,4 @@
--- What is known after two parts of a text, one behind the other.
+-- What is known after two parts of a text, one after the other.
 use Rattle.std.proofs.Common.{◌≡◌, ℕ, ◌+◌, List, [], ◌∷◌, ◌++◌, length, map, Bool, refl, sym, ap, ◌∙◌, append_assoc, length-append}
 use Rattle.std.proofs.lemmas.List.{append-nil, map-append, length-map}
 use Rattle.sql_grammar.specs.MarkTree as t

@@ -15,7 +15,7 @@ fn plus(n: usize, more: usize) -> usize
     n.saturating_add(more)
 }
 
-/// How many leaves there are behind an expression, where there are n before it; in this and the functions below the greatest
+/// How many leaves there are up to the end of an expression, where there are n before it; in this and the functions below the greatest
 /// number stands for all from it on.
 #[cycle(count)]
 #[tactic(auto, using(sql_tree::proofs::Capped::capped_laws))]
@@ -199,7 +199,7 @@ fn exact(count: usize) -> Result<usize, NoMemory>
     }
 }
 
-/// The number of the next leaf behind a source whose first leaf has number n.
+/// The number of the leaf that follows a source whose first leaf has number n.
 pub(crate) fn source_end(n: usize, s: &Source) -> Result<usize, NoMemory>
     ensures { IfOk result (λ m. m ≡ n + length (l.tables_source (source_tree s.now))) }
 {

@@ -16,7 +16,7 @@ pub(crate) fn copied(alloc: Global, name: &str) -> Result<SqlText, NoMemory>
     Ok(SqlText::from(text))
 }
 
-/// Copies these names behind others.
+/// Appends copies of these names.
 fn push_copies(alloc: Global, out: &mut Vec<SqlText>, names: &[String]) -> Result<(), NoMemory>
     ensures { OnOk result (out.new.items ≡ out.old.items ++ map string_bytes names.now) }
 {

@@ -5,5 +5,6 @@ pub mod Leaves
 pub mod RestrictedSources
 pub mod Plain
 pub mod Restriction
+pub mod RestrictedClauses
 pub mod RestrictedRules
 pub mod Worked
