@@ -22,7 +22,7 @@ mod value;
 
 pub use document::{Document, Request, read_document};
 pub use guard::{Guard, Guarded, read_guarded};
-pub use names::{dialect_name, type_name};
+pub use names::{dialect, dialect_name, type_name};
 pub use query::depth_changes_nothing;
 pub use refusal::Refusal;
 pub use texts::{Texts, read_texts};

@@ -38,8 +38,9 @@ pub fn type_name(ty: SqlType) -> &'static str
     }
 }
 
+/// The dialect of that name.
 #[tactic(auto, unfolding(crate::specs::Names::dialect_of))]
-pub(crate) fn dialect(name: &str) -> Option<Dialect>
+pub fn dialect(name: &str) -> Option<Dialect>
     ensures { result ≡ dialect_of name.now }
 {
     match name {

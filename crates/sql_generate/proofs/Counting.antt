@@ -10,7 +10,7 @@ use Rattle.sql_rules.specs.declared.rule.Rule.{Rule}
 use Rattle.sql_check.specs.Compiled.{IsBuilt, IsLeast, IsRead, sql_of, binds_of}
 use Rattle.sql_check.specs.declared.built.Built.{Built}
 use Rattle.sql_output.proofs.Judging.{is-accepted, kept-none}
-use Rattle.sql_output.specs.Judgement.{Judges, refuses, accepts}
+use Rattle.sql_output.specs.Judgement.{Judges, accepts, made, refuses}
 use Rattle.sql_output.specs.Output.{Line, StatementRequest}
 use Rattle.sql_rows.specs.declared.cache.RequestKey.{RequestKey}
 use Rattle.sql_output.specs.inside.Keys.{HasLine, IsKept, id_found, keyed, line_found}
@@ -121,7 +121,7 @@ module _ (n : ℕ) (old new : Counts) (l : Line) where
 -- ---- the line of a request
 
 module _ (schema : Declarations) (r : StatementRequest) (n : ℕ) (f : RequestKey → Option ℕ) (old new : Counts) where
-  pub accepted-counted : (s : Statement) (b : Built) (g : RequestKey → Option ℕ) → Some s ≡ r.statement
+  pub accepted-counted : (s : Statement) (b : Built) (g : RequestKey → Option ℕ) → made s ≡ r.statement
       → IsBuilt schema r.dialect s b → IsRead r.dialect s b.sql b.binds
       → new
       ≡ with_accepted (length b.binds) (length b.sql) (is_own n (id_found f n (option_map (keyed r.dialect) b.id))) old
@@ -139,7 +139,7 @@ module _ (schema : Declarations) (r : StatementRequest) (n : ℕ) (f : RequestKe
         subst (λ k. IsKept f g n (option_map (keyed d) k)) built.id kept,
       )
 
-  pub refused-counted : (s : Statement) (rule : Rule) → Some s ≡ r.statement → IsLeast rule schema r.dialect s
+  pub refused-counted : (s : Statement) (rule : Rule) → made s ≡ r.statement → IsLeast rule schema r.dialect s
       → IsWithRefused (rule_text rule) old new → HasLine schema r n f f (TellMore n old new)
   refused-counted s rule some least is = (
     refuses (rule_text rule),

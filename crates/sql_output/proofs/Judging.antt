@@ -7,11 +7,10 @@ use Rattle.sql_dialect.specs.declared.backend.Dialect.{Dialect}
 use Rattle.sql_node.specs.Tree.{Statement}
 use Rattle.sql_rules.specs.Texts.{rule_text}
 use Rattle.sql_rules.specs.declared.rule.Rule.{Rule}
-use Rattle.sql_rules.specs.declared.rule.Rule.TheVariants.{UnknownName}
 use Rattle.sql_check.specs.Compiled.{IsBuilt, IsLeast, IsRead, binds_of}
 use Rattle.sql_check.specs.declared.built.Built.{Built}
 use Rattle.sql_output.specs.Objects.{line_object, refused, statement_data}
-use Rattle.sql_output.specs.Judgement.{IsAccepted, Judges, refuses, accepts}
+use Rattle.sql_output.specs.Judgement.{IsAccepted, Judges, accepts, made, refuses, unmade}
 use Rattle.sql_output.specs.Output.{Line, StatementRequest}
 use Rattle.sql_rows.specs.declared.cache.RequestKey.{RequestKey}
 use Rattle.sql_output.specs.inside.Keys.{keyed, id_found, line_found, IsKept, HasLine}
@@ -39,16 +38,12 @@ module _ (schema : Declarations) (r : StatementRequest) (n : ℕ) (f : RequestKe
   abbrev IsObject : Data → Line → Type 0
   IsObject v l = v ≡ line_object l.dialect l.id l.judgement
 
-  pub unknown-line : (Said : Line → Type 0) → None ≡ r.statement
-      → Said (line_found f n r.dialect (refuses (rule_text UnknownName))) → HasLine schema r n f f Said
-  unknown-line Said none said = (
-    refuses (rule_text UnknownName),
-    subst (λ o. Judges schema r.dialect o (refuses (rule_text UnknownName))) none refl,
-    said,
-    kept-none f n,
-  )
+  pub unmade-line : (Said : Line → Type 0) (why : List ℕ) → unmade why ≡ r.statement
+      → Said (line_found f n r.dialect (refuses why)) → HasLine schema r n f f Said
+  unmade-line Said why is said =
+      (refuses why, subst (λ o. Judges schema r.dialect o (refuses why)) is refl, said, kept-none f n)
 
-  pub refused-line : (s : Statement) (rule : Rule) (v : Data) → Some s ≡ r.statement
+  pub refused-line : (s : Statement) (rule : Rule) (v : Data) → made s ≡ r.statement
       → IsLeast rule schema r.dialect s → v ≡ refused (rule_text rule) → HasLine schema r n f f (IsObject v)
   refused-line s rule v some least is = (
     refuses (rule_text rule),
@@ -57,7 +52,7 @@ module _ (schema : Declarations) (r : StatementRequest) (n : ℕ) (f : RequestKe
     kept-none f n,
   )
 
-  pub accepted-line : (s : Statement) (b : Built) (g : RequestKey → Option ℕ) (v : Data) → Some s ≡ r.statement
+  pub accepted-line : (s : Statement) (b : Built) (g : RequestKey → Option ℕ) (v : Data) → made s ≡ r.statement
       → IsBuilt schema r.dialect s b → IsRead r.dialect s b.sql b.binds
       → v
       ≡ statement_data b.binds b.sql_types (id_found f n (option_map (keyed r.dialect) b.id)) b.safe b.sql

@@ -1,8 +1,7 @@
 -- A document has at most one output, and what is written for its first requests is a prefix of it.
-use Rattle.std.proofs.Common.{◌≡◌, ℕ, List, [], ◌∷◌, ◌++◌, Option, None, Some, refl, sym, ap, subst, ◌∙◌, append_assoc}
+use Rattle.std.proofs.Common.{◌≡◌, ℕ, List, [], ◌∷◌, ◌++◌, Option, refl, sym, ap, subst, ◌∙◌, append_assoc}
 use Rattle.sql_schema.specs.Declarations.{Declarations}
 use Rattle.sql_dialect.specs.declared.backend.Dialect.{Dialect}
-use Rattle.sql_node.specs.Tree.{Statement}
 use Rattle.sql_rules.specs.Rules.{Broken}
 use Rattle.sql_rules.specs.Texts.{rule_text}
 use Rattle.sql_rules.specs.Types.{columns}
@@ -10,21 +9,21 @@ use Rattle.sql_document.specs.Documents.{Document}
 use Rattle.sql_rows.proofs.Once.{least-is-one, one-list}
 use Rattle.sql_output.proofs.First.{one-id}
 use Rattle.sql_output.specs.Ids.{RequestShape, request_shape, IsId}
-use Rattle.sql_output.specs.Judgement.{Judgement, refuses, accepts, Judges}
+use Rattle.sql_output.specs.Judgement.{Judgement, Judges, Made, accepts, made, refuses, unmade}
 use Rattle.sql_output.specs.Output.{Line, StatementRequest, IsLine, AreLines, IsOutput, IsOutputPrefix, line_shape, line_text, lines_text, statement_requests}
 
 module _ (schema : Declarations) (d : Dialect) where
-  one-judgement : (o : Option Statement) (a b : Judgement) → Judges schema d o a → Judges schema d o b → a ≡ b
-  one-judgement None (refuses m) (refuses n) first second = ap refuses (first ∙ sym second)
-  one-judgement None (refuses m) (accepts t ts) first second = absurd second
-  one-judgement None (accepts t ts) b first second = absurd first
-  one-judgement (Some s) (refuses m) (refuses n) (a, least, is) (b, also, it) =
+  one-judgement : (o : Made) (a b : Judgement) → Judges schema d o a → Judges schema d o b → a ≡ b
+  one-judgement (unmade why) (refuses m) (refuses n) first second = ap refuses (first ∙ sym second)
+  one-judgement (unmade why) (refuses m) (accepts t ts) first second = absurd second
+  one-judgement (unmade why) (accepts t ts) b first second = absurd first
+  one-judgement (made s) (refuses m) (refuses n) (a, least, is) (b, also, it) =
       ap refuses (is ∙ ap rule_text (least-is-one schema d s a b least also) ∙ sym it)
-  one-judgement (Some s) (refuses m) (accepts t ts) (a, least, is) (same, accepted) =
+  one-judgement (made s) (refuses m) (accepts t ts) (a, least, is) (same, accepted) =
       absurd (accepted.accepted a (subst (λ x. Broken a schema d x) same least.broken))
-  one-judgement (Some s) (accepts t ts) (refuses n) (same, accepted) (b, also, it) =
+  one-judgement (made s) (accepts t ts) (refuses n) (same, accepted) (b, also, it) =
       absurd (accepted.accepted b (subst (λ x. Broken b schema d x) same also.broken))
-  one-judgement (Some s) (accepts t ts) (accepts u us) (same, accepted) (also, again) =
+  one-judgement (made s) (accepts t ts) (accepts u us) (same, accepted) (also, again) =
       let statements : t ≡ u = sym same ∙ also in
       let types = one-list ts us (accepted.types ∙ ap columns statements ∙ sym again.types) in
       λ i. accepts (statements i) (types i)

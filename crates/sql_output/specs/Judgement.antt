@@ -11,6 +11,16 @@ use Rattle.sql_rules.specs.declared.rule.Rule.{Rule}
 use Rattle.sql_rules.specs.declared.rule.Rule.TheVariants.{UnknownName}
 use Rattle.sql_check.specs.Compiled.{IsLeast, IsRead, sql_of, binds_of}
 
+-- What is made of a request: a statement, or none, and the name of the refusal.
+pub data Made : Type 0 where
+  unmade : List ℕ → Made
+  made : Statement → Made
+
+-- without a statement UnknownName, since the request names what the schema lacks
+abbrev pub made_of : Option Statement → Made
+made_of None = unmade (rule_text UnknownName)
+made_of (Some s) = made s
+
 -- The request is refused, by the refusal's name, or its statement is accepted, with columns of these types.
 pub data Judgement : Type 0 where
   refuses : List ℕ → Judgement
@@ -23,10 +33,9 @@ pub record IsAccepted (schema : Declarations) (d : Dialect) (s : Statement) (ts 
   pub types : map Some ts ≡ columns s
   pub read : IsRead d s (sql_of d s) (binds_of d s)
 
--- Without a statement UnknownName, since the request names what the schema lacks; else the first rule that the statement breaks;
--- else the statement is accepted.
-abbrev pub Judges : Declarations → Dialect → Option Statement → Judgement → Type 0
-Judges schema d None (refuses name) = name ≡ rule_text UnknownName
-Judges schema d None (accepts t ts) = ⊥
-Judges schema d (Some s) (refuses name) = (rule : Rule) × IsLeast rule schema d s × (name ≡ rule_text rule)
-Judges schema d (Some s) (accepts t ts) = (s ≡ t) × IsAccepted schema d t ts
+-- Without a statement the refusal that says why; else the first rule that the statement breaks; else the statement is accepted.
+abbrev pub Judges : Declarations → Dialect → Made → Judgement → Type 0
+Judges schema d (unmade why) (refuses name) = name ≡ why
+Judges schema d (unmade why) (accepts t ts) = ⊥
+Judges schema d (made s) (refuses name) = (rule : Rule) × IsLeast rule schema d s × (name ≡ rule_text rule)
+Judges schema d (made s) (accepts t ts) = (s ≡ t) × IsAccepted schema d t ts

@@ -3,21 +3,20 @@ use Rattle.std.specs.Prelude.{◌≡◌, ℕ, List, [], ◌∷◌, ◌++◌, map
 use Rattle.serde_json.specs.Written.{compact_text}
 use Rattle.sql_schema.specs.Declarations.{Declarations}
 use Rattle.sql_dialect.specs.declared.backend.Dialect.{Dialect}
-use Rattle.sql_node.specs.Tree.{Statement}
 use Rattle.sql_build.specs.Built.{statement_in}
 use Rattle.sql_document.specs.Documents.{Request, Document}
 use Rattle.sql_output.specs.Objects.{line_object}
 use Rattle.sql_output.specs.Ids.{RequestShape, request_shape, IsId}
-use Rattle.sql_output.specs.Judgement.{Judgement, Judges}
+use Rattle.sql_output.specs.Judgement.{Judgement, Judges, Made, made_of}
 
--- a dialect, and a statement; none where the query names what the schema lacks
+-- a dialect, and a statement, where there is one
 pub record StatementRequest : Type 0 where
   pub dialect : Dialect
-  pub statement : Option Statement
+  pub statement : Made
 
 -- the statement that a request's query makes over the schema
 abbrev pub statement_request : Declarations → Request → StatementRequest
-statement_request schema r = record { dialect = r.dialect; statement = statement_in schema r.dialect r.query }
+statement_request schema r = record { dialect = r.dialect; statement = made_of (statement_in schema r.dialect r.query) }
 
 abbrev pub statement_requests : Document → List StatementRequest
 statement_requests d = map (statement_request d.schema) d.requests

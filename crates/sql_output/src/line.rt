@@ -8,6 +8,7 @@ ghost use Rattle.sql_node.specs.View.{statement_tree};
 ghost use Rattle.sql_rows.specs.Entries.{IsNext};
 ghost use Rattle.sql_rules.specs.Texts.{rule_text};
 ghost use Rattle.sql_rules.specs.declared.rule.Rule.{Rule};
+ghost use Rattle.sql_output.specs.Judgement.{made};
 ghost use Rattle.sql_output.specs.Objects.{line_object, refused as refused_data, statement_data};
 ghost use Rattle.sql_output.specs.Output.{line_text, statement_request};
 ghost use Rattle.sql_output.specs.inside.Keys.{keyed, id_found, seen_at, IsKept, HasLine};
@@ -125,7 +126,7 @@ fn statement_object(
     statement: &Statement,
 ) -> Result<Json, AllocError>
     ensures object { IfOk result (λ v. HasLine cache.old.schema
-        (record { dialect = dialect; statement = Some (statement_tree statement.now) })
+        (record { dialect = dialect; statement = made (statement_tree statement.now) })
         number (seen_at seen.old) (seen_at seen.new)
         (λ l. view v ≡ line_object l.dialect l.id l.judgement)) }
     ensures schema { cache.new.schema ≡ cache.old.schema }
@@ -166,7 +167,7 @@ pub fn statement_line(
     statement: &Statement,
 ) -> Result<String, AllocError>
     ensures line { IfOk result (λ text. HasLine cache.old.schema
-        (record { dialect = dialect; statement = Some (statement_tree statement.now) })
+        (record { dialect = dialect; statement = made (statement_tree statement.now) })
         number (seen_at seen.old) (seen_at seen.new)
         (λ l. string_bytes text ≡ line_text l)) }
     ensures schema { cache.new.schema ≡ cache.old.schema }

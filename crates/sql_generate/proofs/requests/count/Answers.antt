@@ -1,9 +1,10 @@
-use Rattle.std.proofs.Common.{◌≡◌, ◌∙◌, ◌+◌, Some, ℕ, refl, subst}
+use Rattle.std.proofs.Common.{◌≡◌, ◌∙◌, ◌+◌, ℕ, refl, subst}
 use Rattle.std.specs.Prelude.{Result, Ok, Err, OnOk}
 use Rattle.std.proofs.lemmas.Result.{on_ok_weaker}
 use Rattle.sql_dialect.specs.declared.backend.Dialect.{Dialect}
 use Rattle.sql_node.specs.Tree.{Statement}
 use Rattle.sql_node.specs.View.{statement_tree}
+use Rattle.sql_output.specs.Judgement.{made}
 use Rattle.sql_output.specs.Output.{StatementRequest}
 use Rattle.sql_output.specs.inside.Keys.{HasLine, seen_at}
 use Rattle.sql_generate.proofs.Counting.{accepted-counted, refused-counted}
@@ -16,7 +17,7 @@ use Rattle.sql_generate.proofs.requests.count.Goals as goal
 
 -- a request of these parts
 abbrev of : Dialect → Statement → StatementRequest
-of d s = record { dialect = d; statement = Some s }
+of d s = record { dialect = d; statement = made s }
 
 is-request : (i : ℕ) (d : Dialect) (form : Form) (s : Statement) → d ≡ dialect_of i → form ≡ form_of i
     → s ≡ statement_with form d i → of d s ≡ request i

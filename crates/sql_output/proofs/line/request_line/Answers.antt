@@ -4,8 +4,11 @@ use Rattle.std.proofs.lemmas.Result.{IfOk-weaker}
 use Rattle.serde_json.specs.Written.{compact_text}
 use Rattle.sql_schema.specs.Declarations.{Declarations}
 use Rattle.sql_node.specs.View.{statement_tree}
+use Rattle.sql_rules.specs.Texts.{rule_text}
+use Rattle.sql_rules.specs.declared.rule.Rule.TheVariants.{UnknownName}
 use Rattle.sql_document.specs.Trees.{request_tree}
-use Rattle.sql_output.proofs.Judging.{unknown-line}
+use Rattle.sql_output.proofs.Judging.{unmade-line}
+use Rattle.sql_output.specs.Judgement.{made, made_of, unmade}
 use Rattle.sql_output.specs.Objects.{refused}
 use Rattle.sql_output.specs.Output.{line_text, statement_request}
 use Rattle.sql_output.specs.inside.Keys.{HasLine, seen_at}
@@ -16,11 +19,11 @@ unfolding line_text
 returns-in-None-clause-line c =
     let schema = c.args.cache.now.schema in
     let r = statement_request schema (request_tree c.args.request.now) in
-    let none : None ≡ r.statement =
-    ap (option_map statement_tree) (sym c.in-None.is) ∙ c.in_ok-statement.ensures
+    let none : unmade (rule_text UnknownName) ≡ r.statement =
+    ap (λ o. made_of (option_map statement_tree o)) (sym c.in-None.is) ∙ ap made_of c.in_ok-statement.ensures
     ∙ ap (λ (w : Declarations). (statement_request w (request_tree c.args.request.now)).statement) c.schema.ensures in
     IfOk-weaker c.refusal_line.result _ _
-    (λ text is. unknown-line schema r c.args.number (seen_at c.args.seen.now) (λ l. string_bytes text ≡ line_text l) none
+    (λ text is. unmade-line schema r c.args.number (seen_at c.args.seen.now) (λ l. string_bytes text ≡ line_text l) _ none
     (is ∙ ap (λ q. compact_text (refused q) ++ 10 ∷ []) c.name.ensures)) c.refusal_line.ensures
 
 pub returns-in-Some-clause-line : goal.returns-in-Some-clause-line
@@ -28,8 +31,8 @@ returns-in-Some-clause-line c =
     let schema = c.args.cache.now.schema in
     let r = statement_request schema (request_tree c.args.request.now) in
     let s = statement_tree c.in-Some.statement in
-    let some : Some s ≡ r.statement =
-    ap (option_map statement_tree) (sym c.in-Some.is) ∙ c.in_ok-statement.ensures
+    let some : made s ≡ r.statement =
+    ap (λ o. made_of (option_map statement_tree o)) (sym c.in-Some.is) ∙ ap made_of c.in_ok-statement.ensures
     ∙ ap (λ (w : Declarations). (statement_request w (request_tree c.args.request.now)).statement) c.schema.ensures in
     subst
     (λ o. IfOk c.statement_line.result (λ text. HasLine schema (record { dialect = r.dialect; statement = o }) c.args.number
