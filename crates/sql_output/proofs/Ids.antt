@@ -18,16 +18,13 @@ use Rattle.sql_law.proofs.SafeLaws.{safe_alike}
 use Rattle.sql_law.proofs.TypeLaws as columns
 use Rattle.sql_check.specs.Compiled.{sql_of, binds_of, is_safe_in}
 use Rattle.sql_output.proofs.First.{none_some, first-found, one-id, one-own, id-longer}
-use Rattle.sql_output.proofs.Keys.{Tells, index-told}
+use Rattle.sql_output.proofs.Keys.{index-told}
 use Rattle.sql_output.specs.Ids.{RequestShape, request_shape, IsFirst, IsId}
 use Rattle.sql_output.specs.Judgement.{Judgement, refuses, accepts}
 use Rattle.sql_output.specs.Output.{Line, StatementRequest, AreLines, line_shape}
 use Rattle.sql_output.specs.Shared.{Serves, HasAccepted, OneIdServes, OneShapeOneId}
 use Rattle.sql_rows.specs.declared.cache.RequestKey.{RequestKey}
-use Rattle.sql_output.specs.inside.Keys.{id_found, index_from, keyed, request_key}
-
-abbrev pub line_key : Line → Option RequestKey
-line_key l = request_key l.dialect l.judgement
+use Rattle.sql_output.specs.inside.Keys.{id_found, index_from, keyed, line_key, request_key, Tells}
 
 abbrev shaped : Dialect → Statement → RequestShape
 shaped d s = record { dialect = d; shape = shape s }

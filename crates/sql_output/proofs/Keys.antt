@@ -2,7 +2,7 @@
 use Rattle.std.proofs.Common.{◌≡◌, ℕ, suc, ◌+◌, Bool, true, false, cond, Option, Some, None, List, [], ◌∷◌, ◌++◌, length, refl, sym, ap, ◌∙◌, arith}
 use Rattle.std.specs.Option.{option_or, unwrap_or}
 use Rattle.std.specs.Ordering.{is_eq}
-use Rattle.sql_output.specs.inside.Keys.{same_key, index_from, IsKept}
+use Rattle.sql_output.specs.inside.Keys.{same_key, index_from, IsKept, Tells}
 use Rattle.sql_rows.specs.declared.cache.RequestKey.{RequestKey}
 use Rattle.sql_rows.proofs.Exact.{exact-key}
 use Rattle.sql_rows.specs.contracts.cache.RequestKeyOrd.TheImpl as request_ord
@@ -44,10 +44,6 @@ kept-new f s n h q = ap (λ b. cond b (Some n) (f q)) (sym (matches_eq-law s q))
     here : (b : Bool) → (b ≡ true → s ≡ q) → cond b (Some n) (f q) ≡ option_or (f q) (cond b (Some n) None)
     here true i = let k : f q ≡ None = sym (ap f (i refl)) ∙ h in rw k refl
     here false i = option_or-none (f q)
-
--- a look-up f has the index of each key in xs
-abbrev pub Tells : (RequestKey → Option ℕ) → List (Option RequestKey) → Type 0
-Tells f xs = (q : RequestKey) → f q ≡ index_from 1 xs q
 
 -- the index of a key that comes after xs: what f has, or else its own
 pub index-told : (f : RequestKey → Option ℕ) (xs ys : List (Option RequestKey)) (s : RequestKey) (n : ℕ) → Tells f xs

@@ -1,5 +1,5 @@
 -- Lines, and what is written of them so far.
-use Rattle.std.proofs.Common.{◌≡◌, ℕ, suc, ◌+◌, List, [], ◌∷◌, ◌++◌, map, length, false, Option, Some, None, refl, sym, ap, subst, ◌∙◌, append_assoc, append-nil}
+use Rattle.std.proofs.Common.{◌≡◌, ℕ, suc, ◌+◌, List, [], ◌∷◌, ◌++◌, map, length, false, Option, Some, None, refl, sym, ap, ap₂, subst, ◌∙◌, append_assoc, append-nil}
 use Rattle.std.proofs.lemmas.List.{length-map, map-append}
 use Rattle.std.specs.Prelude.{ℤ, pos, negsuc}
 use Rattle.serde_json.specs.View.{items_of}
@@ -15,14 +15,14 @@ use Rattle.sql_pass.specs.declared.value.Value.{Value}
 use Rattle.sql_pass.specs.declared.value.Value.TheVariants as V
 use Rattle.sql_node.specs.Tree.{Statement}
 use Rattle.sql_check.specs.Compiled.{binds_of}
-use Rattle.sql_output.proofs.Ids.{found-id, line_key}
-use Rattle.sql_output.proofs.Keys.{Tells, tells-more}
+use Rattle.sql_output.proofs.Ids.{found-id}
+use Rattle.sql_output.proofs.Keys.{tells-more}
 use Rattle.sql_output.specs.Ids.{RequestShape}
 use Rattle.sql_output.specs.Objects.{value_data, type_data, bound_data, id_data, accepted, line_object}
 use Rattle.sql_output.specs.Judgement.{Judgement, refuses, accepts, Judges}
 use Rattle.sql_output.specs.Output.{Line, StatementRequest, IsLine, AreLines, line_shape, line_text, lines_text}
 use Rattle.sql_rows.specs.declared.cache.RequestKey.{RequestKey}
-use Rattle.sql_output.specs.inside.Keys.{request_key, line_found, IsKept}
+use Rattle.sql_output.specs.inside.Keys.{request_key, line_found, line_key, HasLine, IsKept, Tells, AreWritten}
 
 -- ---- no number of a line is a float
 
@@ -110,3 +110,16 @@ module _ (schema : Declarations) (f g : RequestKey → Option ℕ) (ls : List Li
       subst (Tells g) (sym (map-append line_key ls (line_found f n d j ∷ [])))
       (tells-more f g (map line_key ls) (request_key d j) n tells
       (number ∙ ap (λ m. 1 + m) (sym (length-map ls line_key))) kept)
+
+-- the lines of these requests are written, and that of one more
+pub written-more : (schema : Declarations) (f g : RequestKey → Option ℕ) (rs : List StatementRequest) (n : ℕ)
+    (text line : List ℕ) (r : StatementRequest) → n ≡ 1 + length rs → AreWritten schema f rs text
+    → HasLine schema r n f g (λ l. line ≡ line_text l) → AreWritten schema g (rs ++ r ∷ []) (text ++ line)
+written-more schema f g rs n text line r number (ls, lines, tells, is) (j, judged, told, kept) =
+    let one = line_found f n r.dialect j in
+    let counted : n ≡ 1 + length ls = number ∙ ap (λ m. 1 + m) (sym (lines-length schema [] rs ls lines)) in (
+      ls ++ one ∷ [],
+      lines-more schema [] rs ls r one lines (line-found schema f g ls n counted tells r j judged),
+      line-kept schema f g ls n counted tells r.dialect j kept,
+      ap₂ (λ a b. a ++ b) is told ∙ sym (text-more ls one),
+    )

@@ -6,7 +6,7 @@ use Rattle.sql_tool.proofs.Outcomes.{all-given}
 use Rattle.sql_tool.specs.Command.{IsDone, IsOutputOf, reads_source}
 use Rattle.sql_tool.specs.Run.{HasRead, Outcome}
 use Rattle.sql_tool.specs.declared.command.Command.{Command}
-use Rattle.sql_tool.specs.declared.command.Command.TheVariants.{Build, Generate, Read, Audit}
+use Rattle.sql_tool.specs.declared.command.Command.TheVariants.{Build, Generate, Read, Audit, Guard}
 use Rattle.sql_tool.specs.declared.status.Status.{Status}
 use Rattle.sql_tool.specs.declared.status.Status.TheVariants.{Done, Usage, ReadFault}
 
@@ -22,6 +22,7 @@ same-output Build unread a b text output = cc
 same-output (Generate n) unread a b text output = output
 same-output (Read d) unread a b text output = cc
 same-output (Audit d) unread a b text output = cc
+same-output Guard unread a b text output = cc
 
 done-if : (b : Bool) (c : Command) (input given text : List ℕ) (rest : Option (List ℕ)) → reads_source c ≡ b
     → Consumes (Some input) rest given → HasRead b given (IsAtEnd rest) → IsOutputOf c given text

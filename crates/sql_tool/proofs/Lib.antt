@@ -2,5 +2,6 @@ pub mod Commands
 pub mod Counts
 pub mod Endings
 pub mod Headlines
+pub mod Items
 pub mod Outcomes
 pub mod Taking

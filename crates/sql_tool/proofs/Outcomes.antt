@@ -6,7 +6,7 @@ use Rattle.std.proofs.lemmas.Bool.Decides.{nat_tests}
 use Rattle.sql_tool.specs.Command.{IsBadInput, IsOutputOf, reads_source}
 use Rattle.sql_tool.specs.Run.{Ends, HasRead, HasReadSome, Outcome, Took, may_write, status_from, status_of, status_on}
 use Rattle.sql_tool.specs.declared.command.Command.{Command}
-use Rattle.sql_tool.specs.declared.command.Command.TheVariants.{Build, Generate, Read, Audit}
+use Rattle.sql_tool.specs.declared.command.Command.TheVariants.{Build, Generate, Read, Audit, Guard}
 use Rattle.sql_tool.specs.declared.run.TheConstants.{LIMIT}
 use Rattle.sql_tool.specs.declared.status.Status.{Status}
 use Rattle.sql_tool.specs.declared.status.Status.TheVariants.{Done, Usage, BadDocument, ReadFault, WriteFault, NoMemory, TooLarge}
@@ -83,12 +83,14 @@ done-status Build given written (d, is, output) = ap status_from is
 done-status (Generate n) given written output = refl
 done-status (Read d) given written (t, is, output) = ap status_from is
 done-status (Audit d) given written (x, is, output) = ap status_from is
+done-status Guard given written (x, is, output) = ap status_from is
 
 bad-status : (c : Command) (given : List ℕ) → IsBadInput c given → status_on c given ≡ BadDocument
 bad-status Build given bad = ap status_from bad
 bad-status (Generate n) given bad = absurd bad
 bad-status (Read d) given bad = ap status_from bad
 bad-status (Audit d) given bad = ap status_from bad
+bad-status Guard given bad = ap status_from bad
 
 -- a command that reads no source ends so whatever the source has
 unread-status : (c : Command) → reads_source c ≡ false → (a b : List ℕ) → status_on c a ≡ status_on c b
@@ -96,6 +98,7 @@ unread-status Build unread a b = cc
 unread-status (Generate n) unread a b = refl
 unread-status (Read d) unread a b = cc
 unread-status (Audit d) unread a b = cc
+unread-status Guard unread a b = cc
 
 pub all-given : (xs given : List ℕ) (rest : Option (List ℕ)) → Consumes (Some xs) rest given → IsAtEnd rest → given ≡ xs
 all-given xs given None taken end = absurd taken

@@ -4,10 +4,11 @@ use Rattle.std.specs.Io.KnownBytes.{Consumes}
 use Rattle.sql_stream.specs.Reading.{Gives}
 use Rattle.sql_document.specs.Documents.{document}
 use Rattle.sql_document.specs.Texts.{texts_in}
+use Rattle.sql_guard_output.specs.Tenants.{tenant_document}
 use Rattle.sql_read_output.specs.Input.{input_text}
 use Rattle.sql_tool.specs.Command.{IsBadInput, IsOutputOf, IsOutputPrefixOf, reads_source}
 use Rattle.sql_tool.specs.declared.command.Command.{Command}
-use Rattle.sql_tool.specs.declared.command.Command.TheVariants.{Build, Generate, Read, Audit}
+use Rattle.sql_tool.specs.declared.command.Command.TheVariants.{Build, Generate, Read, Audit, Guard}
 use Rattle.sql_tool.specs.declared.run.TheConstants.{LIMIT}
 use Rattle.sql_tool.specs.declared.status.Status.{Status}
 use Rattle.sql_tool.specs.declared.status.Status.TheVariants.{Done, Usage, BadDocument, ReadFault, WriteFault, NoMemory, TooLarge}
@@ -61,6 +62,7 @@ status_on Build input = status_from (document input)
 status_on (Generate n) input = Done
 status_on (Read d) input = status_from (input_text input)
 status_on (Audit d) input = status_from (texts_in input)
+status_on Guard input = status_from (tenant_document input)
 
 -- the status of a run with no fault and enough memory
 abbrev pub status_of : Option Command → List ℕ → Status

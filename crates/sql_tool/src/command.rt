@@ -1,8 +1,8 @@
 ghost use Rattle.std.specs.Prelude.{◌≡◌, ◌<◌, ◌↔◌, ◌⊎◌, ◌∷◌, [], length, map, slice_index, string_bytes, IsTrue};
-ghost use Rattle.sql_document.specs.Names.{dialect_of};
 ghost use Rattle.sql_tool.specs.Command.{command_of, count_of, reads_source};
 
 use sql_dialect::Dialect;
+use sql_document::dialect;
 
 /// How many requests `generate` makes at most.
 pub const MAX_REQUESTS: u32 = 100000;
@@ -18,6 +18,8 @@ pub enum Command {
     Read(Dialect),
     /// `audit D`: reads a schema and texts in a dialect, and writes a line for each text: which tables and columns it uses.
     Audit(Dialect),
+    /// `guard`: reads a document with a tenant, and writes a line for each of its requests, restricted to the tenant's rows.
+    Guard,
 }
 
 impl Command {
@@ -37,6 +39,7 @@ impl Command {
     {
         match word {
             "build" => Some(Command::Build),
+            "guard" => Some(Command::Guard),
             _ => None,
         }
     }
@@ -57,7 +60,7 @@ impl Command {
         ensures { result ≡ reads_source self }
     {
         match self {
-            Command::Build | Command::Read(_) | Command::Audit(_) => true,
+            Command::Build | Command::Read(_) | Command::Audit(_) | Command::Guard => true,
             Command::Generate(_) => false,
         }
     }
@@ -83,20 +86,6 @@ fn count(word: &str) -> Option<u32>
     }
     match word.parse() {
         Ok(count) if count <= MAX_REQUESTS => Some(count),
-        _ => None,
-    }
-}
-
-/// The dialect of that name.
-#[tactic(auto, unfolding(sql_document::specs::Names::dialect_of))]
-fn dialect(name: &str) -> Option<Dialect>
-    ensures { result ≡ dialect_of name.now }
-{
-    match name {
-        "Pg" => Some(Dialect::Pg),
-        "Mysql" => Some(Dialect::Mysql),
-        "Sqlite" => Some(Dialect::Sqlite),
-        "Bracket" => Some(Dialect::Bracket),
         _ => None,
     }
 }

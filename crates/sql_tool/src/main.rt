@@ -1,9 +1,14 @@
 //! `build` reads a document on standard input and writes a line for each of its requests; `generate N` writes a line that
 //! sums up N requests of its own; `read D` reads a text in the dialect D and writes a line with the text of its tree; `audit D` reads a schema
-//! and texts and writes a line for each text, with the tables and columns that it uses.
+//! and texts and writes a line for each text, with the tables and columns that it uses; `guard` reads a document with a tenant and writes a
+//! line for each of its requests, restricted to the tenant's rows.
 #![tactic(auto)]
 
+mod audit;
+mod build;
 mod command;
+mod guard;
+mod lines;
 mod run;
 mod status;
 

@@ -1,128 +1,32 @@
-ghost use Rattle.std.specs.Prelude.{◌≡◌, ◌<◌, ◌+◌, ◌↔◌, length, ◌⊎◌, ◌++◌, List, ℕ, map, IfSome, OnOk, OnErr, IfErr, false, Some, None, string_bytes, []};
+ghost use Rattle.std.specs.Prelude.{◌≡◌, ◌<◌, ◌+◌, ◌↔◌, length, ◌⊎◌, ◌++◌, List, ℕ, map, IfSome, false, Some, None, string_bytes, []};
 ghost use Rattle.std.specs.Io.KnownBytes.{Appends, Consumes, IsAtEnd, Keeps};
 ghost use Rattle.sql_schema.specs.Declarations.{Declarations};
 ghost use Rattle.sql_stream.specs.Causes.{HasRisen};
 ghost use Rattle.sql_dialect.specs.declared.backend.Dialect.{Dialect};
 ghost use Rattle.sql_document.specs.Documents.{Document as DocumentTree};
-ghost use Rattle.sql_document.specs.Trees.{document_tree, request_tree};
 ghost use Rattle.sql_generate.specs.Summary.{IsSummary};
 ghost use Rattle.sql_output.specs.Output.{AreLines, IsOutput, IsOutputPrefix, Line, StatementRequest};
 ghost use Rattle.sql_output.specs.Shared.{OneIdServes, OneShapeOneId};
 ghost use Rattle.sql_read_output.specs.Line.{IsReadingLine};
-ghost use Rattle.sql_audit_output.specs.Output.{IsAuditOutput, IsAuditOutputPrefix};
 ghost use Rattle.sql_tool.specs.Command.{command_of, reads_source, AreWordsOf, IsDone};
 ghost use Rattle.sql_tool.specs.Run.{Ends, Outcome, Took, may_write, run_reads, status_of};
 ghost use Rattle.sql_tool.specs.inside.Responses.{Response, WroteLine};
-ghost use Rattle.sql_tool.specs.declared.command.Command.TheVariants.{Audit, Build, Generate, Read};
+ghost use Rattle.sql_tool.specs.declared.command.Command.TheVariants.{Generate, Read};
 ghost use Rattle.sql_tool.specs.declared.command.Command.{Command};
-ghost use Rattle.sql_tool.specs.declared.run.WriteError.TheVariants.{Memory, Fault};
 
+use crate::audit::write_audit;
+use crate::build::write_build;
 use crate::command::Command;
+use crate::guard::write_guard;
 use crate::status::Status;
-use sql_audit_output::audit_line;
 use sql_dialect::Dialect;
-use sql_document::{Document, Refusal, Request, Texts, read_document, read_texts};
 use sql_generate::generate;
-use sql_output::{RequestKey, StatementCache, request_line};
 use sql_read_output::{input_text, reading_line};
-use sql_schema::{Schema, SqlText};
 use sql_stream::{Failed, ReadError, Sink, Source, read_all, write_all};
 use std::alloc::{AllocError, Global};
-use std::collections::BTreeMap;
-use std::num::NonZeroUsize;
 
 /// How many bytes an input may have.
 pub const LIMIT: usize = 16777216;
-
-/// Why not all was written.
-#[derive(Debug, Clone, Copy, PartialEq, Eq)]
-enum WriteError {
-    Memory,
-    Fault,
-}
-
-impl From<AllocError> for WriteError {
-    ghost from_gives = { λ _ e. e ≡ Memory };
-
-    fn from(_: AllocError) -> WriteError {
-        WriteError::Memory
-    }
-}
-
-impl From<Failed> for WriteError {
-    ghost from_gives = { λ _ e. e ≡ Fault };
-
-    fn from(_: Failed) -> WriteError {
-        WriteError::Fault
-    }
-}
-
-/// How many answers are kept for requests of the same dialect and shape.
-const ENTRIES: usize = 256;
-
-/// Writes a line for each of these requests, in order.
-fn write_requests<K: Sink>(
-    alloc: Global,
-    cache: &mut StatementCache,
-    requests: &[Request],
-    sink: &mut K,
-) -> Result<(), WriteError>
-    ensures all { OnOk result ((text : List ℕ)
-        × IsOutput (record { schema = cache.old.schema; requests = map request_tree requests.now }) text
-        × Appends (K.held sink.old) (K.held sink.new) text) }
-    ensures prefix { OnErr result ((text : List ℕ)
-        × IsOutputPrefix (record { schema = cache.old.schema; requests = map request_tree requests.now }) text
-        × Appends (K.held sink.old) (K.held sink.new) text) }
-    ensures fault { IfErr result (λ e. e ≡ WriteError.Fault
-        → HasRisen (K.faults sink.old) (K.faults sink.new)) }
-    ensures no_fault { IfErr result (λ e. e ≡ WriteError.Memory
-        → K.faults sink.new ≡ K.faults sink.old) }
-    ensures ok { OnOk result (K.faults sink.new ≡ K.faults sink.old) }
-{
-    let mut seen: BTreeMap<RequestKey, u64> = BTreeMap::new(alloc);
-    for (before, request) in requests.iter().enumerate() {
-        let text = request_line(alloc, cache, &mut seen, before as u64 + 1, request)?;
-        write_all(sink, text.as_bytes())?;
-    }
-    Ok(())
-}
-
-/// Writes a line for each request of the document, in order.
-fn write_lines<K: Sink>(alloc: Global, document: Document, sink: &mut K) -> Result<(), WriteError>
-    ensures all { OnOk result ((text : List ℕ) × IsOutput (document_tree document) text
-        × Appends (K.held sink.old) (K.held sink.new) text) }
-    ensures prefix { OnErr result ((text : List ℕ)
-        × IsOutputPrefix (document_tree document) text
-        × Appends (K.held sink.old) (K.held sink.new) text) }
-    ensures fault { IfErr result (λ e. e ≡ WriteError.Fault
-        → HasRisen (K.faults sink.old) (K.faults sink.new)) }
-    ensures no_fault { IfErr result (λ e. e ≡ WriteError.Memory
-        → K.faults sink.new ≡ K.faults sink.old) }
-    ensures ok { OnOk result (K.faults sink.new ≡ K.faults sink.old) }
-{
-    let Document { schema, requests } = document;
-    let capacity = NonZeroUsize::new(ENTRIES).unwrap();
-    let mut cache = StatementCache::new(alloc, schema, capacity)?;
-    write_requests(alloc, &mut cache, requests.as_slice(), sink)
-}
-
-/// Writes the output of the document that the bytes are.
-fn write_output<K: Sink>(alloc: Global, bytes: &[u8], sink: &mut K) -> Status
-    ensures response { (written : List ℕ) × Appends (K.held sink.old) (K.held sink.new) written
-        × Response result Build bytes.now written }
-    ensures fault { result ≡ Status.WriteFault → HasRisen (K.faults sink.old) (K.faults sink.new) }
-    ensures no_fault { (result ≡ Status.WriteFault → ⊥) → K.faults sink.new ≡ K.faults sink.old }
-{
-    match read_document(alloc, bytes) {
-        Err(Refusal::NoMemory) => Status::NoMemory,
-        Err(Refusal::NotADocument) => Status::BadDocument,
-        Ok(document) => match write_lines(alloc, document, sink) {
-            Ok(()) => Status::Done,
-            Err(WriteError::Memory) => Status::NoMemory,
-            Err(WriteError::Fault) => Status::WriteFault,
-        },
-    }
-}
 
 /// Writes one line.
 fn write_line<K: Sink>(line: &str, sink: &mut K) -> Status
@@ -167,53 +71,6 @@ fn write_reading<K: Sink>(alloc: Global, dialect: Dialect, bytes: &[u8], sink: &
     }
 }
 
-/// Writes a line for each of these texts, in order.
-fn write_audits<K: Sink>(
-    alloc: Global,
-    dialect: Dialect,
-    schema: &Schema,
-    texts: &[SqlText],
-    sink: &mut K,
-) -> Result<(), WriteError>
-    ensures all { OnOk result ((text : List ℕ)
-        × IsAuditOutput dialect (record { schema = schema.now; texts = texts.now }) text
-        × Appends (K.held sink.old) (K.held sink.new) text) }
-    ensures prefix { OnErr result ((text : List ℕ)
-        × IsAuditOutputPrefix dialect (record { schema = schema.now; texts = texts.now }) text
-        × Appends (K.held sink.old) (K.held sink.new) text) }
-    ensures fault { IfErr result (λ e. e ≡ WriteError.Fault
-        → HasRisen (K.faults sink.old) (K.faults sink.new)) }
-    ensures no_fault { IfErr result (λ e. e ≡ WriteError.Memory
-        → K.faults sink.new ≡ K.faults sink.old) }
-    ensures ok { OnOk result (K.faults sink.new ≡ K.faults sink.old) }
-{
-    for text in texts {
-        let line = audit_line(alloc, dialect, schema, text.as_str())?;
-        write_all(sink, line.as_bytes())?;
-    }
-    Ok(())
-}
-
-/// Writes which tables and columns each text of the input uses.
-fn write_audit<K: Sink>(alloc: Global, dialect: Dialect, bytes: &[u8], sink: &mut K) -> Status
-    ensures response { (written : List ℕ) × Appends (K.held sink.old) (K.held sink.new) written
-        × Response result (Audit dialect) bytes.now written }
-    ensures fault { result ≡ Status.WriteFault → HasRisen (K.faults sink.old) (K.faults sink.new) }
-    ensures no_fault { (result ≡ Status.WriteFault → ⊥) → K.faults sink.new ≡ K.faults sink.old }
-{
-    match read_texts(alloc, bytes) {
-        Err(Refusal::NoMemory) => Status::NoMemory,
-        Err(Refusal::NotADocument) => Status::BadDocument,
-        Ok(Texts { schema, texts }) => {
-            match write_audits(alloc, dialect, &schema, texts.as_slice(), sink) {
-                Ok(()) => Status::Done,
-                Err(WriteError::Memory) => Status::NoMemory,
-                Err(WriteError::Fault) => Status::WriteFault,
-            }
-        }
-    }
-}
-
 /// Writes what the command answers to these bytes.
 fn answer<K: Sink>(alloc: Global, command: Command, bytes: &[u8], sink: &mut K) -> Status
     ensures response { (written : List ℕ) × Appends (K.held sink.old) (K.held sink.new) written
@@ -222,10 +79,11 @@ fn answer<K: Sink>(alloc: Global, command: Command, bytes: &[u8], sink: &mut K) 
     ensures no_fault { (result ≡ Status.WriteFault → ⊥) → K.faults sink.new ≡ K.faults sink.old }
 {
     match command {
-        Command::Build => write_output(alloc, bytes, sink),
+        Command::Build => write_build(alloc, bytes, sink),
         Command::Generate(count) => write_summary(alloc, count, sink),
         Command::Read(dialect) => write_reading(alloc, dialect, bytes, sink),
         Command::Audit(dialect) => write_audit(alloc, dialect, bytes, sink),
+        Command::Guard => write_guard(alloc, bytes, sink),
     }
 }
 
@@ -292,14 +150,15 @@ fn perform<S: Source, K: Sink>(
 
 /// Does what the words say: on `build`, writes a line for each request of the document that the source holds; on `generate N`, a
 /// line that sums up N generated requests; on `read D`, a line with the text that the source holds, as its tree is written; on `audit D`, a
-/// line for each text of the source, with the tables and columns that it uses.
+/// line for each text of the source, with the tables and columns that it uses; on `guard`, a line for each request of the document that
+/// the source holds, its statement restricted to the rows of the document's tenant.
 pub fn run<S: Source, K: Sink>(
     alloc: Global,
     words: &[String],
     source: &mut S,
     sink: &mut K,
 ) -> Status
-    // The words are a command where they are its own: `build`, `generate N`, `read D`, `audit D`.
+    // The words are a command where they are its own: `build`, `generate N`, `read D`, `audit D`, `guard`.
     ensures command { (given : List (List ℕ)) (c : Command) → (command_of given ≡ Some c)
         ↔ AreWordsOf c given }
     // On Done the command was carried out. On `build` the source was read to its end, its bytes were a document, and what was
@@ -308,6 +167,8 @@ pub fn run<S: Source, K: Sink>(
     // k-th value beside it, and whose column paths each name one source. On `read D` the source was read to its end, its bytes
     // were a text, and the line is of the text's only reading in D, or says that it has none. On `audit D` they were a schema and
     // texts, and there is a line for each text, in order: of its report, by its only reading, or of the first refusal that holds.
+    // On `guard` they were a document with a tenant, and there is a line for each request, in order: as on `build` of the
+    // request's statement with the tenant's predicate beside each leaf of its table, or of the first refusal that holds.
     // On `generate N` the line is the summary of the N generated requests.
     ensures headline { result ≡ Status.Done → IfSome (S.left source.old) (λ input.
         (c : Command) × (command_of (map string_bytes words.now) ≡ Some c)

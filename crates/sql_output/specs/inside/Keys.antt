@@ -1,5 +1,5 @@
 -- The program's own keys: how it finds the id of a request in an ordered map.
-use Rattle.std.specs.Prelude.{◌≡◌, ℕ, ◌+◌, List, [], ◌∷◌, Bool, Option, Some, None, option_map, if◌then◌else◌}
+use Rattle.std.specs.Prelude.{◌≡◌, ℕ, ◌+◌, List, [], ◌∷◌, map, Bool, Option, Some, None, option_map, if◌then◌else◌}
 use Rattle.std.specs.Option.{option_or, unwrap_or}
 use Rattle.std.specs.BTreeMap as tree
 use Rattle.std.specs.BTreeMap.{BTreeMap}
@@ -8,7 +8,7 @@ use Rattle.sql_key.specs.Keys.{id_of}
 use Rattle.sql_key.specs.declared.kind.KeyNode.{KeyNode}
 use Rattle.sql_schema.specs.Declarations.{Declarations}
 use Rattle.sql_output.specs.Judgement.{Judgement, refuses, accepts, Judges}
-use Rattle.sql_output.specs.Output.{Line, StatementRequest}
+use Rattle.sql_output.specs.Output.{AreLines, Line, StatementRequest, lines_text}
 use Rattle.sql_rows.specs.declared.cache.RequestKey.{RequestKey}
 use Rattle.sql_rows.specs.contracts.cache.RequestKeyPartialEq.TheImpl as key_eq
 use Rattle.sql_rows.specs.contracts.cache.RequestKeyOrd.TheImpl as key_ord
@@ -51,3 +51,15 @@ abbrev pub HasLine : Declarations → StatementRequest → ℕ → (RequestKey �
 HasLine schema r n f g Said =
     (j : Judgement) × Judges schema r.dialect r.statement j × Said (line_found f n r.dialect j)
     × IsKept f g n (request_key r.dialect j)
+
+abbrev pub line_key : Line → Option RequestKey
+line_key l = request_key l.dialect l.judgement
+
+-- a look-up f has the index of each key in xs
+abbrev pub Tells : (RequestKey → Option ℕ) → List (Option RequestKey) → Type 0
+Tells f xs = (q : RequestKey) → f q ≡ index_from 1 xs q
+
+-- the text is the lines of these requests, and f has the numbers of their keys
+abbrev pub AreWritten : Declarations → (RequestKey → Option ℕ) → List StatementRequest → List ℕ → Type 0
+AreWritten schema f rs text =
+    (ls : List Line) × AreLines schema [] rs ls × Tells f (map line_key ls) × (text ≡ lines_text ls)

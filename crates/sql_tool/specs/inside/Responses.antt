@@ -1,5 +1,5 @@
 -- What the functions inside `run` promise.
-use Rattle.std.specs.Prelude.{◌≡◌, ◌⊎◌, ℕ, List, []}
+use Rattle.std.specs.Prelude.{◌≡◌, ◌⊎◌, ℕ, List, [], ◌++◌}
 use Rattle.sql_tool.specs.Command.{IsBadInput, IsOutputOf, IsOutputPrefixOf, IsPrefixOf}
 use Rattle.sql_tool.specs.declared.command.Command.{Command}
 use Rattle.sql_tool.specs.declared.status.Status.{Status}
@@ -24,3 +24,19 @@ WroteLine ReadFault line written = ⊥
 WroteLine WriteFault line written = IsPrefixOf line written
 WroteLine NoMemory line written = ⊥
 WroteLine TooLarge line written = ⊥
+
+-- These bytes are a prefix of the lines of the first items, of which Has says in some state that they are theirs.
+abbrev pub WroteSome : {S T : Type 0} → (S → List T → List ℕ → Type 0) → List T → List ℕ → Type 0
+WroteSome {S} {T} Has items written =
+    (state : S) × (some later : List T) × (items ≡ some ++ later)
+    × ((text : List ℕ) × Has state some text × IsPrefixOf text written)
+
+-- What is written of the lines of items, where the writing ends so.
+abbrev pub WroteLines : {S T : Type 0} → Status → (S → List T → List ℕ → Type 0) → List T → List ℕ → Type 0
+WroteLines {S} Done Has items written = (state : S) × Has state items written
+WroteLines Usage Has items written = ⊥
+WroteLines BadDocument Has items written = ⊥
+WroteLines ReadFault Has items written = ⊥
+WroteLines WriteFault Has items written = WroteSome Has items written
+WroteLines NoMemory Has items written = WroteSome Has items written
+WroteLines TooLarge Has items written = ⊥

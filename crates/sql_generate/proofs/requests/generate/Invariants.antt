@@ -1,8 +1,6 @@
 use Rattle.std.proofs.Common.{List, [], map}
-use Rattle.sql_output.proofs.Ids.{line_key}
-use Rattle.sql_output.proofs.Keys.{Tells}
 use Rattle.sql_output.specs.Output.{Line, AreLines}
-use Rattle.sql_output.specs.inside.Keys.{seen_at}
+use Rattle.sql_output.specs.inside.Keys.{line_key, seen_at, Tells}
 use Rattle.sql_generate.specs.Generated.{generated}
 use Rattle.sql_series.specs.Schema.{declarations}
 use Rattle.sql_generate.specs.inside.Counting.{Tell}

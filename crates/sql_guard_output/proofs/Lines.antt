@@ -1,0 +1,15 @@
+-- The requests so far, and one more.
+use Rattle.std.proofs.Common.{List, [], ◌∷◌, ◌++◌}
+use Rattle.sql_schema.specs.Declarations.{Declarations}
+use Rattle.sql_document.specs.Documents.{Request}
+use Rattle.sql_output.specs.Output.{StatementRequest}
+use Rattle.sql_guard_output.specs.Output.{AreGuarded, IsGuarded}
+use Rattle.sql_guard_output.specs.Tenants.{Tenant}
+
+pub guarded-more : (schema : Declarations) (t : Tenant) (qs : List Request) (rs : List StatementRequest) (q : Request)
+    (r : StatementRequest)
+    → AreGuarded schema t qs rs → IsGuarded schema t q r → AreGuarded schema t (qs ++ q ∷ []) (rs ++ r ∷ [])
+guarded-more schema t [] [] q r all one = (one, tt)
+guarded-more schema t [] (s ∷ rs) q r all one = absurd all
+guarded-more schema t (p ∷ qs) [] q r all one = absurd all
+guarded-more schema t (p ∷ qs) (s ∷ rs) q r all one = (all.0, guarded-more schema t qs rs q r all.1 one)

@@ -1,0 +1,8 @@
+//! What the program writes for a request of a tenant: the line of its restricted statement, or the name of its refusal.
+#![tactic(auto)]
+
+mod line;
+mod tenant;
+
+pub use line::guarded_line;
+pub use tenant::{Tenant, TenantDocument, read_tenant};
