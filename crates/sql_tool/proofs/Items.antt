@@ -1,6 +1,6 @@
 -- How a command ends that writes a line for each of its items.
-use Rattle.std.proofs.Common.{◌≡◌, ◌⊎◌, ◌∙◌, inl, inr, ℕ, List, [], ◌++◌, map, Option, Some, ap, subst, sym}
-use Rattle.std.proofs.lemmas.List.{map-append}
+use Rattle.std.proofs.Common.{◌≡◌, ◌⊎◌, ◌∙◌, ◌+◌, inl, inr, ℕ, List, [], ◌∷◌, ◌++◌, length, map, Option, Some, ap, subst, sym, arith}
+use Rattle.std.proofs.lemmas.List.{length-map, map-append}
 use Rattle.sql_schema.specs.Declarations.{Declarations}
 use Rattle.sql_dialect.specs.declared.backend.Dialect.{Dialect}
 use Rattle.sql_document.specs.Documents as t
@@ -8,10 +8,16 @@ use Rattle.sql_document.specs.Documents.{Document, document}
 use Rattle.sql_document.specs.Texts.{Texts, texts_in}
 use Rattle.sql_document.specs.Trees.{request_tree}
 use Rattle.sql_document.specs.declared.document.Request.{Request}
+use Rattle.sql_audit_output.proofs.Lines as audits
+use Rattle.sql_audit_output.specs.Line.{IsAuditLine}
 use Rattle.sql_audit_output.specs.Output.{IsAuditOutput}
-use Rattle.sql_guard_output.specs.Output.{IsGuardedOutput}
+use Rattle.sql_guard_output.proofs.Lines.{guarded-length, guarded-more}
+use Rattle.sql_guard_output.specs.Output.{AreGuarded, IsGuarded, IsGuardedOutput}
 use Rattle.sql_guard_output.specs.Tenants.{Tenant, TenantDocument, tenant_document}
-use Rattle.sql_output.specs.Output.{IsOutput, StatementRequest, statement_request}
+use Rattle.sql_output.proofs.Lines.{written-more}
+use Rattle.sql_output.specs.Output.{IsOutput, StatementRequest, line_text, statement_request}
+use Rattle.sql_output.specs.inside.Keys.{AreWritten, HasLine}
+use Rattle.sql_rows.specs.declared.cache.RequestKey.{RequestKey}
 use Rattle.sql_tool.specs.Command.{IsOutputOf, IsOutputPrefixOf}
 use Rattle.sql_tool.specs.inside.Responses.{Response, WroteLines, WroteSome}
 use Rattle.sql_tool.specs.declared.command.Command.{Command}
@@ -44,6 +50,56 @@ asked-append : (schema : Declarations) (qs later : List Request)
 asked-append schema qs later =
     ap (map (statement_request schema)) (map-append request_tree qs later)
     ∙ map-append (statement_request schema) (map request_tree qs) (map request_tree later)
+
+-- ---- the lines so far, and one more
+
+module _ (schema here : Declarations) (f g : RequestKey → Option ℕ) (items : List Request) (item : Request) (i : ℕ)
+    (text line : List ℕ) (number : i ≡ length items) (same : here ≡ schema) where
+  pub build-more : HasLine here (statement_request here (request_tree item)) (i + 1) f g (λ l. line ≡ line_text l)
+      → AreWritten schema f (asked schema items) text
+      → AreWritten schema g (asked schema (items ++ item ∷ [])) (text ++ line)
+  build-more has written =
+      let rs = asked schema items in
+      let r = statement_request schema (request_tree item) in
+      let count : length rs ≡ length items =
+      length-map (map request_tree items) (statement_request schema) ∙ length-map items request_tree in
+      let n : i + 1 ≡ 1 + length rs = omega (arith, number, count) in
+      let one =
+      subst (λ (w : Declarations). HasLine w (statement_request w (request_tree item)) (i + 1) f g (λ l. line ≡ line_text l))
+      same has in
+      subst (λ x. AreWritten schema g x (text ++ line)) (sym (asked-append schema items (item ∷ [])))
+      (written-more schema f g rs (i + 1) text line r n written one)
+
+  pub guard-more : (t : Tenant)
+      → ((r : StatementRequest) × IsGuarded here t (request_tree item) r × HasLine here r (i + 1) f g (λ l. line ≡ line_text l))
+      → ((rs : List StatementRequest) × AreGuarded schema t (map request_tree items) rs × AreWritten schema f rs text)
+      → (rs : List StatementRequest) × AreGuarded schema t (map request_tree (items ++ item ∷ [])) rs
+      × AreWritten schema g rs (text ++ line)
+  guard-more t told (rs, guarded, written) =
+      let (r, is, has) =
+      subst
+      (λ (w : Declarations). (r : StatementRequest) × IsGuarded w t (request_tree item) r
+      × HasLine w r (i + 1) f g (λ l. line ≡ line_text l))
+      same told in
+      let count : length rs ≡ length items =
+      guarded-length schema t (map request_tree items) rs guarded ∙ length-map items request_tree in
+      let n : i + 1 ≡ 1 + length rs = omega (arith, number, count) in (
+        rs ++ r ∷ [],
+        subst (λ qs. AreGuarded schema t qs (rs ++ r ∷ [])) (sym (map-append request_tree items (item ∷ [])))
+            (guarded-more schema t (map request_tree items) rs (request_tree item) r guarded is),
+        written-more schema f g rs (i + 1) text line r n written has,
+      )
+
+pub audit-more : (d : Dialect) (schema : Declarations) (items : List (List ℕ)) (item text line : List ℕ)
+    → IsAuditOutput d (record { schema = schema; texts = items }) text → IsAuditLine d schema.tables item line
+    → IsAuditOutput d (record { schema = schema; texts = items ++ item ∷ [] }) (text ++ line)
+audit-more d schema items item text line (ls, lines, is) one = (
+  ls ++ line ∷ [],
+  audits.lines-more d schema.tables items ls item line lines one,
+  ap (λ u. u ++ line) is ∙ sym (audits.joined-more ls line),
+)
+
+-- ---- how the command ends
 
 pub wrote-build : {S : Type 0} (status : Status) (given written : List ℕ) (schema : Declarations) (requests : List Request)
     (Has : S → List Request → List ℕ → Type 0)
