@@ -1,5 +1,6 @@
 #!/usr/bin/env python3
-"""A small report: sql_tool writes its statements, and a database that this script fills runs them."""
+"""A small report: sql_tool writes its statements, and a database that this script fills runs them. Then the posts of each of two users
+are reported, as those of a tenant, by guarded statements over all posts: the same as plain ones find where there are no others."""
 import argparse, json, pathlib, shlex, sqlite3, subprocess, sys
 
 SETUP = [
@@ -33,6 +34,14 @@ REQUESTS = {
     "A value of each type, and NULL": {"select": [{"bind": value} for value in VALUES]},
     "Titles of users, who have none": {"from": USERS, "calls": [["select", TITLE]]},
 }
+# Of each of these users the posts are reported, by guarded statements.
+TENANTS = 1, 2
+GUARDED = {
+    "Users and their posts": {"from": USERS, "calls": [
+        ["left_join", POSTS], ["select", [NAME, {"nullable": TITLE}]], ["order", [ID, {"nullable": TITLE}]]]},
+    "Authors": {"from": USERS, "calls": [["inner_join", POSTS], ["select", [NAME, TITLE]], ["order", [TITLE]]]},
+    "The best post": {"from": POSTS, "calls": [["select", [TITLE, STARS]], ["order", [{"desc": STARS}]], ["limit", 1]]},
+}
 
 
 def bound(kind, value):
@@ -55,10 +64,17 @@ parser.add_argument("--program", metavar="WORDS", help="how to run the program, 
 given = parser.parse_args()
 program = shlex.split(given.program) if given.program else [pathlib.Path(__file__).resolve().parent.parent / "sql_tool"]
 dialect = "Pg" if given.postgres else "Sqlite"
-document = {"schema": SCHEMA, "requests": [{"dialect": dialect, "query": query} for query in REQUESTS.values()]}
-run = subprocess.run([*program, "build"], input=json.dumps(document), stdout=subprocess.PIPE, encoding="utf-8")
-if run.returncode != 0:
-    sys.exit(f"sql_tool ended with status {run.returncode}")
+
+
+def answers(command, queries, **members):
+    """What the program writes for these queries, line by line."""
+    document = {"schema": SCHEMA, "requests": [{"dialect": dialect, "query": query} for query in queries], **members}
+    run = subprocess.run([*program, command], input=json.dumps(document), stdout=subprocess.PIPE, encoding="utf-8")
+    if run.returncode != 0:
+        sys.exit(f"sql_tool ended with status {run.returncode}")
+    return [json.loads(line) for line in run.stdout.splitlines()]
+
+
 if given.postgres:
     import psycopg
     cursor = psycopg.connect(given.postgres, cursor_factory=psycopg.RawCursor).cursor()  # raw: it takes $1 to $n as they stand
@@ -66,16 +82,39 @@ else:
     cursor = sqlite3.connect(":memory:").cursor()
 for statement in SETUP:
     cursor.execute(statement)
-for heading, line in zip(REQUESTS, run.stdout.split("\n")):
-    answer = json.loads(line)
+
+
+def rows_of(answer):
+    """The rows that the database has for an accepted request."""
+    cursor.execute(answer["sql"], [bound(kind, value) for kind, value in answer["binds"]])
+    return [[shown(kind, value) for kind, value in zip(answer["columns"], row)] for row in cursor.fetchall()]
+
+
+def report(heading, answer):
+    """Prints a request's text, values and rows, and gives the rows."""
     print(f"{heading}:")
     if "refused" in answer:
         print(f"    refused: {answer['refused']}")
-        continue
+        return None
     print(f"    {answer['sql']}\n    values: {json.dumps(answer['binds'])}")
-    cursor.execute(answer["sql"], [bound(kind, value) for kind, value in answer["binds"]])
-    rows = [[shown(kind, value) for kind, value in zip(answer["columns"], row)] for row in cursor.fetchall()]
+    rows = rows_of(answer)
     table = [answer["columns"], *rows]
     widths = [max(map(len, texts)) for texts in zip(*table)]
     for row in table:
         print("    | " + " | ".join(text.ljust(width) for text, width in zip(row, widths)) + " |")
+    return rows
+
+
+for heading, answer in zip(REQUESTS, answers("build", REQUESTS.values())):
+    report(heading, answer)
+plain = answers("build", GUARDED.values())
+for tenant in TENANTS:
+    guard = {"table": "posts", "predicate": {"eq": [USER_ID, {"bind": ["Integer", tenant]}]}}
+    lines = answers("guard", GUARDED.values(), guard=guard)
+    guarded = [report(f"{heading}, of user {tenant}'s posts", line) for heading, line in zip(GUARDED, lines)]
+    # The database of that tenant, as far as a table goes: it has no post of anyone else.
+    cursor.execute("SAVEPOINT whole")
+    cursor.execute(f"DELETE FROM posts WHERE user_id <> {tenant}")
+    cut = [rows_of(answer) for answer in plain]
+    cursor.execute("ROLLBACK TO whole")
+    print(f"    {'the same' if guarded == cut else 'NOT THE SAME'} as over the posts of user {tenant} alone")

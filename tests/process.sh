@@ -41,6 +41,7 @@ check 'the stored run' writes "$top/crates/sql_tool/stdout"
 for document in "$top"/examples/*.json; do
     case $document in
     */audit.json) run audit Pg <"$document" ;;
+    */guard.json) run guard <"$document" ;;
     *) run build <"$document" ;;
     esac
     check "${document##*/}" writes "${document%.json}.jsonl"
@@ -84,6 +85,11 @@ run read Pg <"$work/bytes"
 check 'a text that is not UTF-8' is_empty 3 BadDocument
 run audit Pg <"$top/examples/filter.json"
 check 'an audit of no texts' is_empty 3 BadDocument
+run guard <"$top/examples/filter.json"
+check 'a guard without one' is_empty 3 BadDocument
+sed 's/"guard":{"table":"posts"/"guard":{"table":"nobody"/' "$top/examples/guard.json" >"$work/nobody"
+run guard <"$work/nobody"
+check 'a guard of no table' is_empty 3 BadDocument
 # One table and one filter, and the same without the last byte.
 cat >"$work/first" <<'TXT'
 {"schema":{"tables":[{"name":"foo","columns":[{"name":"id","type":"Integer"},{"name":"mytype","sql_name":"type","type":"Integer"},{"name":"hey","sql_name":"bleh","type":"Integer"}]}]},"requests":[{"dialect":"Pg","query":{"from":{"table":"foo"},"calls":[["filter",{"eq":[{"col":["foo","mytype"]},{"bind":["Integer",1]}]}]]}}]}
@@ -154,7 +160,16 @@ done <<'TXT'
 997 4000 ["union",{"from":{"table":"foo"}}]
 998 16000 ["nullable"]
 TXT
-for words in '' 'Build' 'build x' 'generate' 'generate 007' 'generate +7' 'generate 100001' 'read' 'read pg' 'audit' 'audit pg'; do
+# A guard nests deeper by its predicate, which JSON holds to some 120 levels.
+predicate=$(awk 'BEGIN { for (i = 0; i < 110; i++) printf "{\"not\":"; printf "{\"eq\":[{\"col\":[\"foo\",\"id\"]},{\"bind\":[\"Integer\",1]}]}"
+    for (i = 0; i < 110; i++) printf "}" }')
+deep 997 '["filter",{"eq":[{"col":["foo","id"]},{"bind":["Integer",1]}]}]' |
+    sed "s/}\$/,\"guard\":{\"table\":\"foo\",\"predicate\":$predicate}}/" >"$work/deep"
+# shellcheck disable=SC3045
+(ulimit -s 4096 && run guard <"$work/deep" && exit "$got")
+got=$?
+check 'a guard of 997 calls filter' within
+for words in '' 'Build' 'build x' 'guard x' 'generate' 'generate 007' 'generate +7' 'generate 100001' 'read' 'read pg' 'audit' 'audit pg'; do
     # shellcheck disable=SC2086
     run $words </dev/null
     check "words '$words'" is_empty 2 Usage

@@ -25,6 +25,8 @@ def schema_of(name):
 
 is_document, is_answer = schema_of("document.schema.json"), schema_of("answer.schema.json")
 is_reading = schema_of("reading.schema.json")
+# what `guard` reads and writes
+is_guarded, is_guarded_answer = (each.evolve(schema=each.schema["$defs"]["GUARDED"]) for each in (is_document, is_answer))
 
 
 def parsed(text):
@@ -346,13 +348,42 @@ NOT_FOR_A_SCHEMA = [
     ("values that nest 128 deep", expr('{"not":' * 120 + ID + "}" * 120)),
 ]
 
+
+
+def guarded_by(text):
+    return f'{{"schema":{{"tables":{TABLES}}},"requests":[{{"dialect":"Pg","query":{T}}}],"guard":{text}}}'
+
+
+GUARDS = [
+    ("a guard", guarded_by(f'{{"table":"t","predicate":{{"eq":[{ID},{ONE}]}}}}')),
+    ("a guard by no condition", guarded_by(f'{{"table":"t","predicate":{ONE}}}')),
+    ("a guard with a member more", guarded_by(f'{{"table":"t","predicate":{ID},"x":1}}')),
+]
+NO_GUARDS = [
+    ("a document without a guard", request(f'{{"dialect":"Pg","query":{T}}}')),
+    ("a guard that is null", guarded_by("null")),
+    ("a guard without a table", guarded_by(f'{{"predicate":{ID}}}')),
+    ("a guard without a predicate", guarded_by('{"table":"t"}')),
+    ("a guard whose table is a number", guarded_by(f'{{"table":1,"predicate":{ID}}}')),
+    ("a guard whose predicate is null", guarded_by('{"table":"t","predicate":null}')),
+    ("a guard of no document", '{"requests":[],"guard":{"table":"t","predicate":"count_star"}}'),
+]
+
 for name, text in DOCUMENTS:
     expect(name, valid(is_document, text), True)
 for name, text in NO_DOCUMENTS:
     expect(name, valid(is_document, text), False)
 for name, text in NOT_FOR_A_SCHEMA:
     expect(name, valid(is_document, text), True)
+for name, text in GUARDS:
+    expect(name, valid(is_guarded, text), True)
+for name, text in NO_GUARDS:
+    expect(name, valid(is_guarded, text), False)
 if program:
+    for status, table in ((0, GUARDS), (3, NO_GUARDS)):
+        for name, text in table:
+            run = subprocess.run([program, "guard"], input=text.encode(), stdout=subprocess.DEVNULL, stderr=subprocess.DEVNULL)
+            expect(f"guard on {name}", run.returncode, status)
     for status, table in ((0, DOCUMENTS), (3, NO_DOCUMENTS), (3, NOT_FOR_A_SCHEMA)):
         for name, text in table:
             run = subprocess.run([program, "build"], input=text.encode(), stdout=subprocess.DEVNULL, stderr=subprocess.DEVNULL)
@@ -400,7 +431,11 @@ def expect_answers(path):
         expect(f"{path.name}, line {number}", valid(is_answer, line), True)
 
 
-documents = [path for path in sorted((top / "examples").glob("*.json")) if path.name != "audit.json"]
+documents = [path for path in sorted((top / "examples").glob("*.json")) if path.name not in ("audit.json", "guard.json")]
+guarded = top / "examples/guard.json"
+expect(guarded.name, valid(is_guarded, guarded.read_text()), True)
+for number, line in enumerate(guarded.with_suffix(".jsonl").read_text().splitlines(), 1):
+    expect(f"{guarded.name}, line {number}", valid(is_guarded_answer, line), True)
 for path in [*documents, top / "crates/sql_tool/stdin"]:
     expect(path.name, valid(is_document, path.read_text()), True)
 # an example's lines are answers to its document, or of the text that is read
