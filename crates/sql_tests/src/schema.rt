@@ -100,7 +100,10 @@ fn relations_are_found(rt: HostRuntime) -> Result<(), Fail> {
 #[test]
 fn one_relation_of_two_tables(rt: HostRuntime) -> Result<(), Fail> {
     let alloc = rt.alloc();
-    let second = [("posts", "author_id", "users"), ("users", "post_id", "posts")];
+    let second = [
+        ("posts", "author_id", "users"),
+        ("users", "post_id", "posts"),
+    ];
     for (child, by, parent) in second {
         let declared: [(&str, &[&str]); 2] = [
             ("users", &["id", "post_id"]),
