@@ -178,7 +178,9 @@ def start(wanted):
 def stored():
     """The documents of the repository."""
     for path in [*sorted((TOP / "examples").glob("*.json")), TOP / "crates/sql_tool/stdin"]:
-        yield path.name, in_each_dialect(json.loads(path.read_text()))
+        document = json.loads(path.read_text())
+        if "requests" in document:
+            yield path.name, in_each_dialect(document)
     queries = [line.split("\t")[1] for line in (TOP / "tests/documents.tsv").read_text().splitlines() if line.startswith("yes\t")]
     users = {"tables": [{"name": "users", "columns": [{"name": "id", "type": "Integer"}]}]}
     requests = [{"dialect": "Pg", "query": json.loads(query)} for query in queries]

@@ -37,9 +37,7 @@ use Rattle.sql_resolution.specs.Uses as u
 use Rattle.sql_resolution.specs.declared.column_use.ColumnUse.{ColumnUse}
 use Rattle.sql_resolution.specs.declared.column_use.Meaning.{Meaning}
 use Rattle.sql_resolution.specs.declared.column_use.Meaning.TheVariants.{Nothing, Several, Column}
-use Rattle.sql_audit.specs.Report.{tables_of, meanings_of, is_nothing, is_several, settled_refusal, IsReport, IsReported, IsRefused}
-use Rattle.sql_audit.specs.declared.error.AuditError.{AuditError}
-use Rattle.sql_audit.specs.declared.error.AuditError.TheVariants.{NotInGrammar, UnknownTable, NotInScope, Ambiguous, NoMemory}
+use Rattle.sql_audit.specs.Report.{tables_of, meanings_of, is_nothing, is_several, settled_refusal, IsReport, IsReported}
 use Rattle.sql_audit.specs.declared.report.AuditReport.{AuditReport}
 use Rattle.sql_audit_law.specs.Own.{sources, columns_in, IsOwnReport}
 use Rattle.sql_audit_law.proofs.Found.{table-found}
@@ -171,52 +169,3 @@ reported schema d s sound counted h =
       (normal d s, read.only schema d s counted h, none, (tables, meanings)),
       (refl, st.2),
     )
-
--- ## One answer
-
-some-back : {X : Type 0} (xs ys : List X) → map Some xs ≡ map Some ys → xs ≡ ys
-some-back [] [] e = refl
-some-back [] (y ∷ ys) e = cc
-some-back (x ∷ xs) [] e = cc
-some-back {X} (x ∷ xs) (y ∷ ys) e =
-    let first : x ≡ y = cc in
-    let rest : map Some xs ≡ map Some ys = cc in
-    let more = some-back xs ys rest in
-    λ i. first i ∷ more i
-
-column-back : (xs ys : List ColumnUse) → map Column xs ≡ map Column ys → xs ≡ ys
-column-back [] [] e = refl
-column-back [] (y ∷ ys) e = cc
-column-back (x ∷ xs) [] e = cc
-column-back (x ∷ xs) (y ∷ ys) e =
-    let first : x ≡ y = cc in
-    let rest : map Column xs ≡ map Column ys = cc in
-    let more = column-back xs ys rest in
-    λ i. first i ∷ more i
-
-pub one-report : (d : Dialect) (ts : List TableDecl) (text : List ℕ) (r s : AuditReport) → IsReported d ts text r
-    → IsReported d ts text s → r ≡ s
-one-report d ts text r s a b =
-    let same : a.0 ≡ b.0 = b.1.1 a.0 a.1.0 in
-    let tables : r.tables ≡ s.tables =
-    some-back r.tables s.tables (sym a.3.0 ∙ ap (tables_of ts) same ∙ b.3.0) in
-    let uses : r.uses ≡ s.uses = column-back r.uses s.uses (sym a.3.1 ∙ ap (meanings_of ts) same ∙ b.3.1) in
-    λ i. record { tables = tables i; uses = uses i }
-
-none_some : {Y : Type 0} (y : Y) → Path (Option Y) None (Some y) → ⊥
-none_some y h = cc
-
-first-not : (d : Dialect) (ts : List TableDecl) (text : List ℕ) (r : AuditReport) (e : AuditError)
-    → IsReported d ts text r
-    → ((q : Query) × OnlyReading d text q × (settled_refusal (tables_of ts q) (meanings_of ts q) ≡ Some e)) → ⊥
-first-not d ts text r e a f =
-    let same : a.0 ≡ f.0 = f.1.1 a.0 a.1.0 in
-    none_some e (sym a.2 ∙ ap (λ q. settled_refusal (tables_of ts q) (meanings_of ts q)) same ∙ f.2)
-
-pub not-both : (d : Dialect) (ts : List TableDecl) (text : List ℕ) (r : AuditReport) (e : AuditError)
-    → IsReported d ts text r → IsRefused d ts text e → e ≡ NoMemory
-not-both d ts text r NotInGrammar a f = absurd (f a.0 a.1.0)
-not-both d ts text r UnknownTable a f = absurd (first-not d ts text r UnknownTable a f)
-not-both d ts text r NotInScope a f = absurd (first-not d ts text r NotInScope a f)
-not-both d ts text r Ambiguous a f = absurd (first-not d ts text r Ambiguous a f)
-not-both d ts text r NoMemory a f = refl

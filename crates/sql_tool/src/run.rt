@@ -8,7 +8,7 @@ ghost use Rattle.sql_generate.specs.Summary.{IsSummary};
 ghost use Rattle.sql_output.specs.Output.{AreLines, IsOutput, IsOutputPrefix, Line, StatementRequest};
 ghost use Rattle.sql_output.specs.Shared.{OneIdServes, OneShapeOneId};
 ghost use Rattle.sql_read_output.specs.Line.{IsReadingLine};
-ghost use Rattle.sql_tool.specs.Command.{command_of, reads_source, AreWordsOf, IsDone};
+ghost use Rattle.sql_tool.specs.Command.{command_of, reads_source, AreWordsOf, IsDone, IsOutputOf};
 ghost use Rattle.sql_tool.specs.Run.{Ends, Outcome, Took, may_write, run_reads, status_of};
 ghost use Rattle.sql_tool.specs.inside.Responses.{Response, WroteLine};
 ghost use Rattle.sql_tool.specs.declared.command.Command.TheVariants.{Generate, Read};
@@ -174,6 +174,9 @@ pub fn run<S: Source, K: Sink>(
         (c : Command) × (command_of (map string_bytes words.now) ≡ Some c)
         × IsDone c input (IsAtEnd (S.left source.new))
         (λ text. Appends (K.held sink.old) (K.held sink.new) text)) }
+    // What a command writes for bytes is one text.
+    ensures one_answer { (c : Command) (given a b : List ℕ) → IsOutputOf c given a
+        → IsOutputOf c given b → a ≡ b }
     // A document has at most one output, and the output of its first requests is a prefix of it.
     ensures one_output { (d : DocumentTree) (a b : List ℕ) → IsOutput d a → IsOutput d b → a ≡ b }
     ensures prefix { (d : DocumentTree) (start whole : List ℕ) → IsOutputPrefix d start

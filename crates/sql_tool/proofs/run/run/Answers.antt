@@ -7,6 +7,7 @@ use Rattle.sql_output.proofs.Once.{one-output, prefix-of-output}
 use Rattle.sql_read_output.proofs.Once.{one-line}
 use Rattle.sql_tool.proofs.Commands.{is-told}
 use Rattle.sql_tool.proofs.Headlines.{done-whole, not-read-fault}
+use Rattle.sql_tool.proofs.Once.{one-answer}
 use Rattle.sql_tool.proofs.Outcomes as outcomes
 use Rattle.sql_stream.specs.Causes.{HasRisen}
 use Rattle.sql_tool.specs.Command.{command_of}
@@ -23,6 +24,9 @@ returns-clause-headline g c = λ done.
     done-whole (command_of words) _ _ _ _ given written (took.1 (not-read-fault _ done)) appended
     (subst (λ s. Outcome s (command_of words) given written (IsAtEnd (g.S.Source.left c.perform.new.source))) done
     outcome)
+
+pub returns-clause-one_answer : goal.returns-clause-one_answer
+returns-clause-one_answer g c = one-answer
 
 pub returns-clause-one_output : goal.returns-clause-one_output
 returns-clause-one_output g c = one-output
