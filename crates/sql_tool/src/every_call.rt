@@ -1,9 +1,8 @@
 //! The program's public calls that can answer NoMemory, made once with memory to spare: each gives what it would give, and not
 //! that answer. Those of the libraries are in the crates of tests.
 
-use crate::run::run;
-use crate::status::Status;
 use sql_build::statement;
+use sql_command::{Status, run};
 use sql_dialect::Dialect;
 use sql_document::{Document, read_document};
 use sql_generate::generate;

@@ -1,7 +1,6 @@
 //! Requests whose names, lists, nesting and chains of calls a careless builder would let through.
 
-use crate::run::run;
-use crate::status::Status;
+use sql_command::{Status, run};
 use sql_depth::MAX_DEPTH;
 use sql_stream::{MemorySink, SureSource};
 use std::alloc::{AllocError, Global};

@@ -4,17 +4,8 @@
 //! line for each of its requests, restricted to the tenant's rows.
 #![tactic(auto)]
 
-mod audit;
-mod build;
-mod command;
-mod guard;
-mod lines;
-mod run;
-mod status;
-
-use run::run;
+use sql_command::{Status, run};
 use sql_stream::{StdSink, StdSource};
-use status::Status;
 use std::env;
 use std::io::ErrorKind;
 use std::process::ExitCode;

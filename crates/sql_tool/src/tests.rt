@@ -1,5 +1,4 @@
-use crate::run::run;
-use crate::status::Status;
+use sql_command::{Status, run};
 use sql_stream::{MemorySink, MemorySource, SureSink, SureSource};
 use std::alloc::{AllocError, Global};
 use std::num::NonZeroUsize;

@@ -1,0 +1,14 @@
+//! The program's commands, and what a run of it does: `run` over any source and sink. `sql_tool` calls it with standard input and output.
+#![tactic(auto)]
+
+mod audit;
+mod build;
+mod command;
+mod guard;
+mod lines;
+mod run;
+mod status;
+
+pub use command::{Command, MAX_REQUESTS};
+pub use run::{LIMIT, run};
+pub use status::Status;
