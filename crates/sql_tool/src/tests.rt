@@ -277,3 +277,22 @@ fn audited_texts(rt: HostRuntime) -> Result<(), Fail> {
     assert!(rt; to.bytes().is_empty());
     Ok(())
 }
+
+/// A tenant's posts, and how many there are.
+const TENANT: &str =
+    "{\"schema\":{\"tables\":[{\"name\":\"posts\",\"columns\":[{\"name\":\"id\",\"type\":\"Integer\"},{\"name\":\"user_id\",\"type\":\"Integer\"}]}]},\"requests\":[{\"dialect\":\"Sqlite\",\"query\":{\"from\":{\"table\":\"posts\"}}},{\"dialect\":\"Pg\",\"query\":{\"from\":{\"table\":\"posts\"},\"calls\":[[\"select\",\"count_star\"]]}}],\"guard\":{\"table\":\"posts\",\"predicate\":{\"eq\":[{\"col\":[\"posts\",\"user_id\"]},{\"bind\":[\"Integer\",7]}]}}}";
+
+const GUARDED: &str =
+    "{\"binds\":[[\"Integer\",7]],\"columns\":[\"Integer\",\"Integer\"],\"id\":1,\"safe\":true,\"sql\":\"SELECT `posts`.`id`, `posts`.`user_id` FROM `posts` WHERE (`posts`.`user_id` = ?)\"}\n{\"refused\":\"OutOfKind\"}\n";
+
+#[test]
+fn guarded_requests(rt: HostRuntime) -> Result<(), Fail> {
+    let alloc = rt.alloc();
+    let (status, to) = answered(alloc, &["guard"], TENANT.as_bytes())?;
+    assert_eq!(rt; status, Status::Done);
+    assert_eq!(rt; to.bytes(), GUARDED.as_bytes());
+    let (status, to) = answered(alloc, &["guard"], INPUT.as_bytes())?;
+    assert_eq!(rt; status, Status::BadDocument);
+    assert!(rt; to.bytes().is_empty());
+    Ok(())
+}
