@@ -1,4 +1,4 @@
--- What a statement cache holds: different pairs of a dialect and a key, the one that was used last in front, at most as many as
+-- What a statement cache holds: different pairs of a dialect and a key, the one that was used last first, at most as many as
 -- its capacity (diesel, `connection::statement_cache`, whose `StatementCacheKey` tells statements apart). A key is that of a
 -- statement with an id, so equal pairs are requests of one shape.
 use Rattle.std.specs.Prelude.{◌≡◌, ◌⊎◌, min, ℕ, ◌+◌, ◌-◌, ◌^◌, List, ◌∷◌, ◌++◌, take, Contains, Some, Result, OnOk, OnErr}
@@ -33,7 +33,7 @@ pub record IsHit (before : Entries) (pair : RequestKey) (after : Entries) : Type
   pub was : before.keys ≡ front ++ pair ∷ back
   pub is : after ≡ record before { keys = pair ∷ (front ++ back); hits = one_more before.hits }
 
--- the pair was not there: it is put in front, and a full list loses its last
+-- the pair was not there: it is put first, and a full list loses its last
 abbrev pub put : Entries → RequestKey → Entries
 put before pair = record before { keys = pair ∷ take (before.capacity - 1) before.keys }
 

@@ -40,7 +40,7 @@ struct Kept {
     safe: bool,
 }
 
-/// Compiled statements of one schema, the one that was used last in front. A full cache loses the one that was used least recently.
+/// Compiled statements of one schema, the one that was used last first. A full cache loses the one that was used least recently.
 #[derive(Drop)]
 pub struct StatementCache {
     schema: Schema,
@@ -202,7 +202,7 @@ impl StatementCache {
         false
     }
 
-    /// What is kept with the pair in front, in memory of its own.
+    /// What is kept with the first pair, in memory of its own.
     fn recall(&self, alloc: Global) -> Result<Kept, NoMemory>
         requires { self.now.keys ≢ [] }
         ensures { IfOk result (λ kept. (pair : RequestKey)
@@ -246,7 +246,7 @@ impl StatementCache {
         compile_sound(alloc, backend, self.schema(), statement)
     }
 
-    /// The answer by what is kept with the pair in front, which is the statement's.
+    /// The answer by what is kept with the first pair, which is the statement's.
     fn answer_kept<DB: Backend>(
         &self,
         alloc: Global,
@@ -268,7 +268,7 @@ impl StatementCache {
         tell(alloc, backend, statement, pair.key, kept)
     }
 
-    /// The answer for a pair that is not there, which is put in front.
+    /// The answer for a pair that is not there, which is put first.
     fn answer_new<DB: Backend>(
         &mut self,
         alloc: Global,

@@ -36,7 +36,7 @@ pub fn one_answer()
         → ¬ IsLeast r schema d s }
 {}
 
-/// After each answer that is Ok, of a statement that has an id, its pair stands in front.
+/// After each answer that is Ok, of a statement that has an id, its pair is the first.
 pub fn answered_pairs_stand_in_front()
     ensures { (before after : Entries) (d : Dialect) (s : Statement) (b : Built) (k : List KeyNode)
         → id_of s ≡ Some k
