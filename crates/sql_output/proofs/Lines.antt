@@ -1,71 +1,15 @@
 -- Lines, and what is written of them so far.
-use Rattle.std.proofs.Common.{◌≡◌, ℕ, suc, ◌+◌, List, [], ◌∷◌, ◌++◌, map, length, false, Option, Some, None, refl, sym, ap, ap₂, subst, ◌∙◌, append_assoc, append-nil}
+use Rattle.std.proofs.Common.{◌≡◌, ℕ, suc, ◌+◌, List, [], ◌∷◌, ◌++◌, map, length, Option, refl, sym, ap, ap₂, subst, ◌∙◌, append_assoc, append-nil}
 use Rattle.std.proofs.lemmas.List.{length-map, map-append}
-use Rattle.std.specs.Prelude.{ℤ, pos, negsuc}
-use Rattle.serde_json.specs.View.{items_of}
-use Rattle.serde_json.specs.Data.{number}
-use Rattle.serde_json.specs.Find.{of_integer}
-use Rattle.serde_json.specs.Written.{has_float, items_have_float}
 use Rattle.sql_dialect.specs.declared.backend.Dialect.{Dialect}
 use Rattle.sql_schema.specs.Declarations.{Declarations}
-use Rattle.sql_schema.specs.declared.types.SqlType.{SqlType}
-use Rattle.sql_pass.specs.declared.value.Bound.{Bound}
-use Rattle.sql_pass.specs.declared.value.Bound.TheVariants as B
-use Rattle.sql_pass.specs.declared.value.Value.{Value}
-use Rattle.sql_pass.specs.declared.value.Value.TheVariants as V
-use Rattle.sql_node.specs.Tree.{Statement}
-use Rattle.sql_check.specs.Compiled.{binds_of}
 use Rattle.sql_output.proofs.Ids.{found-id}
 use Rattle.sql_output.proofs.Keys.{tells-more}
 use Rattle.sql_output.specs.Ids.{RequestShape}
-use Rattle.sql_output.specs.Objects.{value_data, type_data, bound_data, id_data, accepted, line_object}
-use Rattle.sql_output.specs.Judgement.{Judgement, refuses, accepts, Judges}
+use Rattle.sql_output.specs.Judgement.{Judgement, Judges}
 use Rattle.sql_output.specs.Output.{Line, StatementRequest, IsLine, AreLines, line_shape, line_text, lines_text}
 use Rattle.sql_rows.specs.declared.cache.RequestKey.{RequestKey}
 use Rattle.sql_output.specs.inside.Keys.{request_key, line_found, line_key, HasLine, IsKept, Tells, AreWritten}
-
--- ---- no number of a line is a float
-
-float-number : (z : ℤ) → has_float (number (of_integer z)) ≡ false
-float-number (pos n) = refl
-float-number (negsuc n) = refl
-
-float-value : (v : Value) → has_float (value_data v) ≡ false
-float-value (V.SmallInt z) = float-number z
-float-value (V.Integer z) = float-number z
-float-value (V.BigInt z) = float-number z
-float-value (V.Text s) = refl
-float-value (V.Binary b) = refl
-float-value (V.Bool b) = refl
-float-value V.Null = refl
-
-float-values : (vs : List Value) → items_have_float (items_of (map value_data vs)) ≡ false
-float-values [] = refl
-float-values (v ∷ vs) = rw (float-value v) (float-values vs)
-
-float-bound : (b : Bound) → has_float (bound_data b) ≡ false
-float-bound (B.Value t v) = rw (float-value v) refl
-float-bound (B.List t vs) = rw (float-values vs) refl
-
-float-bounds : (bs : List Bound) → items_have_float (items_of (map bound_data bs)) ≡ false
-float-bounds [] = refl
-float-bounds (b ∷ bs) = rw (float-bound b) (float-bounds bs)
-
-float-types : (ts : List SqlType) → items_have_float (items_of (map type_data ts)) ≡ false
-float-types [] = refl
-float-types (t ∷ ts) = float-types ts
-
-float-id : (o : Option ℕ) → has_float (id_data o) ≡ false
-float-id None = refl
-float-id (Some n) = refl
-
-float-accepted : (d : Dialect) (o : Option ℕ) (s : Statement) (ts : List SqlType)
-    → has_float (accepted d o s ts) ≡ false
-float-accepted d o s ts = rw (float-bounds (binds_of d s), float-types ts, float-id o) refl
-
-pub float-object : (d : Dialect) (o : Option ℕ) (j : Judgement) → has_float (line_object d o j) ≡ false
-float-object d o (refuses name) = refl
-float-object d o (accepts s ts) = float-accepted d o s ts
 
 -- ---- the lines so far, and one more
 

@@ -1,6 +1,5 @@
-ghost use Rattle.std.specs.Prelude.{◌≡◌, [], ◌∷◌, ◌++◌, false, IfOk, IfErr, OnOk, Some, option_map, string_bytes};
-ghost use Rattle.serde_json.specs.View.{view};
-ghost use Rattle.serde_json.specs.Written.{compact_text, has_float};
+ghost use Rattle.std.specs.Prelude.{◌≡◌, [], ◌∷◌, ◌++◌, IfOk, IfErr, OnOk, Some, option_map, string_bytes};
+ghost use Rattle.serde_json.specs.Written.{compact_text};
 ghost use Rattle.sql_check.specs.Compiled.{IsBuilt, IsLeast, IsRead};
 ghost use Rattle.sql_check.specs.Errors.{rule_of};
 ghost use Rattle.sql_document.specs.Trees.{request_tree};
@@ -9,13 +8,12 @@ ghost use Rattle.sql_rows.specs.Entries.{IsNext};
 ghost use Rattle.sql_rules.specs.Texts.{rule_text};
 ghost use Rattle.sql_rules.specs.declared.rule.Rule.{Rule};
 ghost use Rattle.sql_output.specs.Judgement.{made};
-ghost use Rattle.sql_output.specs.Objects.{line_object, refused as refused_data, statement_data};
+ghost use Rattle.sql_output.specs.Objects.{refused as refused_data, statement_data};
 ghost use Rattle.sql_output.specs.Output.{line_text, statement_request};
 ghost use Rattle.sql_output.specs.inside.Keys.{keyed, id_found, seen_at, IsKept, HasLine};
 
 use crate::known::request_id;
-use crate::object::{accepted, refused, refused_by};
-use serde_json::Value as Json;
+use crate::object::{accepted_line, refusal_line};
 use sql_build::statement;
 use sql_check::{Built, CompileError, Rule};
 use sql_dialect::{Bracket, Dialect, Mysql, Pg, Sqlite};
@@ -71,18 +69,19 @@ pub fn compile_cached_for(
     }
 }
 
-/// The object of a request whose statement is accepted.
+/// The line of a request whose statement is accepted.
 fn accept(
     alloc: Global,
     dialect: Dialect,
     seen: &mut BTreeMap<RequestKey, u64>,
     number: u64,
     built: Built,
-) -> Result<Json, AllocError>
-    ensures object { IfOk result (λ v. view v
-        ≡ statement_data built.binds built.sql_types
+) -> Result<String, AllocError>
+    ensures line { IfOk result (λ text. string_bytes text ≡ compact_text
+        (statement_data built.binds built.sql_types
         (id_found (seen_at seen.old) number (option_map (keyed dialect) built.id))
-        built.safe built.sql) }
+        built.safe built.sql)
+        ++ 10 ∷ []) }
     ensures kept { OnOk result (IsKept (seen_at seen.old) (seen_at seen.new) number
         (option_map (keyed dialect) built.id)) }
 {
@@ -94,7 +93,7 @@ fn accept(
         id: key,
     } = built;
     let id = request_id(seen, dialect, key, number)?;
-    accepted(
+    accepted_line(
         alloc,
         binds.as_slice(),
         sql_types.as_slice(),
@@ -104,56 +103,15 @@ fn accept(
     )
 }
 
-/// The object of a request whose statement is not compiled.
-fn refuse(alloc: Global, error: CompileError) -> Result<Json, AllocError>
-    ensures { IfOk result (λ v. (rule : Rule) × (rule_of error ≡ Some rule)
-        × (view v ≡ refused_data (rule_text rule))) }
+/// The line of a request whose statement is not compiled.
+fn refuse(alloc: Global, error: CompileError) -> Result<String, AllocError>
+    ensures { IfOk result (λ text. (rule : Rule) × (rule_of error ≡ Some rule)
+        × (string_bytes text ≡ compact_text (refused_data (rule_text rule)) ++ 10 ∷ [])) }
 {
     match error.rule() {
-        Some(rule) => refused(alloc, rule),
+        Some(rule) => refusal_line(alloc, rule.name()),
         None => Err(AllocError),
     }
-}
-
-/// The object of a statement, as that of the request with this number, where `seen` has the keys of those before it. What the cache
-/// holds changes no answer.
-fn statement_object(
-    alloc: Global,
-    cache: &mut StatementCache,
-    seen: &mut BTreeMap<RequestKey, u64>,
-    number: u64,
-    dialect: Dialect,
-    statement: &Statement,
-) -> Result<Json, AllocError>
-    ensures object { IfOk result (λ v. HasLine cache.old.schema
-        (record { dialect = dialect; statement = made (statement_tree statement.now) })
-        number (seen_at seen.old) (seen_at seen.new)
-        (λ l. view v ≡ line_object l.dialect l.id l.judgement)) }
-    ensures schema { cache.new.schema ≡ cache.old.schema }
-{
-    match compile_cached_for(alloc, dialect, cache, statement) {
-        Ok(built) => accept(alloc, dialect, seen, number, built),
-        Err(error) => refuse(alloc, error),
-    }
-}
-
-/// Compact JSON, and a newline.
-fn line_of(alloc: Global, object: &Json) -> Result<String, AllocError>
-    ensures { IfOk result (λ text. has_float (view object.now) ≡ false
-        → string_bytes text ≡ compact_text (view object.now) ++ 10 ∷ []) }
-{
-    let mut text = object.to_string(alloc)?;
-    text.push_str("\n")?;
-    Ok(text)
-}
-
-/// The line of a request that is refused by this name: `{"refused":"NotInScope"}` and a newline.
-pub fn refusal_line(alloc: Global, name: &str) -> Result<String, AllocError>
-    ensures { IfOk result (λ text. string_bytes text
-        ≡ compact_text (refused_data name.now) ++ 10 ∷ []) }
-{
-    let object = refused_by(alloc, name)?;
-    line_of(alloc, &object)
 }
 
 /// The line of a statement, as that of the request with this number, where `seen` has the keys of those before it. What the cache holds
@@ -172,8 +130,10 @@ pub fn statement_line(
         (λ l. string_bytes text ≡ line_text l)) }
     ensures schema { cache.new.schema ≡ cache.old.schema }
 {
-    let object = statement_object(alloc, cache, seen, number, dialect, statement)?;
-    line_of(alloc, &object)
+    match compile_cached_for(alloc, dialect, cache, statement) {
+        Ok(built) => accept(alloc, dialect, seen, number, built),
+        Err(error) => refuse(alloc, error),
+    }
 }
 
 /// The line of the request with this number, where `seen` has the keys of those before it. What the cache holds changes no line.

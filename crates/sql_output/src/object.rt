@@ -1,116 +1,104 @@
-ghost use Rattle.std.specs.Prelude.{◌≡◌, map, IfOk};
-ghost use Rattle.serde_json.specs.View.{view};
-ghost use Rattle.sql_rules.specs.Texts.{rule_text};
-ghost use Rattle.sql_output.specs.Objects.{value_data, type_data, bound_data, statement_data, refused as refused_data};
+ghost use Rattle.std.specs.Prelude.{◌≡◌, ◌∷◌, ◌++◌, [], IfOk, Some, false, string_bytes};
+ghost use Rattle.serde.specs.Event.{Log};
+ghost use Rattle.serde_json.specs.Data.{Data};
+ghost use Rattle.serde_json.specs.Events.{SendsValue};
+ghost use Rattle.serde_json.specs.Written.{compact_text, has_float};
+ghost use Rattle.sql_output.specs.Objects.{refused as refused_data, statement_data};
 
-use serde_json::{Value as Json, json};
-use sql_check::Rule;
-use sql_document::type_name;
-use sql_pass::{Bound, Value};
+use crate::sent::{send_id, send_list};
+use serde::{Described, Serialize, Serializer};
+use sql_pass::Bound;
 use sql_schema::SqlType;
 use std::alloc::{AllocError, Global};
 
-fn value_json(alloc: Global, value: &Value) -> Result<Json, AllocError>
-    ensures { IfOk result (λ v. view v ≡ value_data value.now) }
-{
-    match value {
-        Value::SmallInt(number) => Ok(Json::from(*number)),
-        Value::Integer(number) => Ok(Json::from(*number)),
-        Value::BigInt(number) => Ok(Json::from(*number)),
-        Value::Text(text) => Json::try_from_str(alloc, text.as_str()),
-        Value::Binary(bytes) => {
-            let digits = hex::encode(alloc, bytes.as_slice())?;
-            Json::try_from_str(alloc, digits.as_str())
-        }
-        Value::Bool(truth) => Ok(Json::from(*truth)),
-        Value::Null => Ok(Json::Null),
-    }
-}
-
-fn values_json(alloc: Global, values: &[Value]) -> Result<Vec<Json>, AllocError>
-    ensures { IfOk result (λ v. map view v.items ≡ map value_data values.now) }
-{
-    let mut all = Vec::new(alloc);
-    for value in values {
-        all.push(value_json(alloc, value)?)?;
-    }
-    Ok(all)
-}
-
-fn type_json(alloc: Global, ty: SqlType) -> Result<Json, AllocError>
-    ensures { IfOk result (λ v. view v ≡ type_data ty) }
-{
-    Json::try_from_str(alloc, type_name(ty))
-}
-
-fn bound_json(alloc: Global, bound: &Bound) -> Result<Json, AllocError>
-    ensures { IfOk result (λ v. view v ≡ bound_data bound.now) }
-{
-    match bound {
-        Bound::Value(ty, value) => {
-            let value = value_json(alloc, value)?;
-            json!(in alloc; [type_name(*ty), value])
-        }
-        Bound::List(ty, values) => {
-            let values = values_json(alloc, values.as_slice())?;
-            json!(in alloc; [type_name(*ty), values])
-        }
-    }
-}
-
-fn binds_json(alloc: Global, binds: &[Bound]) -> Result<Vec<Json>, AllocError>
-    ensures { IfOk result (λ v. map view v.items ≡ map bound_data binds.now) }
-{
-    let mut all = Vec::new(alloc);
-    for bound in binds {
-        all.push(bound_json(alloc, bound)?)?;
-    }
-    Ok(all)
-}
-
-fn types_json(alloc: Global, types: &[SqlType]) -> Result<Vec<Json>, AllocError>
-    ensures { IfOk result (λ v. map view v.items ≡ map type_data types.now) }
-{
-    let mut all = Vec::new(alloc);
-    for ty in types {
-        all.push(type_json(alloc, *ty)?)?;
-    }
-    Ok(all)
-}
-
-/// The line of an accepted request:
+/// The object of an accepted request:
 /// `{"binds":[["Integer",1]],"columns":["Integer"],"id":1,"safe":true,"sql":"SELECT .."}`.
-pub fn accepted(
+struct Accepted<'a> {
     alloc: Global,
-    binds: &[Bound],
-    types: &[SqlType],
+    binds: &'a [Bound],
+    columns: &'a [SqlType],
     id: Option<u64>,
     safe: bool,
-    text: &str,
-) -> Result<Json, AllocError>
-    ensures { IfOk result (λ v. view v ≡ statement_data binds.now types.now id safe text.now) }
-{
-    let binds = binds_json(alloc, binds)?;
-    let columns = types_json(alloc, types)?;
-    json!(in alloc; {
-        "binds": binds,
-        "columns": columns,
-        "id": id,
-        "safe": safe,
-        "sql": text,
-    })
+    sql: &'a str,
 }
 
-/// The line of a request that is refused by this name: `{"refused":"NotInScope"}`.
-pub fn refused_by(alloc: Global, name: &str) -> Result<Json, AllocError>
-    ensures { IfOk result (λ v. view v ≡ refused_data name.now) }
-{
-    json!(in alloc; {"refused": name})
+impl Described for Accepted<'_> {
+    ghost writes = { λ a. SendsValue (statement_data a.binds.now a.columns.now a.id a.safe a.sql.now) };
 }
 
-/// The line of a request that breaks a rule.
-pub fn refused(alloc: Global, rule: Rule) -> Result<Json, AllocError>
-    ensures { IfOk result (λ v. view v ≡ refused_data (rule_text rule)) }
+impl Serialize for Accepted<'_> {
+    fn serialize<S: Serializer>(&self, out: &mut S) -> Result<(), S::Error> {
+        out.begin_map(Some(5))?;
+        out.key("binds")?;
+        send_list(self.alloc, self.binds, out)?;
+        out.key("columns")?;
+        send_list(self.alloc, self.columns, out)?;
+        out.key("id")?;
+        send_id(self.id, out)?;
+        out.key("safe")?;
+        out.bool(self.safe)?;
+        out.key("sql")?;
+        out.str(self.sql)?;
+        out.end_map()
+    }
+}
+
+/// The object of a request that is refused by this name: `{"refused":"NotInScope"}`.
+struct Refused<'a>(&'a str);
+
+impl Described for Refused<'_> {
+    ghost writes = { λ r. SendsValue (refused_data r.0.now) };
+}
+
+impl Serialize for Refused<'_> {
+    fn serialize<S: Serializer>(&self, out: &mut S) -> Result<(), S::Error> {
+        out.begin_map(Some(1))?;
+        out.key("refused")?;
+        out.str(self.0)?;
+        out.end_map()
+    }
+}
+
+/// Compact JSON, and a newline.
+fn line_of<T: Serialize>(alloc: Global, object: &T) -> Result<String, AllocError>
+    ensures { IfOk result (λ text. (d : Data) → has_float d ≡ false
+        → ((log : Log) → T.writes object.now (Some []) log → SendsValue d (Some []) log)
+        → string_bytes text ≡ compact_text d ++ 10 ∷ []) }
 {
-    refused_by(alloc, rule.name())
+    let Ok(mut text) = serde_json::to_string(alloc, object) else {
+        return Err(AllocError);
+    };
+    text.push_str("\n")?;
+    Ok(text)
+}
+
+/// The line of an accepted request, with a newline.
+pub(crate) fn accepted_line(
+    alloc: Global,
+    binds: &[Bound],
+    columns: &[SqlType],
+    id: Option<u64>,
+    safe: bool,
+    sql: &str,
+) -> Result<String, AllocError>
+    ensures { IfOk result (λ text. string_bytes text
+        ≡ compact_text (statement_data binds.now columns.now id safe sql.now) ++ 10 ∷ []) }
+{
+    let object = Accepted {
+        alloc,
+        binds,
+        columns,
+        id,
+        safe,
+        sql,
+    };
+    line_of(alloc, &object)
+}
+
+/// The line of a request that is refused by this name: `{"refused":"NotInScope"}` and a newline.
+pub fn refusal_line(alloc: Global, name: &str) -> Result<String, AllocError>
+    ensures { IfOk result (λ text. string_bytes text
+        ≡ compact_text (refused_data name.now) ++ 10 ∷ []) }
+{
+    line_of(alloc, &Refused(name))
 }
