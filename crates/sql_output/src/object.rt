@@ -13,6 +13,7 @@ use std::alloc::{AllocError, Global};
 
 /// The object of an accepted request:
 /// `{"binds":[["Integer",1]],"columns":["Integer"],"id":1,"safe":true,"sql":"SELECT .."}`.
+#[derive(Drop)]
 struct Accepted<'a> {
     alloc: Global,
     binds: &'a [Bound],
@@ -44,6 +45,7 @@ impl Serialize for Accepted<'_> {
 }
 
 /// The object of a request that is refused by this name: `{"refused":"NotInScope"}`.
+#[derive(Drop)]
 struct Refused<'a>(&'a str);
 
 impl Described for Refused<'_> {
