@@ -28,7 +28,7 @@ pub struct TenantDocument {
 
 /// The tenant that a guard names, its names looked up in the schema. None where the schema lacks one of them.
 #[tactic(auto, unfolding(crate::specs::Tenants::tenant_of))]
-fn tenant(alloc: Global, schema: &Schema, guard: &Guard) -> Result<Option<Tenant>, NoMemory>
+fn tenant_named(alloc: Global, schema: &Schema, guard: &Guard) -> Result<Option<Tenant>, NoMemory>
     ensures { IfOk result (λ o. option_map tenant_tree o ≡ tenant_of schema.now (guard_tree guard.now)) }
 {
     let Some(table) = schema.table(guard.table.as_str()) else {
@@ -46,7 +46,7 @@ fn with_tenant(alloc: Global, guarded: Guarded) -> Result<TenantDocument, Refusa
     ensures { Gives tenant_document_tree result (tenant_in (guarded_tree guarded)) }
 {
     let Guarded { document, guard } = guarded;
-    let tenant = tenant(alloc, &document.schema, &guard)?.ok_or(Refusal::NotADocument)?;
+    let tenant = tenant_named(alloc, &document.schema, &guard)?.ok_or(Refusal::NotADocument)?;
     Ok(TenantDocument { document, tenant })
 }
 
