@@ -9,7 +9,7 @@ use Rattle.sql_command.specs.Run.{Ends, HasRead, HasReadSome}
 use Rattle.sql_command.specs.inside.Responses.{Response, WroteLine}
 use Rattle.sql_command.specs.declared.command.Command.{Command}
 use Rattle.sql_command.specs.declared.command.Command.TheVariants.{Generate, Read}
-use Rattle.sql_command.specs.declared.run.TheConstants.{LIMIT}
+use Rattle.sql_command.specs.declared.program.TheConstants.{LIMIT}
 use Rattle.sql_command.specs.declared.status.Status.{Status}
 use Rattle.sql_command.specs.declared.status.Status.TheVariants.{Done, Usage, BadDocument, ReadFault, WriteFault, NoMemory, TooLarge}
 

@@ -7,7 +7,7 @@ use Rattle.sql_command.specs.Command.{IsBadInput, IsOutputOf, reads_source}
 use Rattle.sql_command.specs.Run.{Ends, HasRead, HasReadSome, Outcome, Took, may_write, status_from, status_of, status_on}
 use Rattle.sql_command.specs.declared.command.Command.{Command}
 use Rattle.sql_command.specs.declared.command.Command.TheVariants.{Build, Generate, Read, Audit, Guard}
-use Rattle.sql_command.specs.declared.run.TheConstants.{LIMIT}
+use Rattle.sql_command.specs.declared.program.TheConstants.{LIMIT}
 use Rattle.sql_command.specs.declared.status.Status.{Status}
 use Rattle.sql_command.specs.declared.status.Status.TheVariants.{Done, Usage, BadDocument, ReadFault, WriteFault, NoMemory, TooLarge}
 

@@ -9,7 +9,7 @@ use Rattle.sql_read_output.specs.Input.{input_text}
 use Rattle.sql_command.specs.Command.{IsBadInput, IsOutputOf, IsOutputPrefixOf, reads_source}
 use Rattle.sql_command.specs.declared.command.Command.{Command}
 use Rattle.sql_command.specs.declared.command.Command.TheVariants.{Build, Generate, Read, Audit, Guard}
-use Rattle.sql_command.specs.declared.run.TheConstants.{LIMIT}
+use Rattle.sql_command.specs.declared.program.TheConstants.{LIMIT}
 use Rattle.sql_command.specs.declared.status.Status.{Status}
 use Rattle.sql_command.specs.declared.status.Status.TheVariants.{Done, Usage, BadDocument, ReadFault, WriteFault, NoMemory, TooLarge}
 

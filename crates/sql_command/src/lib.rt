@@ -6,9 +6,9 @@ mod build;
 mod command;
 mod guard;
 mod lines;
-mod run;
+mod program;
 mod status;
 
 pub use command::{Command, MAX_REQUESTS};
-pub use run::{LIMIT, run};
+pub use program::{LIMIT, run};
 pub use status::Status;

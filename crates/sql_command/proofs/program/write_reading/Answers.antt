@@ -3,7 +3,7 @@ use Rattle.std.specs.Prelude.{option_copied}
 use Rattle.sql_read_output.specs.Input.{input_text}
 use Rattle.sql_command.proofs.Endings.{wrote-reading}
 use Rattle.sql_command.specs.inside.Responses.{WroteLine}
-use Rattle.sql_command.proofs.run.write_reading.Goals as goal
+use Rattle.sql_command.proofs.program.write_reading.Goals as goal
 
 pub returns-in-Ok-clause-response : goal.returns-in-Ok-clause-response
 returns-in-Ok-clause-response g c =

@@ -12,7 +12,7 @@ use Rattle.sql_command.proofs.Outcomes as outcomes
 use Rattle.sql_stream.specs.Causes.{HasRisen}
 use Rattle.sql_command.specs.Command.{command_of}
 use Rattle.sql_command.specs.Run.{Outcome}
-use Rattle.sql_command.proofs.run.run.Goals as goal
+use Rattle.sql_command.proofs.program.run.Goals as goal
 
 pub returns-clause-command : goal.returns-clause-command
 returns-clause-command g c = is-told

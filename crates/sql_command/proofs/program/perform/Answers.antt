@@ -6,7 +6,7 @@ use Rattle.sql_command.proofs.Taking.{took-consumed}
 use Rattle.sql_command.specs.Command.{command_of}
 use Rattle.sql_command.specs.Run.{Outcome}
 use Rattle.sql_command.specs.declared.status.Status.TheVariants.{Usage}
-use Rattle.sql_command.proofs.run.perform.Goals as goal
+use Rattle.sql_command.proofs.program.perform.Goals as goal
 
 pub returns-in-None-clause-outcome : goal.returns-in-None-clause-outcome
 returns-in-None-clause-outcome g c =

@@ -4,7 +4,7 @@ use Rattle.std.proofs.KnownBytes.{Consumes-nil}
 use Rattle.sql_command.proofs.Endings.{ends-unread}
 use Rattle.sql_command.proofs.Taking.{took-consumed}
 use Rattle.sql_command.specs.Command.{reads_source}
-use Rattle.sql_command.proofs.run.carry_out.Goals as goal
+use Rattle.sql_command.proofs.program.carry_out.Goals as goal
 
 pub returns-then-not-reads_source-clause-outcome : goal.returns-then-not-reads_source-clause-outcome
 returns-then-not-reads_source-clause-outcome g c =
