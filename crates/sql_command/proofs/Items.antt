@@ -53,9 +53,9 @@ asked-append schema qs later =
 
 -- ---- the lines so far, and one more
 
-module _ (schema here : Declarations) (f g : RequestKey → Option ℕ) (items : List Request) (item : Request) (i : ℕ)
-    (text line : List ℕ) (number : i ≡ length items) (same : here ≡ schema) where
-  pub build-more : HasLine here (statement_request here (request_tree item)) (i + 1) f g (λ l. line ≡ line_text l)
+module _ (schema here : Declarations) (f g : RequestKey → Option ℕ) (items : List Request) (item : Request) (n : ℕ)
+    (text line : List ℕ) (number : n ≡ 1 + length items) (same : here ≡ schema) where
+  pub build-more : HasLine here (statement_request here (request_tree item)) n f g (λ l. line ≡ line_text l)
       → AreWritten schema f (asked schema items) text
       → AreWritten schema g (asked schema (items ++ item ∷ [])) (text ++ line)
   build-more has written =
@@ -63,15 +63,15 @@ module _ (schema here : Declarations) (f g : RequestKey → Option ℕ) (items :
       let r = statement_request schema (request_tree item) in
       let count : length rs ≡ length items =
       length-map (map request_tree items) (statement_request schema) ∙ length-map items request_tree in
-      let n : i + 1 ≡ 1 + length rs = omega (arith, number, count) in
+      let counted : n ≡ 1 + length rs = omega (arith, number, count) in
       let one =
-      subst (λ (w : Declarations). HasLine w (statement_request w (request_tree item)) (i + 1) f g (λ l. line ≡ line_text l))
+      subst (λ (w : Declarations). HasLine w (statement_request w (request_tree item)) n f g (λ l. line ≡ line_text l))
       same has in
       subst (λ x. AreWritten schema g x (text ++ line)) (sym (asked-append schema items (item ∷ [])))
-      (written-more schema f g rs (i + 1) text line r n written one)
+      (written-more schema f g rs n text line r counted written one)
 
   pub guard-more : (t : Tenant)
-      → ((r : StatementRequest) × IsGuarded here t (request_tree item) r × HasLine here r (i + 1) f g (λ l. line ≡ line_text l))
+      → ((r : StatementRequest) × IsGuarded here t (request_tree item) r × HasLine here r n f g (λ l. line ≡ line_text l))
       → ((rs : List StatementRequest) × AreGuarded schema t (map request_tree items) rs × AreWritten schema f rs text)
       → (rs : List StatementRequest) × AreGuarded schema t (map request_tree (items ++ item ∷ [])) rs
       × AreWritten schema g rs (text ++ line)
@@ -79,15 +79,15 @@ module _ (schema here : Declarations) (f g : RequestKey → Option ℕ) (items :
       let (r, is, has) =
       subst
       (λ (w : Declarations). (r : StatementRequest) × IsGuarded w t (request_tree item) r
-      × HasLine w r (i + 1) f g (λ l. line ≡ line_text l))
+      × HasLine w r n f g (λ l. line ≡ line_text l))
       same told in
       let count : length rs ≡ length items =
       guarded-length schema t (map request_tree items) rs guarded ∙ length-map items request_tree in
-      let n : i + 1 ≡ 1 + length rs = omega (arith, number, count) in (
+      let counted : n ≡ 1 + length rs = omega (arith, number, count) in (
         rs ++ r ∷ [],
         subst (λ qs. AreGuarded schema t qs (rs ++ r ∷ [])) (sym (map-append request_tree items (item ∷ [])))
             (guarded-more schema t (map request_tree items) rs (request_tree item) r guarded is),
-        written-more schema f g rs (i + 1) text line r n written has,
+        written-more schema f g rs n text line r counted written has,
       )
 
 pub audit-more : (d : Dialect) (schema : Declarations) (items : List (List ℕ)) (item text line : List ℕ)

@@ -1,4 +1,4 @@
-ghost use Rattle.std.specs.Prelude.{◌≡◌, ⊥, List, ℕ};
+ghost use Rattle.std.specs.Prelude.{◌≡◌, List, ℕ};
 ghost use Rattle.std.specs.Io.KnownBytes.{Appends};
 ghost use Rattle.sql_audit_output.specs.Output.{IsAuditOutput};
 ghost use Rattle.sql_stream.specs.Causes.{HasRisen};
@@ -28,7 +28,7 @@ impl Lines for AuditLines {
     ghost HasLines = { λ first now items text. (now ≡ first)
         × IsAuditOutput first.dialect (record { schema = first.schema; texts = items }) text };
 
-    fn line(&mut self, alloc: Global, _index: usize, item: &SqlText) -> Result<String, AllocError> {
+    fn line(&mut self, alloc: Global, _number: u64, item: &SqlText) -> Result<String, AllocError> {
         audit_line(alloc, self.dialect, &self.schema, item.as_str())
     }
 }

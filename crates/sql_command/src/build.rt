@@ -1,4 +1,4 @@
-ghost use Rattle.std.specs.Prelude.{◌≡◌, ⊥, List, ℕ, IfOk, [], map};
+ghost use Rattle.std.specs.Prelude.{◌≡◌, List, ℕ, IfOk, [], map};
 ghost use Rattle.std.specs.Io.KnownBytes.{Appends};
 ghost use Rattle.sql_document.specs.Trees.{request_tree};
 ghost use Rattle.sql_output.specs.Output.{statement_request};
@@ -53,9 +53,9 @@ impl Lines for BuildLines {
         × AreWritten first.0.cache.schema (seen_at now.0.seen)
         (map (statement_request first.0.cache.schema) (map request_tree items)) text };
 
-    fn line(&mut self, alloc: Global, index: usize, item: &Request) -> Result<String, AllocError> {
+    fn line(&mut self, alloc: Global, number: u64, item: &Request) -> Result<String, AllocError> {
         let Known { cache, seen } = &mut self.0;
-        request_line(alloc, cache, seen, index as u64 + 1, item)
+        request_line(alloc, cache, seen, number, item)
     }
 }
 

@@ -1,4 +1,4 @@
-ghost use Rattle.std.specs.Prelude.{◌≡◌, ⊥, List, ℕ, map};
+ghost use Rattle.std.specs.Prelude.{◌≡◌, List, ℕ, map};
 ghost use Rattle.std.specs.Io.KnownBytes.{Appends};
 ghost use Rattle.sql_document.specs.Trees.{request_tree};
 ghost use Rattle.sql_output.specs.Output.{StatementRequest};
@@ -34,9 +34,9 @@ impl Lines for GuardLines {
         × AreGuarded first.known.cache.schema (tenant_tree first.tenant) (map request_tree items) rs
         × AreWritten first.known.cache.schema (seen_at now.known.seen) rs text) };
 
-    fn line(&mut self, alloc: Global, index: usize, item: &Request) -> Result<String, AllocError> {
+    fn line(&mut self, alloc: Global, number: u64, item: &Request) -> Result<String, AllocError> {
         let Known { cache, seen } = &mut self.known;
-        guarded_line(alloc, cache, seen, index as u64 + 1, &self.tenant, item)
+        guarded_line(alloc, cache, seen, number, &self.tenant, item)
     }
 }
 

@@ -1,4 +1,4 @@
-ghost use Rattle.std.specs.Prelude.{◌≡◌, ◌++◌, ◌∷◌, List, ℕ, IfOk, OnOk, OnErr, IfErr, [], length, string_bytes};
+ghost use Rattle.std.specs.Prelude.{◌≡◌, ◌+◌, ◌++◌, ◌∷◌, List, ℕ, IfOk, OnOk, OnErr, IfErr, [], length, string_bytes};
 ghost use Rattle.std.specs.Io.KnownBytes.{Appends};
 ghost use Rattle.sql_stream.specs.Causes.{HasRisen};
 ghost use Rattle.sql_command.specs.inside.Responses.{WroteLines, WroteSome};
@@ -40,10 +40,10 @@ pub(crate) trait Lines {
     /// Between these states, the lines of these items are this text.
     ghost HasLines: { Self → Self → List Self.Item → List ℕ → Type 0 };
 
-    /// The line of the next item, which has this index.
-    fn line(&mut self, alloc: Global, index: usize, item: &Self::Item) -> Result<String, AllocError>
+    /// The line of the next item, which has this number, from 1.
+    fn line(&mut self, alloc: Global, number: u64, item: &Self::Item) -> Result<String, AllocError>
         ensures { IfOk result (λ line. (first : Self) (items : List Self.Item) (text : List ℕ)
-            → index ≡ length items → HasLines first self.old items text
+            → number ≡ 1 + length items → HasLines first self.old items text
             → HasLines first self.new (items ++ item.now ∷ []) (text ++ string_bytes line)) };
 }
 
@@ -66,7 +66,7 @@ fn write_each<L: Lines, K: Sink>(
     ensures ok { OnOk result (K.faults sink.new ≡ K.faults sink.old) }
 {
     for (index, item) in items.iter().enumerate() {
-        let line = lines.line(alloc, index, item)?;
+        let line = lines.line(alloc, index as u64 + 1, item)?;
         write_all(sink, line.as_bytes())?;
     }
     Ok(())

@@ -32,7 +32,8 @@ returns-in_err-write_all-clause-prefix g c =
     let (text, has, appended) = l.invariant.lines in
     let (done, after, split, more) = c.in_err-write_all.ensures.front in
     let within : i < length all = c.loop-index-test.true in
-    let counted : i ≡ length (take i all) = sym (length-take-le i all (omega (arith, within))) in
+    let taken = length-take-le i all (omega (arith, within)) in
+    let counted : i + 1 ≡ 1 + length (take i all) = omega (arith, taken) in
     let one = c.in_ok-line.ensures c.args.lines.now (take i all) text counted has in
     let whole : text ++ line ≡ (text ++ done) ++ after =
     ap (λ u. text ++ u) (sym c.as_bytes.ensures.value ∙ split) ∙ sym (append_assoc text done after) in
@@ -59,7 +60,8 @@ loop-index-preserved g c =
     let line = string_bytes c.in_ok-line.line in
     let (text, has, appended) = l.invariant.lines in
     let within : i < length all = c.loop-index-test.true in
-    let counted : i ≡ length (take i all) = sym (length-take-le i all (omega (arith, within))) in
+    let taken = length-take-le i all (omega (arith, within)) in
+    let counted : i + 1 ≡ 1 + length (take i all) = omega (arith, taken) in
     let one = c.in_ok-line.ensures c.args.lines.now (take i all) text counted has in
     let next : take i all ++ item ∷ [] ≡ take (i + 1) all =
     ap (λ x. take i all ++ x ∷ []) c.index-items-index.is ∙ sym (take_more all i item within) in

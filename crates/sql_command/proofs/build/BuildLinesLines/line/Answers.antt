@@ -11,5 +11,5 @@ returns c =
     IfOk-weaker c.request_line.result _ _ (λ line has first items text number written. (
       c.request_line.ensures.schema ∙ written.0,
       build-more first.0.cache.schema known.cache.schema (seen_at known.seen) (seen_at c.request_line.new.seen) items
-          c.args.item.now c.args.index text (string_bytes line) number written.0 has written.1,
+          c.args.item.now c.args.number text (string_bytes line) number written.0 has written.1,
     )) c.request_line.ensures.line

@@ -14,16 +14,16 @@ pub returns : goal.returns
 returns c =
     let known = c.args.self.now.known in
     let item = c.args.item.now in
-    let i = c.args.index in
+    let n = c.args.number in
     IfOk-weaker c.guarded_line.result _ _ (λ line has first items text number written.
     let told =
     subst
     (λ (t : TheTenant). (r : StatementRequest) × IsGuarded known.cache.schema (tenant_tree t) (request_tree item) r
-    × HasLine known.cache.schema r (i + 1) (seen_at known.seen) (seen_at c.guarded_line.new.seen)
+    × HasLine known.cache.schema r n (seen_at known.seen) (seen_at c.guarded_line.new.seen)
     (λ l. string_bytes line ≡ line_text l))
     written.1 has in (
       c.guarded_line.ensures.schema ∙ written.0,
       written.1,
       guard-more first.known.cache.schema known.cache.schema (seen_at known.seen) (seen_at c.guarded_line.new.seen) items
-          item i text (string_bytes line) number written.0 (tenant_tree first.tenant) told written.2,
+          item n text (string_bytes line) number written.0 (tenant_tree first.tenant) told written.2,
     )) c.guarded_line.ensures.line
