@@ -5,7 +5,7 @@
     tests/servers/run.py examples/filter.json ..         these documents, as they stand
     tests/servers/run.py --random 20000 [--seed 1]       random documents, until so many lines were accepted
 
-By hand, with the program built (--program names another). It starts the servers on unix sockets in folders of its own, makes each
+The program has to be built (--program names another). The script starts the servers on unix sockets in folders of its own, makes each
 document's tables with small random rows, and of each line it prepares the text, binds the values and executes it. It asks that the server
 counts as many placeholders as there are values; that columns are as many and of the types that are told, without NULL where that is told;
 that the prepared text serves for other values, and on PostgreSQL for lists of other lengths; and that the rows are an answer by
