@@ -57,10 +57,11 @@ def sizes(direction, least, most):
     """Documents of this direction, from the smallest size on, each four times as large; twice, where the count has a bound."""
     bound = documents.DIRECTIONS[direction][1]
     if bound is None:
-        size = least
-        while size <= most:
+        bytes_each = [most]
+        while bytes_each[-1] // 4 >= least:
+            bytes_each.append(bytes_each[-1] // 4)
+        for size in reversed(bytes_each):
             yield written(direction, size, None)
-            size *= 4
     else:
         for part in (8, 4, 2, 1):
             count, text = bound // part, documents.document(direction, bound // part)
@@ -137,7 +138,7 @@ def main():
     options = argparse.ArgumentParser(description=__doc__.split("\n")[0])
     options.add_argument("program", help="the program to run")
     options.add_argument("directions", nargs="*", metavar="DIRECTION", help="the directions to run, else all: " + ", ".join(documents.DIRECTIONS))
-    options.add_argument("--least", type=int, default=65536, help="the bytes of the smallest document (65536)")
+    options.add_argument("--least", type=int, default=60000, help="the bytes of the smallest document, at least (60000)")
     options.add_argument("--most", type=int, default=LIMIT, help="the bytes of the largest document (16777214)")
     options.add_argument("--seconds", type=int, default=120, help="a run is ended after so many seconds (120)")
     options.add_argument("--stack", action="store_true", help="find how much stack the deepest documents take")
