@@ -19,31 +19,9 @@ use sql_check::{Built, CompileError, Rule};
 use sql_dialect::{Bracket, Dialect, Mysql, Pg, Sqlite};
 use sql_document::Request;
 use sql_node::Statement;
-use sql_rows::{RequestKey, StatementCache, compile_sound};
-use sql_schema::Schema;
+use sql_rows::{RequestKey, StatementCache};
 use std::alloc::{AllocError, Global};
 use std::collections::BTreeMap;
-
-/// `compile_sound` for a dialect that is known when the program runs.
-pub fn compile_for(
-    alloc: Global,
-    dialect: Dialect,
-    schema: &Schema,
-    statement: &Statement,
-) -> Result<Built, CompileError>
-    ensures built { IfOk result (λ b. IsBuilt schema.now dialect (statement_tree statement.now) b) }
-    ensures read { IfOk result (λ b. IsRead dialect (statement_tree statement.now)
-        b.sql b.binds) }
-    ensures refused { IfErr result (λ e. (r : Rule) → rule_of e ≡ Some r
-        → IsLeast r schema.now dialect (statement_tree statement.now)) }
-{
-    match dialect {
-        Dialect::Pg => compile_sound(alloc, &Pg, schema, statement),
-        Dialect::Mysql => compile_sound(alloc, &Mysql, schema, statement),
-        Dialect::Sqlite => compile_sound(alloc, &Sqlite, schema, statement),
-        Dialect::Bracket => compile_sound(alloc, &Bracket, schema, statement),
-    }
-}
 
 /// `compile_cached` for a dialect that is known when the program runs.
 pub fn compile_cached_for(
