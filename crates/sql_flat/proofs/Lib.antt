@@ -1,5 +1,5 @@
 pub mod Among
 pub mod ClauseNodes
 pub mod Lists
-pub mod Reads
+pub mod Unflattening
 pub mod Stacking

@@ -1,6 +1,7 @@
+use crate::back::comes_back;
 use sql_call_tests::fixture::{id, ids};
 use sql_expr::{Expr, ExpressionMethods, InValues, Statement};
-use sql_fixture::{INTEGER, beside, gives, is};
+use sql_fixture::{INTEGER, beside, is};
 use sql_flat::{Flat, FlatKind, FlatNode, flatten};
 use sql_pass::Value;
 use sql_schema::SqlList;
@@ -61,12 +62,9 @@ fn nodes_in_writing_order(rt: HostRuntime) -> Result<(), Fail> {
 #[test]
 fn a_statement_comes_back(rt: HostRuntime) -> Result<(), Fail> {
     let alloc = rt.alloc();
-    let flat = flat(alloc)?;
-    let back = flat.unflatten(alloc);
-    drop(flat);
-    gives(
+    comes_back(
         alloc,
-        back,
+        chosen(alloc)?,
         r#"SELECT "users"."id" FROM "users" WHERE ("users"."id" = ANY($1))"#,
     )
 }
