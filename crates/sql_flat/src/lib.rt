@@ -1,6 +1,7 @@
 //! Statements as flat lists of nodes.
 #![tactic(auto)]
 
+mod beside;
 mod building;
 mod clause;
 mod clauses;

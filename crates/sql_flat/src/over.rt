@@ -7,6 +7,7 @@ ghost use Rattle.sql_node.specs.View.{among_of, expr_tree, in_values_tree, maybe
 ghost use Rattle.sql_flat.specs.inside.Parts.{among_in, comparison_in, expr_of, expr_part, logic_in, on_of, over_among, over_expr, over_few, over_sides, over_source, over_sources, over_statement, over_two, positions_of, source_of, statement_of, statement_part};
 ghost use Rattle.sql_flat.specs.inside.Stacks.{part_of};
 
+use crate::beside::{beside, boxed_pair, with};
 use crate::part::Part;
 use crate::{Combining, Comparison, FlatKind, Logic};
 use sql_leaf::{AliasedField, JoinKind, PositionalItem};
@@ -78,8 +79,7 @@ fn compared(alloc: Global, by: Comparison, a: Expr, b: Expr) -> Result<Expr, NoM
     ensures { IfOk result (λ e. expr_tree e
         ≡ t.compared (comparison_in by) (expr_tree a) (expr_tree b)) }
 {
-    let a = Box::new(alloc, a)?;
-    let b = Box::new(alloc, b)?;
+    let (a, b) = boxed_pair(alloc, a, b)?;
     match by {
         Comparison::Eq => Ok(Expr::Eq(a, b)),
         Comparison::Ne => Ok(Expr::Ne(a, b)),
@@ -108,8 +108,7 @@ fn joined(alloc: Global, by: Logic, a: Expr, b: Expr) -> Result<Expr, NoMemory>
     ensures { IfOk result (λ e. expr_tree e
         ≡ t.joined (logic_in by) (expr_tree a) (expr_tree b)) }
 {
-    let a = Box::new(alloc, a)?;
-    let b = Box::new(alloc, b)?;
+    let (a, b) = boxed_pair(alloc, a, b)?;
     match by {
         Logic::And => Ok(Expr::And(a, b)),
         Logic::Or => Ok(Expr::Or(a, b)),
@@ -231,11 +230,12 @@ fn combination(
     ensures { IfOk result (λ s. statement_tree s ≡ t.combination combining.combinator
         combining.duplicates (statement_tree left) (statement_tree right) order combining.rows) }
 {
+    let (order, (source, rhs)) = beside(order, boxed_pair(alloc, left, right))?;
     Ok(Statement::Combination(CombinationClause {
         combinator: combining.combinator,
         duplicate_rule: combining.duplicates,
-        source: Box::new(alloc, left)?,
-        rhs: Box::new(alloc, right)?,
+        source,
+        rhs,
         order,
         limit_offset: combining.rows,
     }))
@@ -254,7 +254,7 @@ fn combination_part(
     let Some(left) = one.statement() else {
         return Ok(Part::Unfit);
     };
-    let Some(right) = two.statement() else {
+    let Some((left, right)) = with(left, two.statement()) else {
         return Ok(Part::Unfit);
     };
     let order = three.positions();
