@@ -1,10 +1,10 @@
 //! The clauses of a statement that is read.
 #![tactic(auto)]
 
-ghost use Rattle.std.specs.Prelude.{◌≡◌};
-ghost use Rattle.sql_flat.specs.inside.Parts.{no_clauses, over_clauses, plainly};
+ghost use Rattle.std.specs.Prelude.{◌≡◌, IfOk};
+ghost use Rattle.sql_flat.specs.inside.Parts.{no_clauses, over_clauses, plainly, selected};
 ghost use Rattle.sql_flat.specs.inside.Stacks.{clauses_of, part_of};
-ghost use Rattle.sql_node.specs.View.{distinct_clause_tree, expr_tree, select_clause_tree};
+ghost use Rattle.sql_node.specs.View.{distinct_clause_tree, expr_tree, select_clause_tree, statement_tree};
 
 use crate::part::Part;
 use crate::{Form, Selecting, Uniqueness};
@@ -12,6 +12,8 @@ use sql_node::{
     BoxedSelectStatement, DistinctClause, Expr, FromClause, GroupByClause, HavingClause,
     OrderClause, SelectClause, SelectStatement, Statement, WhereClause,
 };
+use sql_schema::NoMemory;
+use std::alloc::Global;
 
 /// The clauses of a statement, as far as they are read.
 pub(crate) struct Clauses {
@@ -86,28 +88,26 @@ impl Clauses {
         }
     }
 
-    /// The statement of these clauses, where the selection is among them.
+    /// The statement of these clauses and that selection.
     #[tactic(auto, using(sql_node::proofs::Trees::opens_statement, sql_node::proofs::Trees::opens_select_statement, sql_node::proofs::Trees::opens_boxed_select_statement))]
-    pub(crate) fn into_part(mut self, selecting: Selecting) -> Part
-        ensures { part_of result ≡ over_clauses selecting (clauses_of self) }
+    fn into_statement(self, selecting: Selecting, select: SelectClause) -> Statement
+        ensures { statement_tree result
+            ≡ selected selecting (select_clause_tree select) (clauses_of self) }
     {
-        let Some(selection) = self.selection.take() else {
-            return Part::Unfit;
-        };
-        let select = select_clause(selecting.default, selection);
         let Clauses {
             distinct,
-            selection: _,
+            selection,
             from,
             where_clause,
             group_by,
             having,
             order,
         } = self;
+        drop(selection);
         let limit_offset = selecting.rows;
         let marks = selecting.marks;
         match selecting.form {
-            Form::Unboxed(locking) => Part::Statement(Statement::Select(SelectStatement {
+            Form::Unboxed(locking) => Statement::Select(SelectStatement {
                 select,
                 from,
                 distinct,
@@ -118,22 +118,32 @@ impl Clauses {
                 having,
                 locking,
                 marks,
-            })),
-            Form::Boxed(dialect, nullable) => {
-                Part::Statement(Statement::Boxed(BoxedSelectStatement {
-                    select,
-                    from,
-                    distinct,
-                    where_clause,
-                    order,
-                    limit_offset,
-                    group_by,
-                    having,
-                    marks,
-                    dialect,
-                    nullable,
-                }))
-            }
+            }),
+            Form::Boxed(dialect, nullable) => Statement::Boxed(BoxedSelectStatement {
+                select,
+                from,
+                distinct,
+                where_clause,
+                order,
+                limit_offset,
+                group_by,
+                having,
+                marks,
+                dialect,
+                nullable,
+            }),
         }
+    }
+
+    /// The statement of these clauses, where the selection is among them.
+    pub(crate) fn into_part(mut self, alloc: Global, selecting: Selecting) -> Result<Part, NoMemory>
+        ensures { IfOk result (λ p. part_of p ≡ over_clauses selecting (clauses_of self)) }
+    {
+        let Some(selection) = self.selection.take() else {
+            return Ok(Part::Unfit);
+        };
+        let select = select_clause(selecting.default, selection);
+        let statement = self.into_statement(selecting, select);
+        Ok(Part::Statement(Box::new(alloc, statement)?))
     }
 }

@@ -60,7 +60,7 @@ impl Flat {
         ensures { IfOk result (λ s. flat_of (statement_tree s) ≡ self.now) }
     {
         match read_statement(alloc, self.nodes())? {
-            Some(statement) => Ok(statement),
+            Some(statement) => Ok(Box::into_inner(statement)),
             None => unreachable!(),
         }
     }

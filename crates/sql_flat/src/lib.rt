@@ -1,7 +1,6 @@
 //! Statements as flat lists of nodes.
 #![tactic(auto)]
 
-mod beside;
 mod building;
 mod clause;
 mod clauses;

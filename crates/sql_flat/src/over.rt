@@ -7,7 +7,6 @@ ghost use Rattle.sql_node.specs.View.{among_of, expr_tree, in_values_tree, maybe
 ghost use Rattle.sql_flat.specs.inside.Parts.{among_in, comparison_in, expr_of, expr_part, logic_in, on_of, over_among, over_expr, over_few, over_sides, over_source, over_sources, over_statement, over_two, positions_of, source_of, statement_of, statement_part};
 ghost use Rattle.sql_flat.specs.inside.Stacks.{part_of};
 
-use crate::beside::{beside, boxed_pair, with};
 use crate::part::Part;
 use crate::{Combining, Comparison, FlatKind, Logic};
 use sql_leaf::{AliasedField, JoinKind, PositionalItem};
@@ -79,7 +78,8 @@ fn compared(alloc: Global, by: Comparison, a: Expr, b: Expr) -> Result<Expr, NoM
     ensures { IfOk result (λ e. expr_tree e
         ≡ t.compared (comparison_in by) (expr_tree a) (expr_tree b)) }
 {
-    let (a, b) = boxed_pair(alloc, a, b)?;
+    let a = Box::new(alloc, a)?;
+    let b = Box::new(alloc, b)?;
     match by {
         Comparison::Eq => Ok(Expr::Eq(a, b)),
         Comparison::Ne => Ok(Expr::Ne(a, b)),
@@ -108,7 +108,8 @@ fn joined(alloc: Global, by: Logic, a: Expr, b: Expr) -> Result<Expr, NoMemory>
     ensures { IfOk result (λ e. expr_tree e
         ≡ t.joined (logic_in by) (expr_tree a) (expr_tree b)) }
 {
-    let (a, b) = boxed_pair(alloc, a, b)?;
+    let a = Box::new(alloc, a)?;
+    let b = Box::new(alloc, b)?;
     match by {
         Logic::And => Ok(Expr::And(a, b)),
         Logic::Or => Ok(Expr::Or(a, b)),
@@ -129,24 +130,24 @@ fn joined_part(alloc: Global, by: Logic, one: Part, two: Part) -> Result<Part, N
 }
 
 #[tactic(auto, using(sql_node::proofs::Trees::opens_expr))]
-fn exists_part(alloc: Global, one: Part) -> Result<Part, NoMemory>
-    ensures { IfOk result (λ p. part_of p
-        ≡ over_statement (λ s. expr_part (t.exists s)) (statement_of (part_of one))) }
+fn exists_part(one: Part) -> Part
+    ensures { part_of result
+        ≡ over_statement (λ s. expr_part (t.exists s)) (statement_of (part_of one)) }
 {
     match one.statement() {
-        None => Ok(Part::Unfit),
-        Some(query) => Ok(Part::Expr(Expr::Exists(Box::new(alloc, query)?))),
+        None => Part::Unfit,
+        Some(query) => Part::Expr(Expr::Exists(query)),
     }
 }
 
 #[tactic(auto, using(sql_node::proofs::Trees::opens_expr))]
-fn single_part(alloc: Global, one: Part) -> Result<Part, NoMemory>
-    ensures { IfOk result (λ p. part_of p
-        ≡ over_statement (λ s. expr_part (t.single s)) (statement_of (part_of one))) }
+fn single_part(one: Part) -> Part
+    ensures { part_of result
+        ≡ over_statement (λ s. expr_part (t.single s)) (statement_of (part_of one)) }
 {
     match one.statement() {
-        None => Ok(Part::Unfit),
-        Some(query) => Ok(Part::Expr(Expr::Subselect(Box::new(alloc, query)?))),
+        None => Part::Unfit,
+        Some(query) => Part::Expr(Expr::Subselect(query)),
     }
 }
 
@@ -170,7 +171,7 @@ fn among_part(alloc: Global, negated: bool, one: Part, two: Part) -> Result<Part
     let Some(a) = one.expr() else {
         return Ok(Part::Unfit);
     };
-    let Some(values) = two.in_values(alloc)? else {
+    let Some(values) = two.in_values() else {
         return Ok(Part::Unfit);
     };
     Ok(Part::Expr(among(alloc, negated, a, values)?))
@@ -221,24 +222,22 @@ fn from_part(one: Part) -> Part
 
 #[tactic(auto, using(sql_node::proofs::Trees::opens_statement, sql_node::proofs::Trees::opens_combination_clause))]
 fn combination(
-    alloc: Global,
     combining: Combining,
-    left: Statement,
-    right: Statement,
+    source: Box<Statement>,
+    rhs: Box<Statement>,
     order: Option<SqlList<PositionalItem>>,
-) -> Result<Statement, NoMemory>
-    ensures { IfOk result (λ s. statement_tree s ≡ t.combination combining.combinator
-        combining.duplicates (statement_tree left) (statement_tree right) order combining.rows) }
+) -> Statement
+    ensures { statement_tree result ≡ t.combination combining.combinator combining.duplicates
+        (statement_tree source.value) (statement_tree rhs.value) order combining.rows }
 {
-    let (order, (source, rhs)) = beside(order, boxed_pair(alloc, left, right))?;
-    Ok(Statement::Combination(CombinationClause {
+    Statement::Combination(CombinationClause {
         combinator: combining.combinator,
         duplicate_rule: combining.duplicates,
         source,
         rhs,
         order,
         limit_offset: combining.rows,
-    }))
+    })
 }
 
 fn combination_part(
@@ -254,11 +253,11 @@ fn combination_part(
     let Some(left) = one.statement() else {
         return Ok(Part::Unfit);
     };
-    let Some((left, right)) = with(left, two.statement()) else {
+    let Some(right) = two.statement() else {
         return Ok(Part::Unfit);
     };
-    let order = three.positions();
-    Ok(Part::Statement(combination(alloc, combining, left, right, order)?))
+    let both = combination(combining, left, right, three.positions());
+    Ok(Part::Statement(Box::new(alloc, both)?))
 }
 
 fn side_part(one: Part) -> Part
@@ -288,8 +287,8 @@ pub(crate) fn part_over_few(
         FlatKind::CountStar => Ok(Part::Expr(Expr::CountStar)),
         FlatKind::Compared(by) => compared_part(alloc, *by, one, two),
         FlatKind::Joined(by) => joined_part(alloc, *by, one, two),
-        FlatKind::Exists => exists_part(alloc, one),
-        FlatKind::Single => single_part(alloc, one),
+        FlatKind::Exists => Ok(exists_part(one)),
+        FlatKind::Single => Ok(single_part(one)),
         FlatKind::Among(negated, _) => among_part(alloc, *negated, one, two),
         FlatKind::Element(_, value) => Ok(Part::Element(value.try_clone(alloc)?)),
         FlatKind::Table(source) => Ok(Part::Source(Source::Table(source.try_clone(alloc)?))),

@@ -1,7 +1,7 @@
 //! What trees of nodes stand for.
 #![tactic(auto)]
 
-ghost use Rattle.std.specs.Prelude.{◌≡◌, ◌++◌, IfOk, OnOk, option_map, map};
+ghost use Rattle.std.specs.Prelude.{◌≡◌, ◌++◌, OnOk, option_map, map};
 ghost use Rattle.sql_node.specs.View.{expr_tree, in_values_tree, order_item_tree, source_tree, statement_tree};
 ghost use Rattle.sql_flat.specs.inside.Parts.{among_in, expr_of, exprs_at, items_at, on_of, positions_at, positions_of, put_clause, source_of, statement_of, values_at};
 ghost use Rattle.sql_flat.specs.inside.Stacks.{clauses_of, part_of};
@@ -14,7 +14,6 @@ use sql_node::{
 };
 use sql_pass::Value;
 use sql_schema::{NoMemory, SqlList, SqlType};
-use std::alloc::Global;
 
 /// What a tree of nodes stands for.
 pub(crate) enum Part {
@@ -31,7 +30,7 @@ pub(crate) enum Part {
     Having(Expr),
     Item(OrderItem),
     OrderBy(SqlList<OrderItem>),
-    Statement(Statement),
+    Statement(Box<Statement>),
     Position(PositionalItem),
     Positions(SqlList<PositionalItem>),
     /// Of no statement.
@@ -53,7 +52,7 @@ impl Drop for Part {
             Part::Having(_) => {}
             Part::Item(_) => {}
             Part::OrderBy(items) => drop(items),
-            Part::Statement(statement) => drop(statement),
+            Part::Statement(_) => {}
             Part::Position(_) => {}
             Part::Positions(items) => drop(items),
             Part::Unfit => {}
@@ -80,8 +79,8 @@ impl Part {
         }
     }
 
-    pub(crate) fn statement(self) -> Option<Statement>
-        ensures { option_map statement_tree result ≡ statement_of (part_of self) }
+    pub(crate) fn statement(self) -> Option<Box<Statement>>
+        ensures { option_map (λ s. statement_tree s.value) result ≡ statement_of (part_of self) }
     {
         match self {
             Part::Statement(statement) => Some(statement),
@@ -109,13 +108,13 @@ impl Part {
 
     /// What a membership looks in.
     #[tactic(auto, using(sql_node::proofs::Trees::opens_in_values))]
-    pub(crate) fn in_values(self, alloc: Global) -> Result<Option<InValues>, NoMemory>
-        ensures { IfOk result (λ v. option_map in_values_tree v ≡ among_in (part_of self)) }
+    pub(crate) fn in_values(self) -> Option<InValues>
+        ensures { option_map in_values_tree result ≡ among_in (part_of self) }
     {
         match self {
-            Part::Values(ty, values) => Ok(Some(InValues::List(ty, values))),
-            Part::Statement(query) => Ok(Some(InValues::Query(Box::new(alloc, query)?))),
-            _ => Ok(None),
+            Part::Values(ty, values) => Some(InValues::List(ty, values)),
+            Part::Statement(query) => Some(InValues::Query(query)),
+            _ => None,
         }
     }
 

@@ -90,7 +90,7 @@ fn part_over(
         FlatKind::Positions => positions_part(alloc, end, done),
         FlatKind::Select(selecting) => {
             let clauses = take_clauses(done, end, selecting.unique);
-            Ok(clauses.into_part(*selecting))
+            clauses.into_part(alloc, *selecting)
         }
         _ => few_part(alloc, kind, end, done),
     }
@@ -121,8 +121,9 @@ fn read(alloc: Global, nodes: &[FlatNode]) -> Result<Vec<Done>, NoMemory>
 pub(crate) fn read_statement(
     alloc: Global,
     nodes: &[FlatNode],
-) -> Result<Option<Statement>, NoMemory>
-    ensures { IfOk result (λ s. option_map statement_tree s ≡ root_of (read_from 0 nodes.now)) }
+) -> Result<Option<Box<Statement>>, NoMemory>
+    ensures { IfOk result (λ s. option_map (λ b. statement_tree b.value) s
+        ≡ root_of (read_from 0 nodes.now)) }
 {
     let mut done = read(alloc, nodes)?;
     Ok(next(&mut done, 1).statement())

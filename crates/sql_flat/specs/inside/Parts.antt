@@ -233,15 +233,18 @@ over_few K.Side p q r = over_statement statement_part (statement_of p)
 over_few (K.Position i) p q r = position_part i
 over_few k p q r = over_expr k (expr_of p)
 
-abbrev pub selected : Selecting → Option Expr → Clauses → Part
-selected s None c = unfit
-selected s (Some e) c =
-    statement_part
-    (select s.default e c.from_clause c.distinct_clause c.where_clause c.order s.rows c.group_by c.having (form_in s.form)
-    s.marks)
+-- the statement of clauses beside a selection, which is the default one or not
+abbrev pub selected : Selecting → Bool × Expr → Clauses → Statement
+selected s e c =
+    select e.0 e.1 c.from_clause c.distinct_clause c.where_clause c.order s.rows c.group_by c.having (form_in s.form)
+    s.marks
+
+abbrev pub selected_part : Selecting → Option Expr → Clauses → Part
+selected_part s None c = unfit
+selected_part s (Some e) c = statement_part (selected s (s.default, e) c)
 
 abbrev pub over_clauses : Selecting → Clauses → Part
-over_clauses s c = selected s c.selection c
+over_clauses s c = selected_part s c.selection c
 
 abbrev pub over_three : FlatKind → List Part → Part
 over_three k ps = over_few k (first ps) (first (others ps)) (first (others (others ps)))
