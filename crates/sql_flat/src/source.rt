@@ -13,7 +13,7 @@ ghost use Rattle.sql_flat.specs.declared.kind.FlatKind.TheVariants as K;
 use crate::building::{close, open, push_leaf};
 use crate::expr::push_over;
 use crate::{FlatKind, FlatNode};
-use sql_leaf::{Alias, TableSource};
+use sql_leaf::{Alias, JoinKind, TableSource};
 use sql_node::{Expr, JoinOn, Source};
 use sql_schema::NoMemory;
 use std::alloc::Global;
@@ -53,12 +53,12 @@ fn push_on(alloc: Global, on: &Option<Expr>, nodes: &mut Vec<FlatNode>) -> Resul
     }
 }
 
-fn is_joined_on(on: &Option<Expr>) -> bool
-    ensures { result ≡ has_on (maybe_of (option_map expr_tree on.now)) }
+fn join_kind(kind: JoinKind, on: &Option<Expr>) -> FlatKind
+    ensures { result ≡ K.Join kind (has_on (maybe_of (option_map expr_tree on.now))) }
 {
     match on {
-        None => false,
-        Some(_) => true,
+        None => FlatKind::Join(kind, false),
+        Some(_) => FlatKind::Join(kind, true),
     }
 }
 
@@ -69,8 +69,7 @@ fn push_join(alloc: Global, join: &JoinOn, nodes: &mut Vec<FlatNode>) -> Result<
         (Adds flat_node nodes.old.items (one (source_rose (join_on_tree join.now)))
         nodes.new.items) }
 {
-    let has_condition = is_joined_on(&join.on);
-    let at = open(nodes, FlatKind::Join(join.join.kind, has_condition))?;
+    let at = open(nodes, join_kind(join.join.kind, &join.on))?;
     push_source(alloc, &join.join.left, nodes)?;
     push_source(alloc, &join.join.right, nodes)?;
     push_on(alloc, &join.on, nodes)?;

@@ -52,7 +52,7 @@ clause::push_order-returns-in_ok-push_items-in-OrderClause t c =
 pub source::push_join-returns : goal.source::push_join-returns
 source::push_join-returns t c =
     rw (join_on-out, join-out)
-    (adds-node (opens-same (ap (K.Join _) c.is_joined_on-has_condition.ensures) c.in_ok-at.ensures)
+    (adds-node (opens-same c.join_kind.ensures c.in_ok-at.ensures)
     (adds-more c.in_ok-push_source.ensures (adds-more c.in_ok-push_source-2.ensures c.in_ok-push_on.ensures))
     c.close.ensures)
 
@@ -138,10 +138,10 @@ pub expr::push_expr-returns-in_ok-at-in-EqAny : goal.expr::push_expr-returns-in_
 expr::push_expr-returns-in_ok-at-in-EqAny t c =
     rw (c.in-EqAny.is, expr-of_EqAny, membership-nodes, ← c.deref-in-EqAny.ensures)
     (on_ok_weaker c.push_among.result
-    (adds-pair (opens-same (ap (K.Among false) c.is_list-kind.ensures) c.in_ok-at-in-EqAny.ensures)) c.push_among.ensures)
+    (adds-pair (opens-same (ap (K.Among false) c.is_list.ensures) c.in_ok-at-in-EqAny.ensures)) c.push_among.ensures)
 
 pub expr::push_expr-returns-in_ok-at-in-NeAll : goal.expr::push_expr-returns-in_ok-at-in-NeAll
 expr::push_expr-returns-in_ok-at-in-NeAll t c =
     rw (c.in-NeAll.is, expr-of_NeAll, membership-nodes, ← c.deref-in-NeAll.ensures)
     (on_ok_weaker c.push_among-in-NeAll.result
-    (adds-pair (opens-same (ap (K.Among true) c.is_list-kind-in-NeAll.ensures) c.in_ok-at-in-NeAll.ensures)) c.push_among-in-NeAll.ensures)
+    (adds-pair (opens-same (ap (K.Among true) c.is_list-in-NeAll.ensures) c.in_ok-at-in-NeAll.ensures)) c.push_among-in-NeAll.ensures)
