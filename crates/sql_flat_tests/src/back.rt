@@ -179,6 +179,12 @@ fn aliased(alloc: Global) -> Result<SelectStatement, Fail> {
     Ok(alias(alloc)?.as_query(alloc)?)
 }
 
+/// `"u"."id"`.
+fn field(alloc: Global) -> Result<Expr, Fail> {
+    let (alias, column) = beside(alias(alloc)?, column(alloc, "users", "id"))?;
+    Ok(Expr::Field(alias.field(alloc, &column)?))
+}
+
 /// `"posts" TABLESAMPLE BERNOULLI ($1)`.
 fn sampled(alloc: Global) -> Result<Source, Fail> {
     let posts = TableSource::new(table(alloc, "posts")?);
@@ -190,8 +196,7 @@ fn sources(rt: HostRuntime) -> Result<(), Fail> {
     let alloc = rt.alloc();
     let ((users, posts), on) = beside(beside(aliased(alloc)?, sampled(alloc))?, one(alloc))?;
     let joined = users.join(alloc, posts, JoinKind::LeftOuter, Some(on))?;
-    let field = alias(alloc)?.field(alloc, &column(alloc, "users", "id")?);
-    let (joined, field) = beside(joined, field)?;
+    let (joined, field) = beside(joined, field(alloc))?;
     comes_back(
         alloc,
         joined.select(field).into_statement(),
