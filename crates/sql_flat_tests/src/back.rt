@@ -185,7 +185,7 @@ fn field(alloc: Global) -> Result<Expr, Fail> {
     Ok(Expr::Field(alias.field(alloc, &column)?))
 }
 
-/// `"posts" TABLESAMPLE BERNOULLI ($1)`.
+/// `"posts" TABLESAMPLE BERNOULLI($1)`.
 fn sampled(alloc: Global) -> Result<Source, Fail> {
     let posts = TableSource::new(table(alloc, "posts")?);
     Ok(Source::Table(posts.tablesample_bernoulli(10)))
@@ -200,7 +200,7 @@ fn sources(rt: HostRuntime) -> Result<(), Fail> {
     comes_back(
         alloc,
         joined.select(field).into_statement(),
-        r#"SELECT "u"."id" FROM ("users" AS "u" LEFT OUTER JOIN "posts" TABLESAMPLE BERNOULLI ($1) ON $2)"#,
+        r#"SELECT "u"."id" FROM ("users" AS "u" LEFT OUTER JOIN "posts" TABLESAMPLE BERNOULLI($1) ON $2)"#,
     )
 }
 
