@@ -10,7 +10,7 @@ document's tables with small random rows, and of each line it prepares the text,
 counts as many placeholders as there are values; that columns are as many and of the types that are told, without NULL where that is told;
 that the prepared text serves for other values, and on PostgreSQL for lists of other lengths; and that the rows are an answer by
 docs/MEANING.md. Ends with a table of what each server refused, and with 'N passed, M failed'. What is known to be refused (refusals.py,
-docs/SERVERS.md) does not fail. A server whose package is missing is skipped. Bracket has no server.
+docs/SERVERS.md) does not fail. A server whose package is missing, or that doesn't start, is skipped. Bracket has no server.
 """
 import argparse
 import json
@@ -170,7 +170,7 @@ def start(wanted):
             began = time.monotonic()
             started[dialect] = DIALECTS[dialect]()
             print(f"{started[dialect].name} {started[dialect].version}, started in {time.monotonic() - began:.1f} s", flush=True)
-        except servers.Missing as error:
+        except (servers.Missing, RuntimeError) as error:
             print(f"skipped {dialect}: {error}")
     return started
 
