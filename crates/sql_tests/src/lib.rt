@@ -1,5 +1,4 @@
-//! Tests of what the crates below the nodes give to others, and of documents, a module for each crate: worked texts, bytes, refusals,
-//! messages.
+//! Tests of what the crates below the nodes give to others, a module for each crate: worked texts, bytes, refusals, messages.
 //!
 //! A crate with tests of its own is proved twice, once with them, so all tests of libraries are in crates of their own: here, in
 //! `sql_call_tests` (nodes and the calls on them) and in `sql_check_tests` (what is told of a statement). Those of the program are in
@@ -10,8 +9,6 @@
 mod again;
 #[cfg(test)]
 mod dialect;
-#[cfg(test)]
-mod document;
 #[cfg(test)]
 mod every_call;
 #[cfg(test)]

@@ -1,0 +1,20 @@
+use Rattle.std.proofs.Common.{◌≡◌, ◌∙◌, ◌++◌, map, ap, subst, sym}
+use Rattle.sql_document.specs.Trees.{request_tree}
+use Rattle.sql_embed.specs.Session.{HasAnswered, followed_by}
+use Rattle.sql_embed.proofs.responder.Responder.next.Goals as goal
+
+pub returns-in-Ok-clause-done : goal.returns-in-Ok-clause-done
+returns-in-Ok-clause-done c = λ ended.
+    let (more, read, none, asked) = c.in-Ok.ensures.read in
+    let (after, new, grows) = c.go_on.ensures.done ended in
+    let same : map request_tree c.as_slice.result.now ≡ more.requests = ap (map request_tree) c.as_slice.ensures ∙ sym asked in (
+      c.in-Some.session,
+      after,
+      more,
+      sym c.in-Some.ensures.value,
+      new,
+      read,
+      none,
+      λ d text has.
+          subst (λ rs. HasAnswered (followed_by d rs) (text ++ c.go_on.new.self.answer.items) after) same (grows d text has),
+    )

@@ -1,0 +1,2 @@
+-- What a session has answered.
+pub mod Session

@@ -1,0 +1,14 @@
+//! The program's commands over bytes in memory, and sessions, which answer requests over one schema in many calls.
+#![tactic(auto)]
+
+mod buffer;
+mod call;
+mod responder;
+mod session;
+
+pub use call::answer;
+pub use responder::Responder;
+pub use session::{Session, requests};
+pub use sql_command::{Command, LIMIT, Status};
+pub use sql_dialect::Dialect;
+pub use sql_document::Request;

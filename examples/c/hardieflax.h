@@ -1,0 +1,97 @@
+/*
+ * hardieflax.h: the commands of the program, over bytes in memory.
+ *
+ * Link libhardieflax_c.a and liblibc_c.a (docs/EMBEDDING.md). This header is written by hand, and nothing checks it against the library.
+ *
+ * A handle holds the answer of the last call, and at most one session. It begins as HARDIEFLAX_INIT, which owns nothing:
+ *
+ *     hardieflax h = HARDIEFLAX_INIT;
+ *     if (hardieflax_build(&h, document, length) == HARDIEFLAX_DONE)
+ *         fwrite(h.bytes, 1, h.length, stdout);
+ *     hardieflax_free(&h);
+ *
+ * Ownership. The library allocates what a handle owns, and hardieflax_free frees it. h.bytes and h.length are there to be read, until
+ * the next call on the handle. Write none of the fields, and make no copy that is used beside the original: a handle may be moved, as
+ * by memcpy, if the old one is used no more. The library keeps no pointer into what a caller passes.
+ *
+ * Input. A pointer and a length in bytes. The bytes stay as they are for as long as the call runs. The pointer is not NULL, even where
+ * the length is 0.
+ *
+ * Threads. A handle has one call at a time, and stays on the thread that first used it. Handles share nothing, so each thread may have
+ * its own.
+ *
+ * Memory. The library calls malloc, realloc and free. Where memory runs out a call returns HARDIEFLAX_NO_MEMORY, and the handle may be
+ * used on. A call takes up to 2 MB of stack, for input that nests as deep as it may (bench/README.md).
+ *
+ * Signals. Call nothing here from a signal handler, nor in the forked child of a process with threads.
+ */
+#ifndef HARDIEFLAX_H
+#define HARDIEFLAX_H
+
+#include <stdbool.h>
+#include <stddef.h>
+#include <stdint.h>
+
+#ifdef __cplusplus
+extern "C" {
+#endif
+
+typedef struct hardieflax {
+    const uint8_t *bytes; /* the answer, UTF-8, a line of JSON for each item; no zero ends it */
+    size_t length;        /* how many bytes it has; 0 where the call has no answer */
+    uint8_t *owned;       /* the library's */
+    bool in_use;          /* the library's */
+} hardieflax;
+
+#define HARDIEFLAX_INIT { (const uint8_t *)0, 0, (uint8_t *)0, false }
+
+/* How a call ends: the program's exit status. */
+enum hardieflax_status {
+    HARDIEFLAX_DONE = 0,         /* the handle has the answer */
+    HARDIEFLAX_USAGE = 2,        /* no such dialect: the handle is as it was; or on hardieflax_next no session */
+    HARDIEFLAX_BAD_DOCUMENT = 3, /* the input is not what the call reads */
+    HARDIEFLAX_NO_MEMORY = 6,    /* out of memory, or a query or a text nests deeper than 1,000 levels */
+    HARDIEFLAX_TOO_LARGE = 7     /* the input has more than 16777216 bytes */
+};
+
+enum hardieflax_dialect {
+    HARDIEFLAX_PG = 0,
+    HARDIEFLAX_MYSQL = 1,
+    HARDIEFLAX_SQLITE = 2,
+    HARDIEFLAX_BRACKET = 3
+};
+
+/* As `build`: a line for each request of a document. */
+uint32_t hardieflax_build(hardieflax *handle, const uint8_t *document, size_t length);
+
+/* As `guard`: the same, each statement restricted to the rows of the document's tenant. */
+uint32_t hardieflax_guard(hardieflax *handle, const uint8_t *document, size_t length);
+
+/* As `read D`: a line with the text, as the grammar reads it. */
+uint32_t hardieflax_read(hardieflax *handle, uint32_t dialect, const uint8_t *text, size_t length);
+
+/* As `audit D`: a line for each text, with the tables and columns that it uses. */
+uint32_t hardieflax_audit(hardieflax *handle, uint32_t dialect, const uint8_t *texts, size_t length);
+
+/*
+ * Opens a session over the schema of a document, in place of the one that the handle has. The answer is that of hardieflax_build for
+ * the document, whose requests may be none. Where the status is not HARDIEFLAX_DONE the handle has no session.
+ */
+uint32_t hardieflax_open(hardieflax *handle, const uint8_t *document, size_t length);
+
+/*
+ * Answers more requests over the session's schema: a document that declares no table, as {"schema":{"tables":[]},"requests":[..]}. The
+ * lines are those that the output of one document would have which has the requests of all the session's calls, in order: an id is the
+ * number, from 1, of the session's first request of the same dialect and shape. Input that is no such document leaves the session as it
+ * was. Where memory runs out the session is gone: open it again.
+ */
+uint32_t hardieflax_next(hardieflax *handle, const uint8_t *document, size_t length);
+
+/* Frees what the handle owns, which then owns nothing and may be used again. On a handle that owns nothing it does nothing. */
+void hardieflax_free(hardieflax *handle);
+
+#ifdef __cplusplus
+}
+#endif
+
+#endif

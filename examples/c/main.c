@@ -1,0 +1,75 @@
+/* Builds the statements of a document, and those of further documents over its session. Ends with the first status that is not 0. */
+#include <stdio.h>
+#include <stdlib.h>
+#include <string.h>
+
+#include "hardieflax.h"
+
+/* The whole of a file, or NULL. */
+static uint8_t *whole(const char *path, size_t *length) {
+    FILE *file = fopen(path, "rb");
+    uint8_t *bytes = NULL;
+    size_t room = 4096;
+    *length = 0;
+    if (file == NULL)
+        return NULL;
+    bytes = malloc(room);
+    while (bytes != NULL) {
+        size_t count = fread(bytes + *length, 1, room - *length, file);
+        *length += count;
+        if (count == 0)
+            break;
+        if (*length == room) {
+            uint8_t *larger = realloc(bytes, room *= 2);
+            if (larger == NULL)
+                free(bytes);
+            bytes = larger;
+        }
+    }
+    if (bytes != NULL && ferror(file)) {
+        free(bytes);
+        bytes = NULL;
+    }
+    fclose(file);
+    return bytes;
+}
+
+static uint32_t show(uint32_t status, const hardieflax *handle) {
+    if (status == HARDIEFLAX_DONE)
+        fwrite(handle->bytes, 1, handle->length, stdout);
+    else
+        fprintf(stderr, "status %u\n", (unsigned)status);
+    return status;
+}
+
+int main(int argc, char **argv) {
+    hardieflax handle = HARDIEFLAX_INIT;
+    uint32_t status;
+    uint8_t *input;
+    size_t length;
+    int argument;
+
+    if (argc < 3) {
+        fputs("usage: main build|guard|session FILE [DOCUMENT..]\n", stderr);
+        return HARDIEFLAX_USAGE;
+    }
+    input = whole(argv[2], &length);
+    if (input == NULL)
+        return EXIT_FAILURE;
+    if (strcmp(argv[1], "guard") == 0)
+        status = hardieflax_guard(&handle, input, length);
+    else if (strcmp(argv[1], "session") == 0)
+        status = hardieflax_open(&handle, input, length);
+    else
+        status = hardieflax_build(&handle, input, length);
+    free(input);
+    status = show(status, &handle);
+
+    /* Each further argument is a document that declares no table, for the session. */
+    for (argument = 3; status == HARDIEFLAX_DONE && argument < argc; argument++) {
+        const char *document = argv[argument];
+        status = show(hardieflax_next(&handle, (const uint8_t *)document, strlen(document)), &handle);
+    }
+    hardieflax_free(&handle);
+    return (int)status;
+}

@@ -1,0 +1,74 @@
+//! The wrapper's calls, and what it answers where there is nothing to answer.
+
+use hardieflax::{Dialect, Error, Hardieflax};
+
+const USERS: &str = r#"{"tables":[{"name":"users","columns":[{"name":"id","type":"Integer"},{"name":"name","type":"Text"}]}]}"#;
+const NONE: &str = r#"{"tables":[]}"#;
+const BY_ID: &str = r#"{"dialect":"Pg","query":{"from":{"table":"users"},"calls":[["filter",{"eq":[{"col":["users","id"]},{"bind":["Integer",7]}]}]]}}"#;
+const NAMES: &str = r#"{"dialect":"Pg","query":{"from":{"table":"users"},"calls":[["select",[{"col":["users","name"]}]]]}}"#;
+const BY_ID_LINE: &str = concat!(
+    r#"{"binds":[["Integer",7]],"columns":["Integer","Text"],"id":1,"safe":true,"sql":"#,
+    r#""SELECT \"users\".\"id\", \"users\".\"name\" FROM \"users\" WHERE (\"users\".\"id\" = $1)"}"#,
+    "\n"
+);
+const NAMES_LINE: &str = concat!(
+    r#"{"binds":[],"columns":["Text"],"id":2,"safe":true,"sql":"SELECT \"users\".\"name\" FROM \"users\""}"#,
+    "\n"
+);
+
+fn document(schema: &str, requests: &[&str]) -> Vec<u8> {
+    format!(r#"{{"schema":{schema},"requests":[{}]}}"#, requests.join(",")).into_bytes()
+}
+
+#[test]
+fn a_session_goes_on_with_its_ids() {
+    let mut session = Hardieflax::new();
+    assert_eq!(session.open(&document(USERS, &[])), Ok(""));
+    assert_eq!(session.next(&document(NONE, &[BY_ID])), Ok(BY_ID_LINE));
+    let both = format!("{NAMES_LINE}{BY_ID_LINE}");
+    assert_eq!(session.next(&document(NONE, &[NAMES, BY_ID])), Ok(both.as_str()));
+}
+
+#[test]
+fn one_call_is_one_document() {
+    let both = format!("{BY_ID_LINE}{NAMES_LINE}");
+    let mut handle = Hardieflax::new();
+    for _ in 0..3 {
+        assert_eq!(handle.build(&document(USERS, &[BY_ID, NAMES])), Ok(both.as_str()));
+    }
+}
+
+#[test]
+fn a_session_outlives_other_calls() {
+    let mut session = Hardieflax::new();
+    assert_eq!(session.open(&document(USERS, &[BY_ID])), Ok(BY_ID_LINE));
+    assert_eq!(session.build(&document(NONE, &[])), Ok(""));
+    assert_eq!(session.build(b"no document"), Err(Error::BadDocument));
+    assert_eq!(session.next(&document(NONE, &[NAMES])), Ok(NAMES_LINE));
+}
+
+#[test]
+fn bad_requests_leave_the_session() {
+    let large = vec![b' '; 16_777_217];
+    let mut session = Hardieflax::new();
+    assert_eq!(session.next(&document(NONE, &[])), Err(Error::NoSession));
+    assert_eq!(session.open(b"{}"), Err(Error::BadDocument));
+    assert_eq!(session.next(&document(NONE, &[])), Err(Error::NoSession));
+    assert_eq!(session.open(&document(USERS, &[])), Ok(""));
+    assert_eq!(session.next(b""), Err(Error::BadDocument));
+    assert_eq!(session.next(&document(USERS, &[])), Err(Error::BadDocument));
+    assert_eq!(session.next(&document(NONE, &[BY_ID])), Ok(BY_ID_LINE));
+    assert_eq!(session.next(&large), Err(Error::TooLarge));
+    assert_eq!(session.build(&large), Err(Error::TooLarge));
+    assert_eq!(session.next(&document(NONE, &[NAMES])), Ok(NAMES_LINE));
+    assert_eq!(session.open(b"{}"), Err(Error::BadDocument));
+    assert_eq!(session.next(&document(NONE, &[])), Err(Error::NoSession));
+}
+
+#[test]
+fn texts_are_read_and_audited() {
+    let mut handle = Hardieflax::new();
+    assert_eq!(handle.read(Dialect::Pg, b"SELECT"), Ok("{\"refused\":\"NotInGrammar\"}\n"));
+    assert_eq!(handle.read(Dialect::Sqlite, b"\xff"), Err(Error::BadDocument));
+    assert_eq!(handle.audit(Dialect::Pg, b"[]"), Err(Error::BadDocument));
+}
