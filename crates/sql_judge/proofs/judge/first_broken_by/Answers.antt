@@ -3,7 +3,7 @@ use Rattle.sql_places.specs.Parted.{part_of}
 use Rattle.sql_rules.specs.Counted.{PartIsCounted}
 use Rattle.sql_rules.specs.Lists.{Each}
 use Rattle.sql_judge.proofs.Answered.{ok-always}
-use Rattle.sql_judge.proofs.judge.first_broken.Goals as goal
+use Rattle.sql_judge.proofs.judge.first_broken_by.Goals as goal
 
 pub returns-clause-counted : goal.returns-clause-counted
 returns-clause-counted g c =
