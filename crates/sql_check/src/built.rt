@@ -2,6 +2,7 @@ ghost use Rattle.std.specs.Prelude.{◌≡◌, None, Some, IfOk, IfErr, string_b
 ghost use Rattle.sql_schema.specs.Declarations.{Declarations};
 ghost use Rattle.sql_node.specs.View.{statement_tree};
 ghost use Rattle.sql_judge.specs.First.{IsFirst, inner_rules};
+ghost use Rattle.sql_judge.specs.declared.viewed.Names.TheVariants as name;
 ghost use Rattle.sql_check.specs.Compiled.{IsBuilt, IsLeast, IsRead, sql_of};
 ghost use Rattle.sql_check.specs.Errors.{rule_of};
 ghost use Rattle.sql_check.specs.Typed.{known};
@@ -12,7 +13,7 @@ ghost use Rattle.sql_rules.specs.declared.rule.Rule.TheVariants as rule;
 
 use crate::error::CompileError;
 use sql_dialect::{Backend, QueryBuilder};
-use sql_judge::first_broken;
+use sql_judge::{Names, first_broken_by};
 use sql_key::{QueryId, QueryKey};
 use sql_law::{accepted_are_read, names_one_leaf};
 use sql_node::Statement;
@@ -103,6 +104,32 @@ fn build<DB: Backend>(
     })
 }
 
+/// Compiles a statement that breaks no rule, or answers the first rule that it breaks. Names that are known to be the schema's are not
+/// looked up.
+///
+/// Statement and schema stay as they are. `NoMemory` may stand in place of any answer.
+pub fn compile_by<DB: Backend>(
+    alloc: Global,
+    names: Names,
+    backend: &DB,
+    schema: &Schema,
+    statement: &Statement,
+) -> Result<Built, CompileError>
+    requires { names ≡ name.Known
+        → ¬ Broken rule.UnknownName schema.now DB.speaks (statement_tree statement.now) }
+    ensures built { IfOk result (λ b. IsBuilt schema.now DB.speaks (statement_tree statement.now)
+        b) }
+    ensures read { IfOk result (λ b. IsRead DB.speaks (statement_tree statement.now)
+        b.sql b.binds) }
+    ensures refused { IfErr result (λ e. (r : Rule) → rule_of e ≡ Some r
+        → IsLeast r schema.now DB.speaks (statement_tree statement.now)) }
+{
+    match first_broken_by(alloc, names, backend, schema, statement)? {
+        Some(rule) => Err(CompileError::from(rule)),
+        None => build(alloc, backend, statement),
+    }
+}
+
 /// Compiles a statement that breaks no rule, or answers the first rule that it breaks.
 ///
 /// Statement and schema stay as they are. `NoMemory` may stand in place of any answer.
@@ -119,8 +146,5 @@ pub fn compile<DB: Backend>(
     ensures refused { IfErr result (λ e. (r : Rule) → rule_of e ≡ Some r
         → IsLeast r schema.now DB.speaks (statement_tree statement.now)) }
 {
-    match first_broken(alloc, backend, schema, statement)? {
-        Some(rule) => Err(CompileError::from(rule)),
-        None => build(alloc, backend, statement),
-    }
+    compile_by(alloc, Names::Asked, backend, schema, statement)
 }

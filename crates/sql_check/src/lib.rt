@@ -8,8 +8,8 @@ mod error;
 mod fitting;
 
 pub use boxing::boxing_takes_the_id_alone;
-pub use built::{Built, compile};
+pub use built::{Built, compile, compile_by};
 pub use error::CompileError;
 pub use fitting::values_fit;
-pub use sql_judge::broken;
+pub use sql_judge::{Names, broken};
 pub use sql_rules::{RULES, Rule};

@@ -14,7 +14,7 @@ use sql_dialect::Dialect;
 use sql_document::Request;
 use sql_guard::{RestrictError, restrict};
 use sql_node::Statement;
-use sql_output::{RequestKey, StatementCache, refusal_line, statement_line};
+use sql_output::{Names, RequestKey, StatementCache, refusal_line, statement_line};
 use std::alloc::{AllocError, Global};
 use std::collections::BTreeMap;
 
@@ -47,7 +47,15 @@ fn restricted_line(
     ensures schema { cache.new.schema ≡ cache.old.schema }
 {
     match restrict(alloc, statement, &tenant.table, &tenant.predicate) {
-        Ok(restricted) => statement_line(alloc, cache, seen, number, dialect, &restricted),
+        Ok(restricted) => statement_line(
+            alloc,
+            cache,
+            seen,
+            number,
+            dialect,
+            Names::Asked,
+            &restricted,
+        ),
         Err(RestrictError::NoMemory) => Err(AllocError),
         Err(error) => refusal_line(alloc, refusal_name(error)),
     }

@@ -9,6 +9,7 @@ pub mod Flats
 pub mod Groups
 pub mod Keyed
 pub mod Meetings
+pub mod KnownNames
 pub mod Paddings
 pub mod Scoped
 pub mod Sides

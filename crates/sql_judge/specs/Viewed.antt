@@ -28,6 +28,11 @@ abbrev pub viewed_part : Viewed → scope.Part
 viewed_part (L.Select s) = a_select (viewed_outer s) (viewed_select s)
 viewed_part (L.Combination c) = a_combination (combined_of c)
 
+-- the schema lacks none of the names in the statement; a combination has none of its own
+abbrev pub KnowsNames : Declarations → scope.Part → Type 0
+KnowsNames schema (a_select outer s) = ¬ HasUnknownName schema outer s
+KnowsNames schema (a_combination c) = Unit {0}
+
 -- and whether the schema lacks one of its names
 abbrev pub IsViewed : Declarations → Viewed → Type 0
 IsViewed schema (L.Select s) = IsWhole s × Decides s.unknown (HasUnknownName schema (viewed_outer s) (viewed_select s))

@@ -12,6 +12,8 @@ ghost use Rattle.sql_rules.specs.Types.{columns as columns_of};
 ghost use Rattle.sql_places.specs.Borrowed.{combined_of};
 ghost use Rattle.sql_judge.specs.First.{IsFirst, inner_rules};
 ghost use Rattle.sql_judge.specs.Viewed.{IsViewed, IsWhole, viewed_part, viewed_outer, viewed_select};
+ghost use Rattle.sql_judge.specs.declared.viewed.Names.TheVariants as name;
+ghost use Rattle.sql_rules.specs.declared.rule.Rule.TheVariants as R;
 
 use crate::grouping::{Counted, is_misgrouped};
 use crate::incompatible::is_incompatible;
@@ -24,7 +26,7 @@ use crate::relation::from_lacks_on;
 use crate::test::{ClauseTest, InNodes, any_clause};
 use crate::typing::IllTyped;
 use crate::unsupported::{combination_unsupported, select_unsupported};
-use crate::viewed::{Viewed, ViewedSelect, view_each};
+use crate::viewed::{Names, Viewed, ViewedSelect, view_each};
 use sql_dialect::Backend;
 use sql_node::Statement;
 use sql_places::{CombinationView, parts, places_are_counted};
@@ -264,7 +266,7 @@ fn broken_among<DB: Backend>(
     ensures { IfOk result (λ v. Selects
         (λ r. Broken r schema.now DB.speaks (statement_tree statement.now)) rules.now v.items) }
 {
-    let parts = view_each(alloc, schema, parts(alloc, statement)?)?;
+    let parts = view_each(alloc, schema, Names::Asked, parts(alloc, statement)?)?;
     let mut broken = Vec::new(alloc);
     for rule in rules {
         if breaks(alloc, *rule, backend, schema, statement, parts.as_slice())? {
@@ -310,7 +312,35 @@ fn first_among<DB: Backend>(
 }
 
 /// The first rule that the statement breaks, of all but the last. `TooManyBinds` is of the statement's values, which are not
-/// made here.
+/// made here. Names that are known to be the schema's are not looked up, so that all columns of a wide table take no time for each pair
+/// of them.
+pub fn first_broken_by<DB: Backend>(
+    alloc: Global,
+    names: Names,
+    backend: &DB,
+    schema: &Schema,
+    statement: &Statement,
+) -> Result<Option<Rule>, NoMemory>
+    requires { names ≡ name.Known
+        → ¬ Broken R.UnknownName schema.now DB.speaks (statement_tree statement.now) }
+    ensures first { IfOk result (λ o. IsFirst
+        (λ r. Broken r schema.now DB.speaks (statement_tree statement.now)) inner_rules o) }
+    ensures counted { IfOk result (λ o. PlacesAreCounted (statement_tree statement.now)) }
+{
+    let parts = parts(alloc, statement)?;
+    places_are_counted(parts.as_slice());
+    let viewed = view_each(alloc, schema, names, parts)?;
+    first_among(
+        alloc,
+        &RULES[..13],
+        backend,
+        schema,
+        statement,
+        viewed.as_slice(),
+    )
+}
+
+/// The same, with each name looked up.
 pub fn first_broken<DB: Backend>(
     alloc: Global,
     backend: &DB,
@@ -321,15 +351,5 @@ pub fn first_broken<DB: Backend>(
         (λ r. Broken r schema.now DB.speaks (statement_tree statement.now)) inner_rules o) }
     ensures counted { IfOk result (λ o. PlacesAreCounted (statement_tree statement.now)) }
 {
-    let parts = parts(alloc, statement)?;
-    places_are_counted(parts.as_slice());
-    let viewed = view_each(alloc, schema, parts)?;
-    first_among(
-        alloc,
-        &RULES[..13],
-        backend,
-        schema,
-        statement,
-        viewed.as_slice(),
-    )
+    first_broken_by(alloc, Names::Asked, backend, schema, statement)
 }

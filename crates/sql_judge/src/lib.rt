@@ -15,4 +15,5 @@ mod typing;
 mod unsupported;
 mod viewed;
 
-pub use judge::{broken, first_broken};
+pub use judge::{broken, first_broken, first_broken_by};
+pub use viewed::Names;

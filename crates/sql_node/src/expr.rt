@@ -14,7 +14,7 @@ use crate::membership::{
     walk_value, walk_values,
 };
 use sql_dialect::{ArrayComparison, Backend};
-use sql_leaf::AliasedField;
+use sql_leaf::{AliasedField, condition_close, condition_open};
 use sql_pass::{AstPass, PassError, QueryFragment, Value};
 use sql_schema::{Column, NoMemory, SqlList, SqlType};
 use std::alloc::Global;
@@ -299,20 +299,6 @@ pub(crate) fn walk_around<DB: Backend>(
     a.walk_ast(pass)?;
     pass.push_sql(after)?;
     Ok(())
-}
-
-/// The bracket before two conditions. Without brackets a condition that is added later would regroup them.
-fn condition_open() -> &'static str
-    ensures { result.now ≡ codes "(" }
-{
-    "("
-}
-
-/// The bracket after two conditions.
-fn condition_close() -> &'static str
-    ensures { result.now ≡ codes ")" }
-{
-    ")"
 }
 
 /// Pushes the expression before a text.

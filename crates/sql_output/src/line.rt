@@ -5,8 +5,11 @@ ghost use Rattle.sql_check.specs.Errors.{rule_of};
 ghost use Rattle.sql_document.specs.Trees.{request_tree};
 ghost use Rattle.sql_node.specs.View.{statement_tree};
 ghost use Rattle.sql_rows.specs.Entries.{IsNext};
+ghost use Rattle.sql_judge.specs.declared.viewed.Names.TheVariants as name;
+ghost use Rattle.sql_rules.specs.Rules.{Broken};
 ghost use Rattle.sql_rules.specs.Texts.{rule_text};
 ghost use Rattle.sql_rules.specs.declared.rule.Rule.{Rule};
+ghost use Rattle.sql_rules.specs.declared.rule.Rule.TheVariants.{UnknownName};
 ghost use Rattle.sql_output.specs.Judgement.{made};
 ghost use Rattle.sql_output.specs.Objects.{refused as refused_data, statement_data};
 ghost use Rattle.sql_output.specs.Output.{line_text, statement_request};
@@ -18,8 +21,9 @@ use sql_build::statement;
 use sql_check::{Built, CompileError, Rule};
 use sql_dialect::{Bracket, Dialect, Mysql, Pg, Sqlite};
 use sql_document::Request;
+use sql_known::built_statements_know_their_names;
 use sql_node::Statement;
-use sql_rows::{RequestKey, StatementCache, compile_sound};
+use sql_rows::{Names, RequestKey, StatementCache, compile_sound};
 use sql_schema::Schema;
 use std::alloc::{AllocError, Global};
 use std::collections::BTreeMap;
@@ -45,13 +49,16 @@ pub fn compile_for(
     }
 }
 
-/// `compile_cached` for a dialect that is known when the program runs.
+/// `compile_cached_by` for a dialect that is known when the program runs.
 pub fn compile_cached_for(
     alloc: Global,
     dialect: Dialect,
+    names: Names,
     cache: &mut StatementCache,
     statement: &Statement,
 ) -> Result<Built, CompileError>
+    requires { names ≡ name.Known
+        → ¬ Broken UnknownName cache.old.schema dialect (statement_tree statement.now) }
     ensures built { IfOk result (λ b.
         IsBuilt cache.old.schema dialect (statement_tree statement.now) b) }
     ensures read { IfOk result (λ b. IsRead dialect (statement_tree statement.now)
@@ -62,10 +69,10 @@ pub fn compile_cached_for(
     ensures entries { IsNext dialect (statement_tree statement.now) cache.old result cache.new }
 {
     match dialect {
-        Dialect::Pg => cache.compile_cached(alloc, &Pg, statement),
-        Dialect::Mysql => cache.compile_cached(alloc, &Mysql, statement),
-        Dialect::Sqlite => cache.compile_cached(alloc, &Sqlite, statement),
-        Dialect::Bracket => cache.compile_cached(alloc, &Bracket, statement),
+        Dialect::Pg => cache.compile_cached_by(alloc, names, &Pg, statement),
+        Dialect::Mysql => cache.compile_cached_by(alloc, names, &Mysql, statement),
+        Dialect::Sqlite => cache.compile_cached_by(alloc, names, &Sqlite, statement),
+        Dialect::Bracket => cache.compile_cached_by(alloc, names, &Bracket, statement),
     }
 }
 
@@ -122,15 +129,18 @@ pub fn statement_line(
     seen: &mut BTreeMap<RequestKey, u64>,
     number: u64,
     dialect: Dialect,
+    names: Names,
     statement: &Statement,
 ) -> Result<String, AllocError>
+    requires { names ≡ name.Known
+        → ¬ Broken UnknownName cache.old.schema dialect (statement_tree statement.now) }
     ensures line { IfOk result (λ text. HasLine cache.old.schema
         (record { dialect = dialect; statement = made (statement_tree statement.now) })
         number (seen_at seen.old) (seen_at seen.new)
         (λ l. string_bytes text ≡ line_text l)) }
     ensures schema { cache.new.schema ≡ cache.old.schema }
 {
-    match compile_cached_for(alloc, dialect, cache, statement) {
+    match compile_cached_for(alloc, dialect, names, cache, statement) {
         Ok(built) => accept(alloc, dialect, seen, number, built),
         Err(error) => refuse(alloc, error),
     }
@@ -153,7 +163,17 @@ pub fn request_line(
     match statement(alloc, cache.schema(), request.dialect, &request.query)? {
         None => refusal_line(alloc, Rule::UnknownName.name()),
         Some(statement) => {
-            statement_line(alloc, cache, seen, number, request.dialect, &statement)
+            built_statements_know_their_names();
+            let names = Names::Known;
+            statement_line(
+                alloc,
+                cache,
+                seen,
+                number,
+                request.dialect,
+                names,
+                &statement,
+            )
         }
     }
 }

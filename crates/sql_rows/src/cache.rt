@@ -3,7 +3,10 @@ ghost use Rattle.std.specs.NonZero.{non_zero_usize_get};
 ghost use Rattle.sql_schema.specs.Declarations.{Declarations};
 ghost use Rattle.sql_node.specs.View.{statement_tree};
 ghost use Rattle.sql_key.specs.Keys.{id_of};
+ghost use Rattle.sql_judge.specs.declared.viewed.Names.TheVariants as name;
+ghost use Rattle.sql_rules.specs.Rules.{Broken};
 ghost use Rattle.sql_rules.specs.declared.rule.Rule.{Rule};
+ghost use Rattle.sql_rules.specs.declared.rule.Rule.TheVariants as rule;
 ghost use Rattle.sql_check.specs.Compiled.{IsBuilt, IsLeast, IsRead};
 ghost use Rattle.sql_check.specs.Errors.{rule_of};
 ghost use Rattle.sql_check.specs.declared.error.CompileError.TheVariants as error;
@@ -11,9 +14,9 @@ ghost use Rattle.sql_meaning.specs.Fitting.{AnswersFit};
 ghost use Rattle.sql_rows.specs.Entries.{IsHit, IsLookedUp, IsNext, put};
 ghost use Rattle.sql_rows.specs.inside.Served.{Serves, Tells, kept_of};
 
-use crate::compile_sound;
+use crate::compile_sound_by;
 use lru::LruCache;
-use sql_check::{Built, CompileError, values_fit};
+use sql_check::{Built, CompileError, Names, values_fit};
 use sql_dialect::{Backend, Dialect};
 use sql_key::{QueryId, QueryKey};
 use sql_law::{accepted_are_read, names_one_leaf};
@@ -231,9 +234,12 @@ impl StatementCache {
     fn compile_alone<DB: Backend>(
         &self,
         alloc: Global,
+        names: Names,
         backend: &DB,
         statement: &Statement,
     ) -> Result<Built, CompileError>
+        requires { names ≡ name.Known
+            → ¬ Broken rule.UnknownName self.now.schema DB.speaks (statement_tree statement.now) }
         ensures built { IfOk result (λ b.
             IsBuilt self.now.schema DB.speaks (statement_tree statement.now) b) }
         ensures read { IfOk result (λ b.
@@ -243,7 +249,7 @@ impl StatementCache {
         ensures refused { IfErr result (λ e. (r : Rule) → rule_of e ≡ Some r
             → IsLeast r self.now.schema DB.speaks (statement_tree statement.now)) }
     {
-        compile_sound(alloc, backend, self.schema(), statement)
+        compile_sound_by(alloc, names, backend, self.schema(), statement)
     }
 
     /// The answer by what is kept with the first pair, which is the statement's.
@@ -272,10 +278,13 @@ impl StatementCache {
     fn answer_new<DB: Backend>(
         &mut self,
         alloc: Global,
+        names: Names,
         backend: &DB,
         statement: &Statement,
         pair: RequestKey,
     ) -> Result<Built, CompileError>
+        requires known { names ≡ name.Known
+            → ¬ Broken rule.UnknownName self.old.schema DB.speaks (statement_tree statement.now) }
         requires looked_up { IsLookedUp DB.speaks (statement_tree statement.now) pair }
         requires new { ¬ Contains self.old.keys pair }
         ensures built { IfOk result (λ b.
@@ -289,7 +298,7 @@ impl StatementCache {
         ensures put { OnOk result (self.new ≡ put self.old pair) }
         ensures unchanged { OnErr result (self.new ≡ self.old) }
     {
-        match self.compile_alone(alloc, backend, statement) {
+        match self.compile_alone(alloc, names, backend, statement) {
             Ok(built) => {
                 self.keep(alloc, pair, &built)?;
                 Ok(built)
@@ -298,10 +307,45 @@ impl StatementCache {
         }
     }
 
-    /// What `compile_sound` answers of the statement, whatever was asked before.
+    /// What `compile_sound_by` answers of the statement, whatever was asked before.
     ///
     /// Where the statement has an id and its values fit, what an earlier statement of that id was told serves for it: only the values
     /// are its own. `IsNext` says what becomes of the entries.
+    pub fn compile_cached_by<DB: Backend>(
+        &mut self,
+        alloc: Global,
+        names: Names,
+        backend: &DB,
+        statement: &Statement,
+    ) -> Result<Built, CompileError>
+        requires { names ≡ name.Known
+            → ¬ Broken rule.UnknownName self.old.schema DB.speaks (statement_tree statement.now) }
+        ensures built { IfOk result (λ b.
+            IsBuilt self.old.schema DB.speaks (statement_tree statement.now) b) }
+        ensures read { IfOk result (λ b.
+            IsRead DB.speaks (statement_tree statement.now) b.sql b.binds) }
+        ensures sound { IfOk result (λ b.
+            AnswersFit self.old.schema (statement_tree statement.now) b.sql_types) }
+        ensures refused { IfErr result (λ e. (r : Rule) → rule_of e ≡ Some r
+            → IsLeast r self.old.schema DB.speaks (statement_tree statement.now)) }
+        ensures schema { self.new.schema ≡ self.old.schema }
+        ensures entries { IsNext DB.speaks (statement_tree statement.now)
+            self.old result self.new }
+    {
+        match pair_of(alloc, backend, statement)? {
+            None => self.compile_alone(alloc, names, backend, statement),
+            Some(pair) => {
+                if self.look_up(&pair) {
+                    self.answer_kept(alloc, backend, statement, pair)
+                } else {
+                    self.answer_new(alloc, names, backend, statement, pair)
+                }
+            }
+        }
+    }
+
+    /// What `compile_sound` answers of the statement, whatever was asked before.
+    /// Each name is looked up.
     pub fn compile_cached<DB: Backend>(
         &mut self,
         alloc: Global,
@@ -320,15 +364,6 @@ impl StatementCache {
         ensures entries { IsNext DB.speaks (statement_tree statement.now)
             self.old result self.new }
     {
-        match pair_of(alloc, backend, statement)? {
-            None => self.compile_alone(alloc, backend, statement),
-            Some(pair) => {
-                if self.look_up(&pair) {
-                    self.answer_kept(alloc, backend, statement, pair)
-                } else {
-                    self.answer_new(alloc, backend, statement, pair)
-                }
-            }
-        }
+        self.compile_cached_by(alloc, Names::Asked, backend, statement)
     }
 }

@@ -9,7 +9,8 @@ mod sound;
 
 pub use cache::{RequestKey, StatementCache};
 pub use laws::{answered_pairs_stand_in_front, calls_are_answered_alone, one_answer};
-pub use sound::compile_sound;
+pub use sound::{compile_sound, compile_sound_by};
+pub use sql_check::Names;
 pub use sql_meaning::{
     first_is_any, last_writer_is_an_answer, left_join_has_two_answers, needs_nullable_is_needed,
     operators_work, the_example_is_accepted, types_are_sound,

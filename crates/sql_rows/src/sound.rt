@@ -2,19 +2,47 @@ ghost use Rattle.std.specs.Prelude.{◌≡◌, Some, IfOk, IfErr};
 ghost use Rattle.sql_node.specs.View.{statement_tree};
 ghost use Rattle.sql_check.specs.Compiled.{IsBuilt, IsLeast, IsRead};
 ghost use Rattle.sql_check.specs.Errors.{rule_of};
+ghost use Rattle.sql_judge.specs.declared.viewed.Names.TheVariants as name;
+ghost use Rattle.sql_rules.specs.Rules.{Broken};
 ghost use Rattle.sql_rules.specs.declared.rule.Rule.{Rule};
+ghost use Rattle.sql_rules.specs.declared.rule.Rule.TheVariants as rule;
 ghost use Rattle.sql_meaning.specs.Fitting.{AnswersFit};
 
-use sql_check::{Built, CompileError, compile};
+use sql_check::{Built, CompileError, Names, compile_by};
 use sql_dialect::Backend;
 use sql_meaning::types_are_sound;
 use sql_node::Statement;
 use sql_schema::Schema;
 use std::alloc::Global;
 
-/// What `compile` answers. And where the statement has no aggregate and no group, a column whose type is not nullable gives NULL
+/// What `compile_by` answers. And where the statement has no aggregate and no group, a column whose type is not nullable gives NULL
 /// over no database that conforms to the schema: `"users"."id"` of type Integer, `"posts"."title"` right of a left join only as
 /// `Text?` (`docs/MEANING.md`).
+///
+/// Statement and schema stay as they are. `NoMemory` may stand in place of any answer.
+pub fn compile_sound_by<DB: Backend>(
+    alloc: Global,
+    names: Names,
+    backend: &DB,
+    schema: &Schema,
+    statement: &Statement,
+) -> Result<Built, CompileError>
+    requires { names ≡ name.Known
+        → ¬ Broken rule.UnknownName schema.now DB.speaks (statement_tree statement.now) }
+    ensures built { IfOk result (λ b. IsBuilt schema.now DB.speaks (statement_tree statement.now)
+        b) }
+    ensures read { IfOk result (λ b. IsRead DB.speaks (statement_tree statement.now)
+        b.sql b.binds) }
+    ensures sound { IfOk result (λ b. AnswersFit schema.now (statement_tree statement.now)
+        b.sql_types) }
+    ensures refused { IfErr result (λ e. (r : Rule) → rule_of e ≡ Some r
+        → IsLeast r schema.now DB.speaks (statement_tree statement.now)) }
+{
+    types_are_sound();
+    compile_by(alloc, names, backend, schema, statement)
+}
+
+/// What `compile` answers, with column types that are right for NULL, as those of `compile_sound_by`.
 ///
 /// Statement and schema stay as they are. `NoMemory` may stand in place of any answer.
 pub fn compile_sound<DB: Backend>(
@@ -32,6 +60,5 @@ pub fn compile_sound<DB: Backend>(
     ensures refused { IfErr result (λ e. (r : Rule) → rule_of e ≡ Some r
         → IsLeast r schema.now DB.speaks (statement_tree statement.now)) }
 {
-    types_are_sound();
-    compile(alloc, backend, schema, statement)
+    compile_sound_by(alloc, Names::Asked, backend, schema, statement)
 }

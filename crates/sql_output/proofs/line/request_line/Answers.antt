@@ -4,6 +4,8 @@ use Rattle.std.proofs.lemmas.Result.{IfOk-weaker}
 use Rattle.serde_json.specs.Written.{compact_text}
 use Rattle.sql_schema.specs.Declarations.{Declarations}
 use Rattle.sql_node.specs.View.{statement_tree}
+use Rattle.sql_build.specs.Built.{statement_in}
+use Rattle.sql_syntax.specs.View.{query_tree}
 use Rattle.sql_rules.specs.Texts.{rule_text}
 use Rattle.sql_rules.specs.declared.rule.Rule.TheVariants.{UnknownName}
 use Rattle.sql_document.specs.Trees.{request_tree}
@@ -38,3 +40,13 @@ returns-in-Some-clause-line c =
     (λ o. IfOk c.statement_line.result (λ text. HasLine schema (record { dialect = r.dialect; statement = o }) c.args.number
     (seen_at c.args.seen.now) (seen_at c.statement_line.new.seen) (λ l. string_bytes text ≡ line_text l)))
     some c.statement_line.ensures.line
+
+-- the statement is the query's, so its names are the schema's
+pub statement_line-requires : goal.statement_line-requires
+statement_line-requires c = λ known.
+    let d = c.args.request.now.dialect in
+    let q = query_tree c.args.request.now.query in
+    let is =
+    ap (option_map statement_tree) (sym c.in-Some.is) ∙ c.in_ok-statement.ensures
+    ∙ ap (λ (w : Declarations). statement_in w d q) c.schema.ensures in
+    c.built_statements_know_their_names.ensures c.args.cache.now.schema d d q (statement_tree c.in-Some.statement) (sym is)

@@ -9,6 +9,6 @@ use Rattle.sql_rows.proofs.cache.StatementCache.compile_alone.Goals as goal
 pub returns-clause-refused : goal.returns-clause-refused
 returns-clause-refused g c =
     subst
-    (λ (w : Declarations). IfErr c.compile_sound.result (λ e. (r : Rule) → rule_of e ≡ Some r
+    (λ (w : Declarations). IfErr c.compile_sound_by.result (λ e. (r : Rule) → rule_of e ≡ Some r
     → IsLeast r w g.DB.Backend.speaks (statement_tree c.args.statement.now)))
-    c.schema.ensures c.compile_sound.ensures.refused
+    c.schema.ensures c.compile_sound_by.ensures.refused

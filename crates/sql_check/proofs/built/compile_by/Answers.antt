@@ -5,7 +5,7 @@ use Rattle.sql_rules.specs.Rules.{Broken}
 use Rattle.sql_judge.specs.First.{IsFirst, inner_rules}
 use Rattle.sql_check.specs.Compiled.{IsLeast}
 use Rattle.sql_check.proofs.Chosen.{first_least, last_least}
-use Rattle.sql_check.proofs.built.compile.Goals as goal
+use Rattle.sql_check.proofs.built.compile_by.Goals as goal
 
 pub returns-in-Some-clause-refused : goal.returns-in-Some-clause-refused
 returns-in-Some-clause-refused g c = λ r is.
