@@ -5,23 +5,9 @@
 top=$(cd "$(dirname "$0")/.." && pwd) || exit 1
 work=$(mktemp -d) || exit 1
 trap 'rm -r "$work"' EXIT
-passed=0
-failed=0
+. "$top/tests/checks.sh"
 library=${LIBRARY:-$top/crates/hardieflax_c/out/libhardieflax_c.a}
 heap=$(dirname "$(rt doc)")/c/liblibc_c.a
-
-# check NAME COMMAND..: counts whether the command succeeds
-check() {
-    name=$1
-    shift
-    if "$@"; then
-        passed=$((passed + 1))
-    else
-        failed=$((failed + 1))
-        echo "FAILED $name"
-        return 1
-    fi
-}
 
 # prints FILE COMMAND..: the command succeeds and prints the file
 prints() {

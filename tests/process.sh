@@ -4,20 +4,7 @@
 top=$(cd "$(dirname "$0")/.." && pwd) || exit 1
 work=$(mktemp -d) || exit 1
 trap 'rm -r "$work"' EXIT
-passed=0
-failed=0
-
-# check NAME COMMAND..: counts whether the command succeeds
-check() {
-    name=$1
-    shift
-    if "$@"; then
-        passed=$((passed + 1))
-    else
-        failed=$((failed + 1))
-        echo "FAILED $name"
-    fi
-}
+. "$top/tests/checks.sh"
 
 # ended STATUS WORD: the last run ended with this status, and said this word first on standard error
 ended() {

@@ -82,8 +82,8 @@ uint32_t hardieflax_open(hardieflax *handle, const uint8_t *document, size_t len
 /*
  * Answers more requests over the session's schema: a document that declares no table, as {"schema":{"tables":[]},"requests":[..]}. The
  * lines are those that the output of one document would have which has the requests of all the session's calls, in order: an id is the
- * number, from 1, of the session's first request of the same dialect and shape. Input that is no such document leaves the session as it
- * was. Where memory runs out the session is gone: open it again.
+ * number, from 1, of the session's first accepted request of the same dialect and shape. Input that is no such document leaves the session
+ * as it was. Where memory runs out the session may be gone: open it again.
  */
 uint32_t hardieflax_next(hardieflax *handle, const uint8_t *document, size_t length);
 
