@@ -298,6 +298,20 @@ pub(crate) fn part_over_few(
         FlatKind::Combination(both) => combination_part(alloc, *both, one, two, three),
         FlatKind::Side => Ok(side_part(one)),
         FlatKind::Position(item) => Ok(Part::Position(*item)),
-        _ => part_over_one(alloc, kind, one),
+        FlatKind::List
+        | FlatKind::Nullable
+        | FlatKind::Not
+        | FlatKind::NullTest(_)
+        | FlatKind::Count
+        | FlatKind::Values(_)
+        | FlatKind::On
+        | FlatKind::DistinctOn
+        | FlatKind::Where
+        | FlatKind::GroupBy
+        | FlatKind::Having
+        | FlatKind::OrderBy
+        | FlatKind::Item(_)
+        | FlatKind::Select(_)
+        | FlatKind::Positions => part_over_one(alloc, kind, one),
     }
 }

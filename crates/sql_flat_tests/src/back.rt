@@ -1,10 +1,10 @@
-//! Statements that come back from their flat lists: each kind of node once.
+//! Statements that come back from their flat lists.
 
 use sql_call_tests::fixture::{id, ids, one};
 use sql_dialect::Pg;
 use sql_expr::{
     Alias, CombinationClause, Expr, ExpressionMethods, InValues, JoinKind, SelectStatement, Source,
-    Statement, TableSource, count, count_star, exists, not,
+    Statement, TableSource, exists,
 };
 use sql_fixture::{INTEGER, beside, column, gives, table, text};
 use sql_flat::flatten;
@@ -35,94 +35,6 @@ fn is_selected(
 ) -> Result<(), Fail> {
     let (users, expr) = beside(ids(alloc)?, made)?;
     comes_back(alloc, users.select(expr).into_statement(), wanted)
-}
-
-fn operands(alloc: Global) -> Result<(Expr, Expr), Fail> {
-    beside(id(alloc)?, one(alloc))
-}
-
-#[test]
-fn comparisons(rt: HostRuntime) -> Result<(), Fail> {
-    let alloc = rt.alloc();
-    let (a, b) = operands(alloc)?;
-    is_selected(
-        alloc,
-        a.eq(alloc, b),
-        r#"SELECT ("users"."id" = $1) FROM "users""#,
-    )?;
-    let (a, b) = operands(alloc)?;
-    is_selected(
-        alloc,
-        a.ne(alloc, b),
-        r#"SELECT ("users"."id" != $1) FROM "users""#,
-    )?;
-    let (a, b) = operands(alloc)?;
-    is_selected(
-        alloc,
-        a.gt(alloc, b),
-        r#"SELECT ("users"."id" > $1) FROM "users""#,
-    )?;
-    let (a, b) = operands(alloc)?;
-    is_selected(
-        alloc,
-        a.ge(alloc, b),
-        r#"SELECT ("users"."id" >= $1) FROM "users""#,
-    )?;
-    let (a, b) = operands(alloc)?;
-    is_selected(
-        alloc,
-        a.lt(alloc, b),
-        r#"SELECT ("users"."id" < $1) FROM "users""#,
-    )?;
-    let (a, b) = operands(alloc)?;
-    is_selected(
-        alloc,
-        a.le(alloc, b),
-        r#"SELECT ("users"."id" <= $1) FROM "users""#,
-    )?;
-    let (a, b) = operands(alloc)?;
-    is_selected(
-        alloc,
-        a.and(alloc, b),
-        r#"SELECT ("users"."id" AND $1) FROM "users""#,
-    )?;
-    let (a, b) = operands(alloc)?;
-    is_selected(
-        alloc,
-        a.or(alloc, b),
-        r#"SELECT ("users"."id" OR $1) FROM "users""#,
-    )
-}
-
-#[test]
-fn expressions_over_one(rt: HostRuntime) -> Result<(), Fail> {
-    let alloc = rt.alloc();
-    is_selected(
-        alloc,
-        id(alloc)?.nullable(alloc),
-        r#"SELECT "users"."id" FROM "users""#,
-    )?;
-    is_selected(
-        alloc,
-        id(alloc)?.is_null(alloc),
-        r#"SELECT ("users"."id" IS NULL) FROM "users""#,
-    )?;
-    is_selected(
-        alloc,
-        id(alloc)?.is_not_null(alloc),
-        r#"SELECT ("users"."id" IS NOT NULL) FROM "users""#,
-    )?;
-    is_selected(
-        alloc,
-        not(alloc, id(alloc)?),
-        r#"SELECT NOT ("users"."id") FROM "users""#,
-    )?;
-    is_selected(
-        alloc,
-        count(alloc, id(alloc)?),
-        r#"SELECT COUNT("users"."id") FROM "users""#,
-    )?;
-    is_selected(alloc, Ok(count_star()), r#"SELECT COUNT(*) FROM "users""#)
 }
 
 /// `SELECT "users"."id" FROM "users"`.
