@@ -182,6 +182,12 @@ def default_selection(count):
     return one({"from": {"table": "wide"}}, [wide("wide", count)])
 
 
+def default_selections(count):
+    """The same twice, so that two keys of as many columns are compared."""
+    schema, requests_of_it = default_selection(count)
+    return schema, requests_of_it * 2
+
+
 def relations(count):
     """Tables that are related to one, and joined to it in a request each."""
     children = [f"t{number}" for number in range(count)]
@@ -242,7 +248,8 @@ DIRECTIONS = {
     "compared": (compared, None),
     "tables": (tables, None),
     "columns": (columns, None),
-    "default_selection": (default_selection, MYSQL_COLUMNS),
+    "default_selection": (default_selection, None),
+    "default_selections": (default_selections, MYSQL_COLUMNS),
     "relations": (relations, None),
     "grouped": (grouped, MAX_COLUMNS),
     "distinct_ordered": (distinct_ordered, MAX_COLUMNS),

@@ -7,6 +7,3 @@ mod requests;
 mod summary;
 
 pub use requests::{generate, one_summary};
-
-#[cfg(test)]
-mod tests;

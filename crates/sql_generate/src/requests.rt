@@ -15,11 +15,15 @@ use crate::summary::summary_line;
 use sql_check::{Built, CompileError};
 use sql_dialect::Dialect;
 use sql_key::QueryKey;
-use sql_output::{RequestKey, compile_for, request_id};
+use sql_output::{Names, RequestKey, StatementCache, compile_cached_for, request_id};
 use sql_schema::NoMemory;
-use sql_series::{Named, dialect_of, form_of};
+use sql_series::{Named, dialect_of, form_of, series_schema};
 use std::alloc::{AllocError, Global};
 use std::collections::BTreeMap;
+use std::num::NonZeroUsize;
+
+/// How many answers are kept: one for each form and dialect.
+const ENTRIES: usize = 24;
 
 /// Whether a request's id is its own number, so that it is the first with this id.
 fn is_own(number: u64, id: Option<u64>) -> bool
@@ -74,32 +78,38 @@ fn refuse(alloc: Global, counts: &mut Counts, error: CompileError) -> Result<(),
 fn count(
     alloc: Global,
     named: &Named,
+    cache: &mut StatementCache,
     seen: &mut BTreeMap<RequestKey, u64>,
     counts: &mut Counts,
     number: u32,
 ) -> Result<(), AllocError>
-    requires { AreNamed named.now }
-    ensures { OnOk result (HasLine declarations (request number) (number + 1)
+    requires named { AreNamed named.now }
+    requires schema { cache.now.schema ≡ declarations }
+    ensures line { OnOk result (HasLine declarations (request number) (number + 1)
         (seen_at seen.old) (seen_at seen.new) (TellMore (number + 1) counts.old counts.new)) }
+    ensures schema { cache.new.schema ≡ cache.old.schema }
 {
     let dialect = dialect_of(number);
     let statement = named.statement(alloc, form_of(number), dialect, number)?;
-    match compile_for(alloc, dialect, &named.schema, &statement) {
+    match compile_cached_for(alloc, dialect, Names::Asked, cache, &statement) {
         Ok(built) => accept(dialect, seen, counts, u64::from(number) + 1, built),
         Err(error) => refuse(alloc, counts, error),
     }
 }
 
 /// The line that sums up what becomes of the first generated requests, so many, with a newline:
-/// `{"accepted":19,"binds":13,"bytes":1853,"ids":13,"refused":{"NeedsNullable":3,"Unsupported":2},"requests":24}`.
+/// `{"accepted":19,"binds":13,"bytes":1853,"ids":13,"refused":{"NeedsNullable":3,"Unsupported":2},"requests":24}`. They are compiled through
+/// a cache, as those of a document are.
 pub fn generate(alloc: Global, requests: u32) -> Result<String, NoMemory>
     ensures { IfOk result (λ text. IsSummary requests (string_bytes text)) }
 {
     let named = Named::new(alloc)?;
+    let capacity = NonZeroUsize::new(ENTRIES).unwrap();
+    let mut cache = StatementCache::new(alloc, series_schema(alloc)?, capacity)?;
     let mut seen: BTreeMap<RequestKey, u64> = BTreeMap::new(alloc);
     let mut counts = Counts::new(alloc);
     for number in 0..requests {
-        count(alloc, &named, &mut seen, &mut counts, number)?;
+        count(alloc, &named, &mut cache, &mut seen, &mut counts, number)?;
     }
     summary_line(alloc, &counts)
 }

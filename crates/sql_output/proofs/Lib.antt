@@ -6,3 +6,4 @@ pub mod Keys
 pub mod Lines
 pub mod Once
 pub mod Sending
+pub mod Widths

@@ -6,4 +6,5 @@ mod schema;
 mod statements;
 
 pub use form::{Form, dialect_of, form_of};
+pub use schema::series_schema;
 pub use statements::Named;

@@ -157,7 +157,7 @@ fn declared(alloc: Global) -> Result<SchemaBuilder, NoMemory>
 }
 
 /// The schema that requests are generated over. No refusal holds of it, so it can fail for memory alone.
-pub(crate) fn schema(alloc: Global) -> Result<Schema, NoMemory>
+pub fn series_schema(alloc: Global) -> Result<Schema, NoMemory>
     ensures { IfOk result (λ s. s ≡ given.declarations) }
 {
     match declared(alloc)?.build() {

@@ -12,7 +12,7 @@ ghost use Rattle.sql_series.specs.Generated as asked;
 ghost use Rattle.sql_series.specs.inside.LookedUp.{AreNamed};
 
 use crate::form::Form;
-use crate::schema::schema;
+use crate::schema::series_schema;
 use sql_dialect::{Bracket, Dialect, Mysql, Pg, Sqlite};
 use sql_expr::{
     BoxedSelectStatement, Expr, ExpressionMethods, InValues, JoinKind, JoinRhs, SelectStatement,
@@ -320,7 +320,7 @@ impl Named {
     pub fn new(alloc: Global) -> Result<Named, NoMemory>
         ensures { IfOk result AreNamed }
     {
-        let schema = schema(alloc)?;
+        let schema = series_schema(alloc)?;
         let users = table(alloc, &schema, "users")?;
         let id = column(alloc, &users, "id")?;
         let name = column(alloc, &users, "name")?;

@@ -30,8 +30,8 @@ both_ok : {T E : Type 0} {P Q R : Type 0} (r : Result T E) → (P → Q → R) �
 both_ok (Ok t) f p q = f p q
 both_ok (Err e) f p q = p
 
-pub returns-in-Ok : goal.returns-in-Ok
-returns-in-Ok c =
+pub returns-in-Ok-clause-line : goal.returns-in-Ok-clause-line
+returns-in-Ok-clause-line c =
     let i = c.args.number in
     let at : c.from.result ≡ i = c.from.ensures in
     let n = c.from.result + 1 in
@@ -39,7 +39,7 @@ returns-in-Ok c =
     let s = statement_tree c.in_ok-statement.statement in
     let f = seen_at c.args.seen.now in
     let g = seen_at c.accept.new.seen in
-    let schema = c.args.named.now.schema in
+    let schema = c.args.cache.now.schema in
     let same = is-request i d c.form_of.result s c.dialect_of-dialect.ensures c.form_of.ensures c.in_ok-statement.ensures in
     both_ok c.accept.result (λ counted kept.
     subst (λ m. HasLine declarations (request i) (m + 1) f g (TellMore (m + 1) c.args.counts.now c.accept.new.counts)) at
@@ -49,14 +49,14 @@ returns-in-Ok c =
     c.in-Ok.ensures.built c.in-Ok.ensures.read counted kept))))
     c.accept.ensures.counted c.accept.ensures.kept
 
-pub returns : goal.returns
-returns c =
+pub returns-clause-line : goal.returns-clause-line
+returns-clause-line c =
     let i = c.args.number in
     let n = i + 1 in
     let d = c.dialect_of-dialect.result in
     let s = statement_tree c.in_ok-statement.statement in
     let f = seen_at c.args.seen.now in
-    let schema = c.args.named.now.schema in
+    let schema = c.args.cache.now.schema in
     let same = is-request i d c.form_of.result s c.dialect_of-dialect.ensures c.form_of.ensures c.in_ok-statement.ensures in
     on_ok_weaker c.refuse.result (λ h. let (rule, is, told) = h in
     subst (λ r. HasLine declarations r n f f (TellMore n c.args.counts.now c.refuse.new.counts)) same

@@ -1,7 +1,8 @@
-use Rattle.std.proofs.Common.{◌≡◌, ◌+◌, ◌∷◌, ◌++◌, [], sym, subst, arith, rules}
+use Rattle.std.proofs.Common.{◌≡◌, ◌∙◌, ◌+◌, ◌∷◌, ◌++◌, [], sym, subst, ap, arith, rules}
 use Rattle.std.proofs.lemmas.Result.{IfOk-weaker}
 use Rattle.sql_output.proofs.Lines.{line-found, line-kept, lines-more}
 use Rattle.sql_output.specs.Output.{AreLines}
+use Rattle.sql_rows.specs.Entries.{Entries}
 use Rattle.sql_output.specs.inside.Keys.{line_found, seen_at}
 use Rattle.sql_generate.proofs.Summaries.{generated-more, next-number}
 use Rattle.sql_series.specs.Generated.{dialect_of}
@@ -10,7 +11,7 @@ use Rattle.sql_series.specs.Schema.{declarations}
 use Rattle.sql_generate.proofs.requests.generate.Goals as goal
 
 pub loop-number-init : goal.loop-number-init
-loop-number-init c = ([], tt, c.new-counts.ensures, λ q. search rules)
+loop-number-init c = ([], tt, c.new-counts.ensures, (λ q. search rules), ap (λ (e : Entries). e.schema) c.in_ok-cache.ensures ∙ c.in_ok-series_schema.ensures)
 
 pub loop-number-preserved : goal.loop-number-preserved
 loop-number-preserved c =
@@ -18,8 +19,8 @@ loop-number-preserved c =
     let i = l.number in
     let f = seen_at l.seen in
     let h = seen_at c.count.new.seen in
-    let (ls, lines, told, tells) = l.invariant in
-    let (j, judged, more, kept) = c.in_ok-count.ensures in
+    let (ls, lines, told, tells, schema) = l.invariant in
+    let (j, judged, more, kept) = c.in_ok-count.ensures.line in
     let at = next-number i ls lines in
     let one = line_found f (i + 1) (dialect_of i) j in
     let grown =
@@ -29,12 +30,13 @@ loop-number-preserved c =
       subst (λ rs. AreLines declarations [] rs (ls ++ one ∷ [])) (sym (generated-more i)) grown,
       more ls at told,
       line-kept declarations f h ls (i + 1) at tells (dialect_of i) j kept,
+      c.in_ok-count.ensures.schema ∙ schema,
     )
 
 pub returns : goal.returns
 returns c =
     let l = c.loop-number in
-    let (ls, lines, told, tells) = l.invariant in
+    let (ls, lines, told, tells, schema) = l.invariant in
     let done : l.number ≡ c.args.requests = omega arith in
     IfOk-weaker c.summary_line.result _ _
     (λ text h. (ls, subst (λ n. AreLines declarations [] (generated n) ls) done lines, h ls told))
