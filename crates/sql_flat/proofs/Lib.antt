@@ -1,0 +1,5 @@
+pub mod Among
+pub mod ClauseNodes
+pub mod Lists
+pub mod Unflattening
+pub mod Stacking

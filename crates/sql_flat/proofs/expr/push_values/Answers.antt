@@ -1,0 +1,5 @@
+use Rattle.sql_rose.proofs.Adding.{adds-node}
+use Rattle.sql_flat.proofs.expr.push_values.Goals as goal
+
+pub returns : goal.returns
+returns c = adds-node c.in_ok-at.ensures c.in_ok-push_elements.ensures c.close.ensures

@@ -1,0 +1,3 @@
+-- A statement as a flat list.
+pub mod Flat
+pub mod inside

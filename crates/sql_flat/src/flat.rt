@@ -1,0 +1,67 @@
+ghost use Rattle.std.specs.Prelude.{◌≡◌, IfOk};
+ghost use Rattle.sql_node.specs.Tree as t;
+ghost use Rattle.sql_node.specs.View.{statement_tree};
+ghost use Rattle.sql_flat.specs.Flat.{flat_of};
+
+use crate::FlatNode;
+use crate::reading::read_statement;
+use crate::statement::push_statement;
+use sql_node::Statement;
+use sql_schema::NoMemory;
+use std::alloc::Global;
+use std::marker::Model;
+
+/// The flat list of a statement: its nodes, each before its children, with all their values. Only `flatten` makes one, so it always
+/// is the list of a statement.
+#[derive(Debug, Drop)]
+pub struct Flat {
+    nodes: Vec<FlatNode>,
+}
+
+impl Model for Flat {
+    ghost use Rattle.std.specs.Prelude.{◌≡◌, List};
+    ghost use Rattle.sql_node.specs.Tree.{Statement};
+    ghost use Rattle.sql_flat.specs.Flat.{flat_of};
+    ghost use Rattle.sql_flat.specs.declared.kind.FlatNode.{FlatNode};
+
+    ghost Value = { List FlatNode };
+
+    ghost view = { λ f. f.nodes.items };
+
+    ghost invariant = { λ f. (s : Statement) × (f.nodes.items ≡ flat_of s) };
+}
+
+/// The flat list of the statement: its nodes in the order in which they are written, each before its children and with the index after
+/// its last descendant. `SELECT "users"."id" FROM "users" WHERE ("users"."id" = $1)` has the nodes Select, Column, From, Table, Where,
+/// Compared, Column, Value with the ends 8, 2, 4, 4, 8, 8, 7, 8. Fails only for memory.
+#[tactic(auto, using(sql_rose::proofs::Adding::alone))]
+pub fn flatten(alloc: Global, statement: &Statement) -> Result<Flat, NoMemory>
+    ensures { IfOk result (λ f. f ≡ flat_of (statement_tree statement.now)) }
+{
+    let mut nodes = Vec::new(alloc);
+    push_statement(alloc, statement, &mut nodes)?;
+    Ok(Flat { nodes })
+}
+
+impl Flat {
+    /// Its nodes, borrowed. The first child of a node is the next node, where the node's end is greater than that index, and the next
+    /// sibling of a node is at its end.
+    pub fn nodes(&self) -> &[FlatNode]
+        ensures nodes { result.now ≡ self.now }
+        // Every flat list is that of a statement.
+        ensures statement { (s : t.Statement) × (self.now ≡ flat_of s) }
+    {
+        self.nodes.as_slice()
+    }
+
+    /// The statement whose flat list it is, built anew: of the list above `SELECT "users"."id" FROM "users" WHERE ("users"."id" = $1)`.
+    /// Fails only for memory.
+    pub fn unflatten(&self, alloc: Global) -> Result<Statement, NoMemory>
+        ensures { IfOk result (λ s. flat_of (statement_tree s) ≡ self.now) }
+    {
+        match read_statement(alloc, self.nodes())? {
+            Some(statement) => Ok(Box::into_inner(statement)),
+            None => unreachable!(),
+        }
+    }
+}
