@@ -1,5 +1,5 @@
 /// How a statement combines the rows of its two sides.
-#[derive(Debug, Clone, Copy, PartialEq, Eq)]
+#[derive(Debug, Clone, Copy, PartialEq, Eq, PartialOrd, Ord, Hash)]
 pub enum Combinator {
     /// The rows of either side: `UNION`.
     Union,
@@ -10,7 +10,7 @@ pub enum Combinator {
 }
 
 /// What a combination makes of equal rows.
-#[derive(Debug, Clone, Copy, PartialEq, Eq)]
+#[derive(Debug, Clone, Copy, PartialEq, Eq, PartialOrd, Ord, Hash)]
 pub enum DuplicateRule {
     /// Keeps one of them, as `UNION` alone does.
     Distinct,

@@ -2,4 +2,3 @@ pub mod Among
 pub mod ClauseNodes
 pub mod Lists
 pub mod Unflattening
-pub mod Stacking

@@ -14,7 +14,7 @@ use Rattle.sql_flat.specs.declared.kind.FlatKind.TheVariants as K
 use Rattle.sql_flat.specs.declared.kind.FlatNode.{FlatNode}
 use Rattle.sql_flat.specs.Flat.{flat_node, flat_of, comparison_of, logic_of, form_of, uniqueness, expr_rose, exprs_roses, items_roses, maybe_roses, source_rose, from_roses, distinct_roses, order_roses, positions_roses, rose, selecting_of}
 use Rattle.sql_flat.specs.inside.Parts.{Part, expr_part, source_part, statement_part, order_part, Clauses, no_clauses, comparison_in, logic_in, form_in, exprs_in, items_in, values_in, positions_in, first, on_of, positions_of, statement_of, put_clauses, over_clauses, over}
-use Rattle.sql_flat.specs.inside.Stacks.{kind_of, end_of, read_from, root_of}
+use Rattle.sql_flat.specs.inside.Reading.{kind_of, end_of, read_from, root_of}
 
 -- what a tree of nodes stands for, and each of some
 abbrev read : Rose FlatKind → Part

@@ -2,4 +2,4 @@
 pub mod Among
 pub mod Items
 pub mod Parts
-pub mod Stacks
+pub mod Reading

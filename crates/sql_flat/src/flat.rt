@@ -4,7 +4,6 @@ ghost use Rattle.sql_node.specs.View.{statement_tree};
 ghost use Rattle.sql_flat.specs.Flat.{flat_of};
 
 use crate::FlatNode;
-use crate::reading::read_statement;
 use crate::statement::push_statement;
 use sql_node::Statement;
 use sql_schema::NoMemory;
@@ -52,16 +51,5 @@ impl Flat {
         ensures statement { (s : t.Statement) × (self.now ≡ flat_of s) }
     {
         self.nodes.as_slice()
-    }
-
-    /// The statement whose flat list it is, built anew: of the list above `SELECT "users"."id" FROM "users" WHERE ("users"."id" = $1)`.
-    /// Fails only for memory.
-    pub fn unflatten(&self, alloc: Global) -> Result<Statement, NoMemory>
-        ensures { IfOk result (λ s. flat_of (statement_tree s) ≡ self.now) }
-    {
-        match read_statement(alloc, self.nodes())? {
-            Some(statement) => Ok(Box::into_inner(statement)),
-            None => unreachable!(),
-        }
     }
 }

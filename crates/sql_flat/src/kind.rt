@@ -7,7 +7,7 @@ use sql_pass::Value;
 use sql_schema::{Column, SqlText, SqlType};
 
 /// How two expressions are compared.
-#[derive(Debug, Clone, Copy, PartialEq, Eq)]
+#[derive(Debug, Clone, Copy, PartialEq, Eq, PartialOrd, Ord, Hash)]
 pub enum Comparison {
     Eq,
     Ne,
@@ -18,21 +18,21 @@ pub enum Comparison {
 }
 
 /// How two conditions are joined.
-#[derive(Debug, Clone, Copy, PartialEq, Eq)]
+#[derive(Debug, Clone, Copy, PartialEq, Eq, PartialOrd, Ord, Hash)]
 pub enum Logic {
     And,
     Or,
 }
 
 /// A select statement's lock, or the dialect that it is boxed for and whether all its columns are nullable.
-#[derive(Debug, Clone, Copy, PartialEq, Eq)]
+#[derive(Debug, Clone, Copy, PartialEq, Eq, PartialOrd, Ord, Hash)]
 pub enum Form {
     Unboxed(LockingClause),
     Boxed(Dialect, bool),
 }
 
 /// Which of equal rows a select statement gives.
-#[derive(Debug, Clone, Copy, PartialEq, Eq)]
+#[derive(Debug, Clone, Copy, PartialEq, Eq, PartialOrd, Ord, Hash)]
 pub enum Uniqueness {
     Every,
     Distinct,
@@ -40,7 +40,7 @@ pub enum Uniqueness {
 }
 
 /// What a select statement has beside its clauses.
-#[derive(Debug, Clone, Copy, PartialEq, Eq)]
+#[derive(Debug, Clone, Copy, PartialEq, Eq, PartialOrd, Ord, Hash)]
 pub struct Selecting {
     /// Whether the selection is the default one.
     pub default: bool,
@@ -51,7 +51,7 @@ pub struct Selecting {
 }
 
 /// What a combination has beside its sides and its order.
-#[derive(Debug, Clone, Copy, PartialEq, Eq)]
+#[derive(Debug, Clone, Copy, PartialEq, Eq, PartialOrd, Ord, Hash)]
 pub struct Combining {
     pub combinator: Combinator,
     pub duplicates: DuplicateRule,
@@ -59,7 +59,7 @@ pub struct Combining {
 }
 
 /// A node of a statement without its children, which follow it in the order in which they are written.
-#[derive(Debug)]
+#[derive(Debug, PartialEq, Eq, PartialOrd, Ord, Hash)]
 pub enum FlatKind {
     /// `"users"."id"`, or of the alias `"u2"."id"`.
     Column(Option<SqlText>, Column),
@@ -151,7 +151,7 @@ impl Drop for FlatKind {
 }
 
 /// A node in a flat list, with the index after its last descendant.
-#[derive(Debug, Drop)]
+#[derive(Debug, Drop, PartialEq, Eq, PartialOrd, Ord, Hash)]
 pub struct FlatNode {
     pub kind: FlatKind,
     pub end: usize,

@@ -1,18 +1,13 @@
-//! Statements as flat lists of nodes.
+//! Statements as flat lists of nodes; `sql_unflat` reads them back.
 #![tactic(auto)]
 
 mod building;
 mod clause;
-mod clauses;
 mod expr;
 mod flat;
 mod kind;
 mod laws;
-mod over;
-mod part;
-mod reading;
 mod source;
-mod stack;
 mod statement;
 
 pub use flat::{Flat, flatten};

@@ -9,7 +9,7 @@ use sql_schema::{Column, NoMemory, SqlText, Table};
 use std::alloc::Global;
 
 /// A table under a name of its own: `"users" AS "u2"`.
-#[derive(Debug, Drop)]
+#[derive(Debug, Drop, PartialEq, Eq, PartialOrd, Ord, Hash)]
 pub struct Alias {
     pub name: SqlText,
     pub table: Table,

@@ -14,7 +14,7 @@ use sql_schema::NoMemory;
 use std::alloc::Global;
 
 /// How many rows are given, and how many are left out before them.
-#[derive(Debug, Clone, Copy, PartialEq, Eq)]
+#[derive(Debug, Clone, Copy, PartialEq, Eq, PartialOrd, Ord, Hash)]
 pub struct LimitOffsetClause {
     pub limit_clause: Option<i64>,
     pub offset_clause: Option<i64>,

@@ -12,7 +12,7 @@ use sql_schema::NoMemory;
 use std::alloc::Global;
 
 /// How strongly the rows are locked.
-#[derive(Debug, Clone, Copy, PartialEq, Eq)]
+#[derive(Debug, Clone, Copy, PartialEq, Eq, PartialOrd, Ord, Hash)]
 pub enum LockMode {
     ForUpdate,
     ForNoKeyUpdate,
@@ -21,7 +21,7 @@ pub enum LockMode {
 }
 
 /// What is done where a row is locked already.
-#[derive(Debug, Clone, Copy, PartialEq, Eq)]
+#[derive(Debug, Clone, Copy, PartialEq, Eq, PartialOrd, Ord, Hash)]
 pub enum Modifier {
     NoModifier,
     SkipLocked,
@@ -29,7 +29,7 @@ pub enum Modifier {
 }
 
 /// The lock that a statement takes on its rows: ` FOR UPDATE SKIP LOCKED`.
-#[derive(Debug, Clone, Copy, PartialEq, Eq)]
+#[derive(Debug, Clone, Copy, PartialEq, Eq, PartialOrd, Ord, Hash)]
 pub enum LockingClause {
     NoLockingClause,
     LockingClause(LockMode, Modifier),

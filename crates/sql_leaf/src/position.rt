@@ -11,7 +11,7 @@ use sql_schema::NoMemory;
 use std::alloc::Global;
 
 /// Whether an order rises or falls. Without one it rises.
-#[derive(Debug, Clone, Copy, PartialEq, Eq)]
+#[derive(Debug, Clone, Copy, PartialEq, Eq, PartialOrd, Ord, Hash)]
 pub enum Direction {
     None,
     Asc,
@@ -19,7 +19,7 @@ pub enum Direction {
 }
 
 /// A column of the answer by its position, counted from 1. Whether there is such a column is not checked.
-#[derive(Debug, Clone, Copy, PartialEq, Eq)]
+#[derive(Debug, Clone, Copy, PartialEq, Eq, PartialOrd, Ord, Hash)]
 pub struct OrderColumn(pub u32);
 
 impl From<u32> for OrderColumn {
@@ -31,7 +31,7 @@ impl From<u32> for OrderColumn {
 }
 
 /// An item of a combination's order: `1 DESC`.
-#[derive(Debug, Clone, Copy, PartialEq, Eq)]
+#[derive(Debug, Clone, Copy, PartialEq, Eq, PartialOrd, Ord, Hash)]
 pub struct PositionalItem {
     pub column: OrderColumn,
     pub direction: Direction,

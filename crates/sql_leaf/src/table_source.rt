@@ -13,14 +13,14 @@ use sql_schema::{NoMemory, Table};
 use std::alloc::Global;
 
 /// How two sources are joined.
-#[derive(Debug, Clone, Copy, PartialEq, Eq)]
+#[derive(Debug, Clone, Copy, PartialEq, Eq, PartialOrd, Ord, Hash)]
 pub enum JoinKind {
     Inner,
     LeftOuter,
 }
 
 /// How PostgreSQL takes a sample of a table.
-#[derive(Debug, Clone, Copy, PartialEq, Eq)]
+#[derive(Debug, Clone, Copy, PartialEq, Eq, PartialOrd, Ord, Hash)]
 pub enum TablesampleMethod {
     /// Each row for itself.
     BernoulliMethod,
@@ -29,7 +29,7 @@ pub enum TablesampleMethod {
 }
 
 /// A sample of a table: ` TABLESAMPLE SYSTEM($1) REPEATABLE($2)`. PostgreSQL alone has it.
-#[derive(Debug, Clone, Copy, PartialEq, Eq)]
+#[derive(Debug, Clone, Copy, PartialEq, Eq, PartialOrd, Ord, Hash)]
 pub struct Tablesample {
     pub method: TablesampleMethod,
     /// How many rows of a hundred.
@@ -39,7 +39,7 @@ pub struct Tablesample {
 }
 
 /// A table as it is read from: ` ONLY "users" TABLESAMPLE SYSTEM($1)`.
-#[derive(Debug, Drop)]
+#[derive(Debug, Drop, PartialEq, Eq, PartialOrd, Ord, Hash)]
 pub struct TableSource {
     pub table: Table,
     /// Without the rows of tables that inherit from it. PostgreSQL alone has it.

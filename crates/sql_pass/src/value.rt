@@ -5,7 +5,7 @@ use sql_schema::{SqlBytes, SqlList, SqlText, SqlType};
 use std::alloc::{AllocError, Global};
 
 /// A value of one of the base types, or NULL.
-#[derive(Debug, Drop, PartialEq, Eq)]
+#[derive(Debug, Drop, PartialEq, Eq, PartialOrd, Ord, Hash)]
 pub enum Value {
     SmallInt(i16),
     Integer(i32),

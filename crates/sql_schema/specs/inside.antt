@@ -3,3 +3,4 @@ pub mod Indices
 pub mod NameSets
 pub mod Pairs
 pub mod Split
+pub mod Tables

@@ -4,6 +4,7 @@
 //! that two values are equal exactly where these lists are.
 #![tactic(auto)]
 
+mod compared;
 mod declaration;
 mod error;
 mod laws;

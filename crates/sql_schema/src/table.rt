@@ -166,7 +166,7 @@ impl Column {
     ghost use Rattle.std.specs.Prelude.{◌≡◌, Contains};
 
     /// Its declaration.
-    fn decl(&self) -> &ColumnDecl
+    pub(crate) fn decl(&self) -> &ColumnDecl
         ensures { result.now ≡ self.now.decl }
     {
         &self.table.columns()[self.index]

@@ -1,0 +1,2 @@
+-- Reading a flat list back.
+pub mod inside
