@@ -54,7 +54,8 @@ pub use Rattle.sql_select.specs.Simple
 pub use Rattle.sql_raw.specs.Boxed as BoxedRaw
 pub use Rattle.sql_raw.specs.Debug
 pub use Rattle.sql_raw.specs.Raw
--- Shapes, ids and keys.
+-- Flat lists, shapes, ids and keys.
+pub use Rattle.sql_flat.specs.Flat as FlatLists
 pub use Rattle.sql_key.specs.Ids
 pub use Rattle.sql_key.specs.Keys
 pub use Rattle.sql_key.specs.Shape

@@ -62,10 +62,17 @@ pub use sql_raw::{
     BoxedSqlQuery, DebugQuery, Empty, SqlQuery, UncheckedBind, debug_query, sql_query,
 };
 
+// Statements as flat lists, and back.
+pub use sql_flat::{
+    Combining, Comparison, Flat, FlatKind, FlatNode, Form, Logic, Selecting, Uniqueness,
+    different_statements_have_different_lists, flatten,
+};
+pub use sql_unflat::Unflatten;
+
 // Keys: by what a cache knows a statement.
 pub use sql_key::{
     QueryId, QueryKey, compared_keys_are_equal_keys, equal_keys_are_equal_shapes,
-    equal_keys_hash_alike, equal_shapes_have_ids_alike,
+    equal_keys_hash_alike, equal_shapes_have_ids_alike, flat_query_id,
 };
 
 // The rules, `compile`, and whether values fit.

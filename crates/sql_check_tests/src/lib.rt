@@ -8,4 +8,6 @@ mod check;
 #[cfg(test)]
 mod every_call;
 #[cfg(test)]
+mod flat;
+#[cfg(test)]
 mod rules;

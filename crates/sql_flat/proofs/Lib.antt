@@ -1,4 +1,5 @@
 pub mod Among
 pub mod ClauseNodes
 pub mod Lists
+pub mod Under
 pub mod Unflattening

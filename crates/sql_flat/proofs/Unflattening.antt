@@ -1,6 +1,6 @@
 -- What the nodes of a statement stand for is the statement.
 use Rattle.std.proofs.Common.{◌≡◌, ℕ, List, [], ◌∷◌, Option, None, Some, refl, sym, ap, ◌∙◌}
-use Rattle.sql_rose.specs.Rose.{Rose, Roses, none, more, leaf, roses_of}
+use Rattle.sql_rose.specs.Rose.{Rose, Roses, flat, none, more, leaf, roses_of}
 use Rattle.sql_loops.specs.Folds.{folded, folded_each}
 use Rattle.sql_loops.proofs.Backward.{run-flat}
 use Rattle.sql_schema.specs.declared.types.SqlType.{SqlType}
@@ -13,7 +13,7 @@ use Rattle.sql_flat.specs.declared.kind.FlatKind.{FlatKind}
 use Rattle.sql_flat.specs.declared.kind.FlatKind.TheVariants as K
 use Rattle.sql_flat.specs.declared.kind.FlatNode.{FlatNode}
 use Rattle.sql_flat.specs.Flat.{flat_node, flat_of, comparison_of, logic_of, form_of, uniqueness, expr_rose, exprs_roses, items_roses, maybe_roses, source_rose, from_roses, distinct_roses, order_roses, positions_roses, rose, selecting_of}
-use Rattle.sql_flat.specs.inside.Parts.{Part, expr_part, source_part, statement_part, order_part, Clauses, no_clauses, comparison_in, logic_in, form_in, exprs_in, items_in, values_in, positions_in, first, on_of, positions_of, statement_of, put_clauses, over_clauses, over}
+use Rattle.sql_flat.specs.inside.Parts.{Part, expr_of, expr_part, source_part, statement_part, order_part, Clauses, no_clauses, comparison_in, logic_in, form_in, exprs_in, items_in, values_in, positions_in, first, on_of, positions_of, statement_of, put_clauses, over_clauses, over}
 use Rattle.sql_flat.specs.inside.Reading.{kind_of, end_of, read_from, root_of}
 
 -- what a tree of nodes stands for, and each of some
@@ -223,16 +223,29 @@ all-read s =
 pub root-read : (s : Statement) (nodes : List FlatNode) → nodes ≡ flat_of s → root_of (read_from 0 nodes) ≡ Some s
 root-read s nodes h = rw (h, all-read s) refl
 
+-- and over that of an expression
+all-read-expr : (e : Expr) → read_from 0 (flat flat_node 0 (expr_rose e) []) ≡ (0, expr_part e) ∷ []
+all-read-expr e =
+    run-flat flat_node kind_of end_of over (λ _ _. refl) (λ _ _. refl) (expr_rose e)
+    ∙ ap (λ p. (0, p) ∷ []) (expr-read e)
+
+-- what the first tree on a stack stands for
+abbrev or : {X : Type 0} → X → Option X → X
+or d None = d
+or d (Some x) = x
+
+abbrev got : {X : Type 0} → (Part → Option X) → X → List (ℕ × Part) → X
+got f d [] = d
+got f d (p ∷ ps) = or d (f p.1)
+
 -- one statement to a list
 pub one-statement : (a b : Statement) → flat_of a ≡ flat_of b → a ≡ b
-one-statement a b h = ap (got a) (sym (all-read a) ∙ ap (read_from 0) h ∙ all-read b)
-  where
-    of : Statement → Option Statement → Statement
-    of d None = d
-    of d (Some s) = s
+one-statement a b h = sym (ap (got statement_of a) (all-read a)) ∙ ap (λ l. got statement_of a (read_from 0 l)) h
+    ∙ ap (got statement_of a) (all-read b)
 
-    got : Statement → List (ℕ × Part) → Statement
-    got d [] = d
-    got d (p ∷ ps) = of d (statement_of p.1)
+-- and one expression
+pub one-expr : (a b : Expr) → flat flat_node 0 (expr_rose a) [] ≡ flat flat_node 0 (expr_rose b) [] → a ≡ b
+one-expr a b h = sym (ap (got expr_of a) (all-read-expr a)) ∙ ap (λ l. got expr_of a (read_from 0 l)) h
+    ∙ ap (got expr_of a) (all-read-expr b)
 
-pub ruleset one = (one-statement)
+pub ruleset one = (one-statement, one-expr)

@@ -1,11 +1,16 @@
-ghost use Rattle.std.specs.Prelude.{◌≡◌, IfOk};
+ghost use Rattle.std.specs.Prelude.{◌≡◌, [], IfOk, OnOk};
 ghost use Rattle.sql_node.specs.Tree as t;
-ghost use Rattle.sql_node.specs.View.{statement_tree};
-ghost use Rattle.sql_flat.specs.Flat.{flat_of};
+ghost use Rattle.sql_node.specs.Tree.{under};
+ghost use Rattle.sql_node.specs.View.{expr_tree, statement_tree};
+ghost use Rattle.sql_rose.specs.Building.{Adds};
+ghost use Rattle.sql_rose.specs.Rose.{flat, one};
+ghost use Rattle.sql_flat.specs.Flat.{expr_rose, flat_node, flat_of};
 
-use crate::FlatNode;
+use crate::building::{close, open};
+use crate::expr::push_expr;
 use crate::statement::push_statement;
-use sql_node::Statement;
+use crate::{FlatKind, FlatNode};
+use sql_node::{Expr, Statement};
 use sql_schema::NoMemory;
 use std::alloc::Global;
 use std::marker::Model;
@@ -52,4 +57,41 @@ impl Flat {
     {
         self.nodes.as_slice()
     }
+}
+
+/// Pushes an expression under so many nullables.
+#[tactic(auto, using(sql_rose::proofs::Adding::adding))]
+fn push_under(
+    alloc: Global,
+    nullables: usize,
+    expr: &Expr,
+    nodes: &mut Vec<FlatNode>,
+) -> Result<(), NoMemory>
+    ensures { OnOk result
+        (Adds flat_node nodes.old.items (one (expr_rose (under nullables (expr_tree expr.now))))
+        nodes.new.items) }
+{
+    if nullables == 0 {
+        return push_expr(alloc, expr, nodes);
+    }
+    let at = open(nodes, FlatKind::Nullable)?;
+    push_under(alloc, nullables - 1, expr, nodes)?;
+    close(nodes, at);
+    Ok(())
+}
+
+/// The nodes of an expression under so many nullables, in the order of a flat list: `("users"."id" = $1)` has Compared, Column, Value
+/// with the ends 3, 2, 3. Fails only for memory.
+#[tactic(auto, using(sql_rose::proofs::Adding::alone))]
+pub fn expression_nodes(
+    alloc: Global,
+    nullables: usize,
+    expr: &Expr,
+) -> Result<Vec<FlatNode>, NoMemory>
+    ensures { IfOk result (λ v. v.items
+        ≡ flat flat_node 0 (expr_rose (under nullables (expr_tree expr.now))) []) }
+{
+    let mut nodes = Vec::new(alloc);
+    push_under(alloc, nullables, expr, &mut nodes)?;
+    Ok(nodes)
 }

@@ -10,6 +10,8 @@ mod laws;
 mod source;
 mod statement;
 
-pub use flat::{Flat, flatten};
+pub use flat::{Flat, expression_nodes, flatten};
 pub use kind::{Combining, Comparison, FlatKind, FlatNode, Form, Logic, Selecting, Uniqueness};
-pub use laws::different_statements_have_different_lists;
+pub use laws::{
+    different_expressions_have_different_lists, different_statements_have_different_lists,
+};

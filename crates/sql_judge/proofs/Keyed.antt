@@ -4,7 +4,7 @@ use Rattle.std.specs.Bool.{Decides}
 use Rattle.std.proofs.lemmas.Bool.Decides.{Decides-at, Decides-not}
 use Rattle.sql_node.specs.Tree.{Expr, nullable, under}
 use Rattle.sql_key.specs.Expressions.{expr_key, expr_shape}
-use Rattle.sql_key.specs.declared.kind.KeyNode.{KeyNode}
+use Rattle.sql_flat.specs.declared.kind.FlatNode.{FlatNode}
 use Rattle.sql_key.specs.contracts.key.QueryKeyPartialEq.TheImpl as key_eq
 use Rattle.sql_key.proofs.ExactNodes.{same-key}
 use Rattle.sql_key.proofs.Shapes.{same-expression}
@@ -29,24 +29,24 @@ keyed-nullable n (e ∷ es) = λ i. expr_key (under-nullable n e i) ∷ keyed-nu
 pub keyed-more : (n : ℕ) (xs ys : List Expr) → keyed n (xs ++ ys) ≡ keyed n xs ++ keyed n ys
 keyed-more n = map-append (λ e. expr_key (under n e))
 
-module _ {E : Type 0} {h : List (List KeyNode)} where
-  pub gathers-under : (n : ℕ) (e : Expr) {r : Result (Unit {0}) E} {g : List (List KeyNode)}
+module _ {E : Type 0} {h : List (List FlatNode)} where
+  pub gathers-under : (n : ℕ) (e : Expr) {r : Result (Unit {0}) E} {g : List (List FlatNode)}
       → Gathers (λ k. k) h (keyed (n + 1) (flat e)) r g → Gathers (λ k. k) h (keyed n (flat (nullable e))) r g
   gathers-under n e {r} {g} v = subst (λ ks. Gathers (λ k. k) h ks r g) (keyed-nullable n (flat e)) v
 
-  pub gathers-key : (n : ℕ) (e : Expr) (k : List (List KeyNode)) → k ≡ h ++ expr_key (under n e) ∷ []
+  pub gathers-key : (n : ℕ) (e : Expr) (k : List (List FlatNode)) → k ≡ h ++ expr_key (under n e) ∷ []
       → Gathers {E = E} (λ k. k) h (keyed n (e ∷ [])) (Ok tt) k
   gathers-key n e k is = gathers-more (expr_key (under n e)) is gathers-none
 
 -- `!=` tells whether keys are two
-pub told-apart : (a b : List KeyNode) (r : Bool) → r ≡ not ((key_eq.ghosts).eq a b) → Decides r (a ≢ b)
+pub told-apart : (a b : List FlatNode) (r : Bool) → r ≡ not ((key_eq.ghosts).eq a b) → Decides r (a ≢ b)
 told-apart a b r e = Decides-at r (not ((key_eq.ghosts).eq a b)) e (Decides-not ((key_eq.ghosts).eq a b) (same-key a b))
 
 -- whether keys differ tells whether shapes do
-pub shapes-told : (xs ys : List Expr) (ks ls : List (List KeyNode)) (b : Bool) → ks ≡ keyed 0 xs → ls ≡ keyed 0 ys
+pub shapes-told : (xs ys : List Expr) (ks ls : List (List FlatNode)) (b : Bool) → ks ≡ keyed 0 xs → ls ≡ keyed 0 ys
     → Decides b (Differ (λ k l. k ≢ l) ks ls) → Decides b (Differ (λ x y. expr_shape x ≢ expr_shape y) xs ys)
 shapes-told xs ys ks ls b p q d =
-    let R : List KeyNode → List KeyNode → Type 0 = λ k l. k ≢ l in
+    let R : List FlatNode → List FlatNode → Type 0 = λ k l. k ≢ l in
     let S : Expr → Expr → Type 0 = λ x y. expr_shape x ≢ expr_shape y in
     let e = subst (λ v. Decides b (Differ R (keyed 0 xs) v)) q (subst (λ v. Decides b (Differ R v ls)) p d) in (
       λ h. differ_before R S expr_key (λ x y r i. r ((same-expression x y).1 i)) xs ys (e.0 h),

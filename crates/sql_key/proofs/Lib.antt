@@ -1,10 +1,10 @@
 pub mod Among
 pub mod ExactNodes
-pub mod ExactTables
-pub mod Expressions
 pub mod IdLaws
-pub mod Lists
+pub mod Identified
+pub mod Mapping
 pub mod Positions
-pub mod ShapeLaws
 pub mod Shapes
-pub mod Unshape
+pub mod Sweeping
+pub mod Thinning
+pub mod Twice

@@ -1,3 +1,4 @@
--- Devices: the trees of nodes by which keys are made and compared, and the order of tables.
-pub mod Roses
-pub mod Tables
+-- Devices: nodes without their values, lists without the values of lists, and which nodes leave a statement its id.
+pub mod Blank
+pub mod Kept
+pub mod Thin

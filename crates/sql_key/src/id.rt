@@ -1,12 +1,19 @@
-ghost use Rattle.std.specs.Prelude.{◌≡◌, IfOk};
+//! Ids of statements, of their own and of their flat lists.
+
+ghost use Rattle.std.specs.Prelude.{◌≡◌, IfOk, not};
+ghost use Rattle.std.specs.List.{list_all};
 ghost use Rattle.sql_node.specs.Tree as t;
 ghost use Rattle.sql_node.specs.View.{statement_tree};
-ghost use Rattle.sql_key.specs.Keys.{id_of, key};
-ghost use Rattle.sql_key.specs.Ids.{has_id};
+ghost use Rattle.sql_flat.specs.Flat.{flat_of};
+ghost use Rattle.sql_key.specs.Keys.{id_of};
+ghost use Rattle.sql_key.specs.Ids.{has_id, lacks_sample};
+ghost use Rattle.sql_key.specs.inside.Kept.{is_unboxed, keeps_id, node_keeps_id};
 
 use crate::QueryKey;
+use crate::erased::erased_nodes;
 use crate::plain::statement_leaves_id;
-use crate::statement::push_statement;
+use sql_flat::{Flat, FlatKind, FlatNode, Form, flatten};
+use sql_leaf::TableSource;
 use sql_node::Statement;
 use sql_schema::NoMemory;
 use std::alloc::Global;
@@ -25,14 +32,50 @@ pub trait QueryId {
         ensures { IfOk result (λ id. id ≡ id_of (tree self.now)) };
 }
 
-/// The key of a statement, whether it has an id or not.
-#[tactic(auto, using(sql_rose::proofs::Adding::alone))]
-fn key_of(alloc: Global, statement: &Statement) -> Result<QueryKey, NoMemory>
-    ensures { IfOk result (λ k. k ≡ key (statement_tree statement.now)) }
+fn is_sampled(source: &TableSource) -> bool
+    ensures { result ≡ not (lacks_sample source.now.sample) }
 {
-    let mut nodes = Vec::new(alloc);
-    push_statement(alloc, statement, &mut nodes)?;
-    Ok(QueryKey::from(nodes))
+    source.sample.is_some()
+}
+
+/// Whether the node leaves its statement an id.
+fn leaves_id(kind: &FlatKind) -> bool
+    ensures { result ≡ keeps_id kind.now }
+{
+    match kind {
+        FlatKind::Values(_) | FlatKind::Position(_) => false,
+        FlatKind::Table(source) => !is_sampled(source),
+        FlatKind::Select(selecting) => matches!(selecting.form, Form::Unboxed(_)),
+        _ => true,
+    }
+}
+
+/// Whether each of the nodes does.
+fn each_leaves_id(nodes: &[FlatNode]) -> bool
+    ensures { result ≡ list_all node_keeps_id nodes.now }
+{
+    nodes.iter().all(|node| leaves_id(&node.kind))
+}
+
+/// The key of the statement of a flat list, or None where it has no id: where it holds a boxed part, an `OrderColumn`, a
+/// `Tablesample` or a list of values.
+#[tactic(auto, using(crate::proofs::Identified::identified))]
+pub fn flat_query_id(alloc: Global, flat: &Flat) -> Result<Option<QueryKey>, NoMemory>
+    ensures { IfOk result (λ id. (s : t.Statement) → flat.now ≡ flat_of s → id ≡ id_of s) }
+{
+    let nodes = flat.nodes();
+    if each_leaves_id(nodes) {
+        Ok(Some(QueryKey::from(erased_nodes(alloc, nodes)?)))
+    } else {
+        Ok(None)
+    }
+}
+
+fn statement_query_id(alloc: Global, statement: &Statement) -> Result<Option<QueryKey>, NoMemory>
+    ensures { IfOk result (λ id. id ≡ id_of (statement_tree statement.now)) }
+{
+    let flat = flatten(alloc, statement)?;
+    flat_query_id(alloc, &flat)
 }
 
 impl QueryId for Statement {
@@ -43,10 +86,6 @@ impl QueryId for Statement {
     }
 
     fn query_id(&self, alloc: Global) -> Result<Option<QueryKey>, NoMemory> {
-        if self.has_query_id() {
-            Ok(Some(key_of(alloc, self)?))
-        } else {
-            Ok(None)
-        }
+        statement_query_id(alloc, self)
     }
 }

@@ -4,7 +4,7 @@ ghost use Rattle.sql_key.specs.Expressions.{expr_key, expr_shape};
 ghost use Rattle.sql_key.specs.Ids.{has_id};
 ghost use Rattle.sql_key.specs.Keys.{key};
 ghost use Rattle.sql_key.specs.Shape.{shape};
-ghost use Rattle.sql_key.specs.declared.kind.KeyNode.{KeyNode};
+ghost use Rattle.sql_flat.specs.declared.kind.FlatNode.{FlatNode};
 
 use crate::QueryKey;
 use std::cmp::Ordering;
@@ -18,14 +18,14 @@ pub fn equal_keys_are_equal_shapes()
 
 /// `==` holds of two keys, and `cmp` answers Equal, exactly where they are equal.
 pub fn compared_keys_are_equal_keys()
-    ensures equal { (a b : List KeyNode) → (⟦<QueryKey as PartialEq>⟧.eq a b ≡ true) ↔ (a ≡ b) }
-    ensures ordered { (a b : List KeyNode)
+    ensures equal { (a b : List FlatNode) → (⟦<QueryKey as PartialEq>⟧.eq a b ≡ true) ↔ (a ≡ b) }
+    ensures ordered { (a b : List FlatNode)
         → (⟦<QueryKey as Ord>⟧.cmp a b ≡ Ordering.Equal) ↔ (a ≡ b) }
 {}
 
 /// Keys that are `==` feed a hash alike.
 pub fn equal_keys_hash_alike()
-    ensures { (a b : List KeyNode) → ⟦<QueryKey as PartialEq>⟧.eq a b ≡ true
+    ensures { (a b : List FlatNode) → ⟦<QueryKey as PartialEq>⟧.eq a b ≡ true
         → ⟦<QueryKey as Hash>⟧.hash_input a ≡ ⟦<QueryKey as Hash>⟧.hash_input b }
 {}
 

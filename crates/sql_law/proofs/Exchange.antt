@@ -6,12 +6,8 @@ use Rattle.sql_dialect.specs.declared.backend.Dialect.{Dialect}
 use Rattle.sql_pass.specs.Pieces.{values_of, text_of}
 use Rattle.sql_node.specs.Pieces.{pieces}
 use Rattle.sql_node.specs.Tree.{Expr, value, list, nullable, among_values, Exprs, no_exprs, more_exprs, Statement}
-use Rattle.sql_rose.specs.Rose.{rose_map}
 use Rattle.sql_key.specs.Shape.{shape}
-use Rattle.sql_key.specs.inside.Roses.{relengthed}
-use Rattle.sql_key.proofs.ShapeLaws.{statement-of}
-use Rattle.sql_key.proofs.Shapes.{one-rose}
-use Rattle.sql_key.proofs.Unshape.{un_statement}
+use Rattle.sql_key.proofs.Twice.{same-loosely}
 use Rattle.sql_rules.specs.Lists.{AnyOf, Each}
 use Rattle.sql_rules.specs.Rules.{tops, IsIllTyped, IsIllTypedClause, PartBreaks, Broken, Accepted}
 use Rattle.sql_rules.specs.Safety.{IsSafeIn, is_safe_in}
@@ -56,10 +52,7 @@ fit s h = along s ∙ (test s).1 h
 
 -- of one shape are statements of one shape without lengths
 pub loosely : (a b : Statement) → shape a ≡ shape b → shape_without_lengths a ≡ shape_without_lengths b
-loosely a b h =
-    sym (statement-of (λ n. 0) (λ xs. []) (λ xs. refl) a)
-    ∙ ap (λ t. un_statement (rose_map (relengthed (λ n. 0)) t)) (one-rose a b h)
-    ∙ statement-of (λ n. 0) (λ xs. []) (λ xs. refl) b
+loosely = same-loosely
 
 pub rules : (schema : Declarations) (d : Dialect) (a b : Statement) → shape a ≡ shape b → ValuesFit a → ValuesFit b
     → (r : Rule) → Broken r schema d a ↔ Broken r schema d b

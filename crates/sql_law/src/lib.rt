@@ -22,7 +22,7 @@ ghost use Rattle.sql_node.specs.Tree.{Distinct, Expr, Form, From, MaybeExpr, Ord
 ghost use Rattle.sql_key.specs.Ids.{has_id};
 ghost use Rattle.sql_key.specs.Keys.{id_of};
 ghost use Rattle.sql_key.specs.Shape.{shape};
-ghost use Rattle.sql_key.specs.declared.kind.KeyNode.{KeyNode};
+ghost use Rattle.sql_flat.specs.declared.kind.FlatNode.{FlatNode};
 ghost use Rattle.sql_reading.specs.Filled.{column_path, filled, lead, normal, trees};
 ghost use Rattle.sql_reading.specs.inside.HasText.{HasNumbers, HasText};
 ghost use Rattle.sql_rules.specs.Names.{IsNamed, path};
@@ -156,27 +156,27 @@ pub fn list_lengths_can_be_exchanged()
 /// types in the same order, and have columns of the same types. Where one breaks no rule, each other whose values fit
 /// breaks none either: what was told of the one serves for it.
 pub fn equal_ids()
-    ensures shapes { (a b : Statement) (k : List KeyNode)
+    ensures shapes { (a b : Statement) (k : List FlatNode)
         → id_of a ≡ Some k
         → id_of b ≡ Some k
         → shape a ≡ shape b }
-    ensures text { (d : Dialect) (a b : Statement) (k : List KeyNode)
+    ensures text { (d : Dialect) (a b : Statement) (k : List FlatNode)
         → id_of a ≡ Some k
         → id_of b ≡ Some k
         → text_of d 0 (pieces d a) ≡ text_of d 0 (pieces d b) }
-    ensures bind_types { (d : Dialect) (a b : Statement) (k : List KeyNode)
+    ensures bind_types { (d : Dialect) (a b : Statement) (k : List FlatNode)
         → id_of a ≡ Some k
         → id_of b ≡ Some k
         → map bind_type (values_of (pieces d a)) ≡ map bind_type (values_of (pieces d b)) }
-    ensures column_types { (a b : Statement) (k : List KeyNode)
+    ensures column_types { (a b : Statement) (k : List FlatNode)
         → id_of a ≡ Some k
         → id_of b ≡ Some k
         → columns a ≡ columns b }
-    ensures safe { (d : Dialect) (a b : Statement) (k : List KeyNode)
+    ensures safe { (d : Dialect) (a b : Statement) (k : List FlatNode)
         → id_of a ≡ Some k
         → id_of b ≡ Some k
         → is_safe_in d a ≡ is_safe_in d b }
-    ensures accepted { (schema : Declarations) (d : Dialect) (a b : Statement) (k : List KeyNode)
+    ensures accepted { (schema : Declarations) (d : Dialect) (a b : Statement) (k : List FlatNode)
         → id_of a ≡ Some k
         → id_of b ≡ Some k
         → ValuesFit b

@@ -6,17 +6,17 @@ use Rattle.sql_rose.specs.Building.{Adds, adds, Opens, opens, Closes, closes, Fi
 
 module _ {K N : Type 0} (make : K → ℕ → N) where
   mutual
-    front : (n : ℕ) (t : Rose K) (rest : List N) → flat make n t rest ≡ flat make n t [] ++ rest
+    pub front : (n : ℕ) (t : Rose K) (rest : List N) → flat make n t rest ≡ flat make n t [] ++ rest
     front n (node k ts) rest = ap (λ l. make k (n + suc (sizes ts)) ∷ l) (fronts (n + 1) ts rest)
 
-    fronts : (n : ℕ) (ts : Roses K) (rest : List N) → flats make n ts rest ≡ flats make n ts [] ++ rest
+    pub fronts : (n : ℕ) (ts : Roses K) (rest : List N) → flats make n ts rest ≡ flats make n ts [] ++ rest
     fronts n none rest = refl
     fronts n (more t ts) rest =
         front n t (flats make (n + size t) ts rest) ∙ ap (λ l. flat make n t [] ++ l) (fronts (n + size t) ts rest)
         ∙ sym (append_assoc (flat make n t []) (flats make (n + size t) ts []) rest)
         ∙ ap (λ l. l ++ rest) (sym (front n t (flats make (n + size t) ts [])))
 
-  flats-joined : (n : ℕ) (ts us : Roses K) (rest : List N)
+  pub flats-joined : (n : ℕ) (ts us : Roses K) (rest : List N)
       → flats make n (joined ts us) rest ≡ flats make n ts (flats make (n + sizes ts) us rest)
   flats-joined n none us rest = ap (λ m. flats make m us rest) (omega arith)
   flats-joined n (more t ts) us rest =
@@ -25,12 +25,12 @@ module _ {K N : Type 0} (make : K → ℕ → N) where
       ∙ ap (λ m. flats make (n + size t) ts (flats make m us rest)) (omega arith))
 
   mutual
-    length-flat : (n : ℕ) (t : Rose K) (rest : List N) → length (flat make n t rest) ≡ size t + length rest
+    pub length-flat : (n : ℕ) (t : Rose K) (rest : List N) → length (flat make n t rest) ≡ size t + length rest
     length-flat n (node k ts) rest =
         let h : length (flats make (n + 1) ts rest) ≡ sizes ts + length rest = length-flats (n + 1) ts rest in
         omega arith
 
-    length-flats : (n : ℕ) (ts : Roses K) (rest : List N) → length (flats make n ts rest) ≡ sizes ts + length rest
+    pub length-flats : (n : ℕ) (ts : Roses K) (rest : List N) → length (flats make n ts rest) ≡ sizes ts + length rest
     length-flats n none rest = omega arith
     length-flats n (more t ts) rest =
         let h : length (flat make n t (flats make (n + size t) ts rest))

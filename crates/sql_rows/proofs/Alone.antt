@@ -7,7 +7,7 @@ use Rattle.sql_schema.specs.Declarations.{Declarations}
 use Rattle.sql_dialect.specs.declared.backend.Dialect.{Dialect}
 use Rattle.sql_node.specs.Tree.{Statement}
 use Rattle.sql_key.specs.Keys.{id_of}
-use Rattle.sql_key.specs.declared.kind.KeyNode.{KeyNode}
+use Rattle.sql_flat.specs.declared.kind.FlatNode.{FlatNode}
 use Rattle.sql_rules.specs.Lists.{Each}
 use Rattle.sql_check.specs.declared.built.Built.{Built}
 use Rattle.sql_law.proofs.Exchange.{accepted-fit}
@@ -41,7 +41,7 @@ front before after d s b pair own call false none =
     λ c. true≢false (sym (list_any-from_Contains laws-law pair before.keys c) ∙ none) in
     ap (λ (w : Entries). slice_get w.keys 0) (call.entries.not_found pair own new).0
 
-pub stands-in-front : (before after : Entries) (d : Dialect) (s : Statement) (b : Built) (k : List KeyNode)
+pub stands-in-front : (before after : Entries) (d : Dialect) (s : Statement) (b : Built) (k : List FlatNode)
     → id_of s ≡ Some k → IsCall before (record { dialect = d; statement = s; answer = Ok b }) after
     → slice_get after.keys 0 ≡ Some (record { dialect = d; key = k })
 stands-in-front before after d s b k id call =

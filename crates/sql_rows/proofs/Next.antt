@@ -4,7 +4,7 @@ use Rattle.std.specs.Prelude.{Result, Ok, Err, OnOk, OnErr}
 use Rattle.sql_dialect.specs.declared.backend.Dialect.{Dialect}
 use Rattle.sql_node.specs.Tree.{Statement}
 use Rattle.sql_key.specs.Keys.{id_of}
-use Rattle.sql_key.specs.declared.kind.KeyNode.{KeyNode}
+use Rattle.sql_flat.specs.declared.kind.FlatNode.{FlatNode}
 use Rattle.sql_law.proofs.FitLaws.{test as fit-test}
 use Rattle.sql_law.specs.Fitting.{values_fit}
 use Rattle.sql_rows.specs.declared.cache.RequestKey.{RequestKey}
@@ -45,7 +45,7 @@ module _ (d : Dialect) (s : Statement) where
     (λ h. ap Some (one-pair d s own pair at h)),
   )
 
-  pub looked-up : true ≡ values_fit s → (k : List KeyNode) (e : Dialect) → id_of s ≡ Some k → e ≡ d
+  pub looked-up : true ≡ values_fit s → (k : List FlatNode) (e : Dialect) → id_of s ≡ Some k → e ≡ d
       → IsLookedUp d s (record { dialect = e; key = k })
   looked-up h k e id speaks = record { fit = (fit-test s).0 (sym h); id = id; dialect = speaks }
 

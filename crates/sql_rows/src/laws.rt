@@ -5,7 +5,7 @@ ghost use Rattle.sql_schema.specs.Declarations.{Declarations};
 ghost use Rattle.sql_dialect.specs.declared.backend.Dialect.{Dialect};
 ghost use Rattle.sql_node.specs.Tree.{Statement};
 ghost use Rattle.sql_key.specs.Keys.{id_of};
-ghost use Rattle.sql_key.specs.declared.kind.KeyNode.{KeyNode};
+ghost use Rattle.sql_flat.specs.declared.kind.FlatNode.{FlatNode};
 ghost use Rattle.sql_rules.specs.Lists.{Each};
 ghost use Rattle.sql_rules.specs.declared.rule.Rule.{Rule};
 ghost use Rattle.sql_check.specs.Compiled.{IsBuilt, IsLeast};
@@ -38,7 +38,7 @@ pub fn one_answer()
 
 /// After each answer that is Ok, of a statement that has an id, its pair is the first.
 pub fn answered_pairs_stand_in_front()
-    ensures { (before after : Entries) (d : Dialect) (s : Statement) (b : Built) (k : List KeyNode)
+    ensures { (before after : Entries) (d : Dialect) (s : Statement) (b : Built) (k : List FlatNode)
         → id_of s ≡ Some k
         → IsCall before (record { dialect = d; statement = s; answer = Ok b }) after
         → slice_get after.keys 0 ≡ Some (record { dialect = d; key = k }) }

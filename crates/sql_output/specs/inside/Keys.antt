@@ -5,7 +5,7 @@ use Rattle.std.specs.BTreeMap as tree
 use Rattle.std.specs.BTreeMap.{BTreeMap}
 use Rattle.sql_dialect.specs.declared.backend.Dialect.{Dialect}
 use Rattle.sql_key.specs.Keys.{id_of}
-use Rattle.sql_key.specs.declared.kind.KeyNode.{KeyNode}
+use Rattle.sql_flat.specs.declared.kind.FlatNode.{FlatNode}
 use Rattle.sql_schema.specs.Declarations.{Declarations}
 use Rattle.sql_output.specs.Judgement.{Judgement, refuses, accepts, Judges}
 use Rattle.sql_output.specs.Output.{AreLines, Line, StatementRequest, lines_text}
@@ -13,7 +13,7 @@ use Rattle.sql_rows.specs.declared.cache.RequestKey.{RequestKey}
 use Rattle.sql_rows.specs.contracts.cache.RequestKeyPartialEq.TheImpl as key_eq
 use Rattle.sql_rows.specs.contracts.cache.RequestKeyOrd.TheImpl as key_ord
 
-abbrev pub keyed : Dialect → List KeyNode → RequestKey
+abbrev pub keyed : Dialect → List FlatNode → RequestKey
 keyed d k = record { dialect = d; key = k }
 
 -- the dialect and the statement's key, none where the request is refused or its statement has no id

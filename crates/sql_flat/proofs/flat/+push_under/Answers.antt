@@ -1,8 +1,8 @@
 use Rattle.std.proofs.Common.{rules}
 use Rattle.sql_node.specs.View.{expr_tree}
 use Rattle.sql_rose.proofs.Adding.{adds-node}
-use Rattle.sql_key.proofs.Expressions.{under-front}
-use Rattle.sql_key.proofs.expression.+push_under.Goals as goal
+use Rattle.sql_flat.proofs.Under.{under-front}
+use Rattle.sql_flat.proofs.flat.+push_under.Goals as goal
 
 pub returns : goal.returns
 returns t c =

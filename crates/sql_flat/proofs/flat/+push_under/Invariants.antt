@@ -1,4 +1,4 @@
-use Rattle.sql_key.proofs.expression.+push_under.Given as goal
+use Rattle.sql_flat.proofs.flat.+push_under.Given as goal
 
 abbrev pub decreases-push_under : goal.decreases-push_under
 decreases-push_under l = l.nullables

@@ -1,11 +1,13 @@
-use crate::back::comes_back;
+//! The nodes of a statement and their ends, and the statement that comes back.
+
 use sql_call_tests::fixture::{id, ids};
 use sql_expr::{Expr, ExpressionMethods, InValues, Statement};
-use sql_fixture::{INTEGER, beside, is};
+use sql_fixture::{INTEGER, beside, gives, is};
 use sql_flat::{Flat, FlatKind, FlatNode, flatten};
 use sql_pass::Value;
 use sql_schema::SqlList;
 use sql_select::{Query, QueryDsl};
+use sql_unflat::Unflatten;
 use std::alloc::Global;
 use std::test::Fail;
 
@@ -62,9 +64,12 @@ fn nodes_in_writing_order(rt: HostRuntime) -> Result<(), Fail> {
 #[test]
 fn a_statement_comes_back(rt: HostRuntime) -> Result<(), Fail> {
     let alloc = rt.alloc();
-    comes_back(
+    let flat = flat(alloc)?;
+    let back = flat.unflatten(alloc);
+    drop(flat);
+    gives(
         alloc,
-        chosen(alloc)?,
+        back,
         r#"SELECT "users"."id" FROM "users" WHERE ("users"."id" = ANY($1))"#,
     )
 }
