@@ -15,6 +15,9 @@ use sql_schema::NoMemory;
 use std::alloc::Global;
 use std::marker::Model;
 
+/// How many nodes a list has room for at first: most statements have fewer.
+const ROOM: usize = 16;
+
 /// The flat list of a statement: its nodes, each before its children, with all their values. Only `flatten` makes one, so it always
 /// is the list of a statement.
 #[derive(Debug, Drop)]
@@ -42,7 +45,7 @@ impl Model for Flat {
 pub fn flatten(alloc: Global, statement: &Statement) -> Result<Flat, NoMemory>
     ensures { IfOk result (λ f. f ≡ flat_of (statement_tree statement.now)) }
 {
-    let mut nodes = Vec::new(alloc);
+    let mut nodes = Vec::with_capacity(alloc, ROOM)?;
     push_statement(alloc, statement, &mut nodes)?;
     Ok(Flat { nodes })
 }
