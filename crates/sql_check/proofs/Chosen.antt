@@ -1,14 +1,7 @@
 -- The first of the rules that are broken, and that none is where no rule but the last could be and that one is not.
-use Rattle.std.proofs.Common.{◌≡◌, Bool, true, false, None, Some, List, [], ◌∷◌, ◌++◌, length, sym, ap, subst, refl, ◌∙◌, append_assoc}
-use Rattle.std.proofs.lemmas.Bool.{false≢true}
-use Rattle.std.specs.Prelude.{◌<◌, IsTrue}
-use Rattle.std.specs.Bool.{Decides}
+use Rattle.std.proofs.Common.{None, Some, List, [], ◌∷◌, ◌++◌, ap, refl, ◌∙◌, append_assoc}
 use Rattle.sql_schema.specs.Declarations.{Declarations}
-use Rattle.sql_dialect.specs.Written.{MAX_BINDS, numbers}
 use Rattle.sql_dialect.specs.declared.backend.Dialect.{Dialect}
-use Rattle.sql_pass.specs.Pieces.{values_of}
-use Rattle.sql_pass.specs.declared.value.Bound.{Bound}
-use Rattle.sql_node.specs.Pieces.{pieces}
 use Rattle.sql_node.specs.Tree.{Statement}
 use Rattle.sql_rules.specs.Rules.{Accepted, Broken, HasTooManyBinds}
 use Rattle.sql_rules.specs.declared.rule.Rule.{Rule}
@@ -47,11 +40,3 @@ module _ (schema : Declarations) (d : Dialect) (s : Statement) where
   is_accepted none few R.InvalidDistinctOrder = none.1.1.1.1.1.1.1.1.1.1.1.0
   is_accepted none few R.Unsupported = none.1.1.1.1.1.1.1.1.1.1.1.1.0
   is_accepted none few R.TooManyBinds = few
-
--- the values at hand are the statement's
-module _ (d : Dialect) (s : Statement) (binds : List Bound) (are : binds ≡ values_of (pieces d s)) (many : Bool) (test : Decides many (IsTrue (numbers d) × (MAX_BINDS < length binds))) where
-  pub are_few : many ≡ false → ¬ HasTooManyBinds d s
-  are_few fails h = false≢true (sym fails ∙ test.1 (h.0, subst (λ v. MAX_BINDS < length v) (sym are) h.1))
-
-  pub are_many : many ≡ true → HasTooManyBinds d s
-  are_many holds = let h = test.0 holds in (h.0, subst (λ v. MAX_BINDS < length v) are h.1)

@@ -1,4 +1,5 @@
 -- What `compile` answers, and the types of a statement's columns.
 pub mod Compiled
 pub mod Errors
+pub mod Fused
 pub mod Typed

@@ -1,26 +1,34 @@
-ghost use Rattle.std.specs.Prelude.{◌≡◌, None, Some, IfOk, IfErr, string_bytes};
+ghost use Rattle.std.specs.Prelude.{◌≡◌, ◌<◌, None, Some, IfOk, IfErr, IsErrOf};
 ghost use Rattle.sql_schema.specs.Declarations.{Declarations};
+ghost use Rattle.sql_node.specs.Tree as t;
 ghost use Rattle.sql_node.specs.View.{statement_tree};
+ghost use Rattle.sql_flat.specs.Flat.{flat_of};
 ghost use Rattle.sql_judge.specs.First.{IsFirst, inner_rules};
 ghost use Rattle.sql_judge.specs.declared.viewed.Names.TheVariants as name;
-ghost use Rattle.sql_check.specs.Compiled.{IsBuilt, IsLeast, IsRead, sql_of};
+ghost use Rattle.sql_check.specs.Compiled.{IsBuilt, IsLeast, IsRead};
 ghost use Rattle.sql_check.specs.Errors.{rule_of};
+ghost use Rattle.sql_check.specs.Fused.{IsFused};
 ghost use Rattle.sql_check.specs.Typed.{known};
 ghost use Rattle.sql_rules.specs.Counted.{PlacesAreCounted};
 ghost use Rattle.sql_rules.specs.Rules.{Broken, HasTooManyBinds};
 ghost use Rattle.sql_rules.specs.declared.rule.Rule.{Rule};
 ghost use Rattle.sql_rules.specs.declared.rule.Rule.TheVariants as rule;
 
+use crate::answer::{FusedAnswer, fused};
 use crate::error::CompileError;
-use sql_dialect::{Backend, QueryBuilder};
+use sql_dialect::{Backend, BindError};
+use sql_flat::{Flat, flatten};
+use sql_fused::Steps;
 use sql_judge::{Names, first_broken_by};
-use sql_key::{QueryId, QueryKey};
+use sql_key::QueryKey;
 use sql_law::{accepted_are_read, names_one_leaf};
 use sql_node::Statement;
-use sql_pass::{Bound, PassError, QueryFragment, debug_binds};
+use sql_pass::Bound;
 use sql_schema::{NoMemory, Schema, SqlList, SqlText, SqlType};
-use sql_types::{are_too_many, columns};
+use sql_types::columns;
 use std::alloc::Global;
+use std::marker::Brand;
+use std::sync::ledger::{Blank, Ledger};
 
 /// What `compile` answers of a statement that breaks no rule.
 #[derive(Drop)]
@@ -37,25 +45,6 @@ pub struct Built {
     pub id: Option<QueryKey>,
 }
 
-/// The statement's text for the backend. Placeholders run out only where there are more than PostgreSQL has numbers.
-fn text<DB: Backend>(
-    alloc: Global,
-    backend: &DB,
-    statement: &Statement,
-) -> Result<String, CompileError>
-    ensures text { IfOk result (λ t. string_bytes t
-        ≡ sql_of DB.speaks (statement_tree statement.now)) }
-    ensures refused { IfErr result (λ e. (r : Rule) → rule_of e ≡ Some r
-        → (r ≡ rule.TooManyBinds) × HasTooManyBinds DB.speaks (statement_tree statement.now)) }
-{
-    match statement.to_sql(backend.query_builder(alloc), backend) {
-        Ok(builder) => Ok(builder.finish()),
-        Err(PassError::NoMemory) => Err(CompileError::NoMemory),
-        Err(PassError::TooManyBinds) => Err(CompileError::TooManyBinds),
-        Err(PassError::TooLong) => unreachable!(),
-    }
-}
-
 /// The types that there are.
 fn known_types(alloc: Global, types: &[Option<SqlType>]) -> Result<Vec<SqlType>, NoMemory>
     ensures { IfOk result (λ v. v.items ≡ known types.now) }
@@ -67,6 +56,43 @@ fn known_types(alloc: Global, types: &[Option<SqlType>]) -> Result<Vec<SqlType>,
         }
     }
     Ok(all)
+}
+
+/// What `fused` answers with a count of its own.
+fn fused_from<DB: Backend, L: Ledger>(
+    alloc: Global,
+    backend: &DB,
+    flat: &Flat,
+    blank: Blank,
+) -> Result<FusedAnswer, BindError>
+    requires name { blank.name ≡ L.name }
+    requires parts { (blank.parts ≡ L.parts) × (0 < L.parts) }
+    ensures fused { IfOk result (λ a. (s : t.Statement) → flat.now ≡ flat_of s
+        → IsFused DB.speaks s a) }
+    ensures few { IfOk result (λ a. (s : t.Statement) → flat.now ≡ flat_of s
+        → ¬ HasTooManyBinds DB.speaks s) }
+    ensures many { (s : t.Statement) → flat.now ≡ flat_of s
+        → IsErrOf result BindError.TooManyBinds → HasTooManyBinds DB.speaks s }
+{
+    fused(alloc, backend, flat, &mut Steps::<L>::new(blank))
+}
+
+/// What `fused` answers, whose steps nobody counts.
+fn uncounted<DB: Backend>(
+    alloc: Global,
+    backend: &DB,
+    flat: &Flat,
+    blank: Blank,
+) -> Result<FusedAnswer, BindError>
+    requires { 0 < blank.parts }
+    ensures fused { IfOk result (λ a. (s : t.Statement) → flat.now ≡ flat_of s
+        → IsFused DB.speaks s a) }
+    ensures few { IfOk result (λ a. (s : t.Statement) → flat.now ≡ flat_of s
+        → ¬ HasTooManyBinds DB.speaks s) }
+    ensures many { (s : t.Statement) → flat.now ≡ flat_of s
+        → IsErrOf result BindError.TooManyBinds → HasTooManyBinds DB.speaks s }
+{
+    fused_from::<DB, Brand>(alloc, backend, flat, blank)
 }
 
 /// The answer for a statement that breaks no rule but perhaps the last.
@@ -85,22 +111,18 @@ fn build<DB: Backend>(
     ensures refused { IfErr result (λ e. (r : Rule) → rule_of e ≡ Some r
         → (r ≡ rule.TooManyBinds) × HasTooManyBinds DB.speaks (statement_tree statement.now)) }
 {
-    let sql = text(alloc, backend, statement)?;
-    let binds = debug_binds(alloc, backend, statement)?;
-    if are_too_many(backend, binds.as_slice()) {
-        return Err(CompileError::TooManyBinds);
-    }
+    let flat = flatten(alloc, statement)?;
+    let told = uncounted(alloc, backend, &flat, Blank::new(1))?;
     let types = columns(alloc, statement)?;
     let sql_types = known_types(alloc, &types)?;
-    let id = statement.query_id(alloc)?;
     accepted_are_read();
     names_one_leaf();
     Ok(Built {
-        sql: SqlText::from(sql),
-        binds: SqlList::from(binds),
+        sql: told.sql,
+        binds: told.binds,
         sql_types: SqlList::from(sql_types),
-        safe: statement.is_safe_to_cache_prepared(backend),
-        id,
+        safe: told.safe,
+        id: told.id,
     })
 }
 

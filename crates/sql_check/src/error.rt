@@ -1,7 +1,11 @@
 ghost use Rattle.std.specs.Prelude.{◌≡◌, Some};
 ghost use Rattle.sql_check.specs.Errors.{rule_of};
 ghost use Rattle.sql_check.specs.declared.error.CompileError.TheVariants as error;
+ghost use Rattle.sql_dialect.specs.declared.builder.BindError.TheVariants as bind;
+ghost use Rattle.sql_rules.specs.declared.rule.Rule.{Rule};
+ghost use Rattle.sql_rules.specs.declared.rule.Rule.TheVariants as rule;
 
+use sql_dialect::BindError;
 use sql_rules::Rule;
 use std::alloc::AllocError;
 use thiserror::Error;
@@ -95,5 +99,17 @@ impl From<AllocError> for CompileError {
 
     fn from(_: AllocError) -> CompileError {
         CompileError::NoMemory
+    }
+}
+
+impl From<BindError> for CompileError {
+    ghost from_gives = { λ b e. (r : Rule) → rule_of e ≡ Some r
+        → (b ≡ bind.TooManyBinds) × (r ≡ rule.TooManyBinds) };
+
+    fn from(error: BindError) -> CompileError {
+        match error {
+            BindError::TooManyBinds => CompileError::TooManyBinds,
+            BindError::NoMemory => CompileError::NoMemory,
+        }
     }
 }

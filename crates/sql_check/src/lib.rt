@@ -1,15 +1,18 @@
 //! Compiles statements: text, values, types, flag and key of a statement that breaks no rule, or the first rule that it breaks;
-//! and whether a statement's values fit their types.
+//! the same but for the types of a flat statement, in one loop; and whether a statement's values fit their types.
 #![tactic(auto)]
 
+mod answer;
 mod boxing;
 mod built;
 mod error;
 mod fitting;
 
+pub use answer::{FusedAnswer, fused};
 pub use boxing::boxing_takes_the_id_alone;
 pub use built::{Built, compile, compile_by};
 pub use error::CompileError;
 pub use fitting::values_fit;
+pub use sql_fused::Steps;
 pub use sql_judge::{Names, broken};
 pub use sql_rules::{RULES, Rule};
