@@ -77,8 +77,8 @@ pub use sql_key::{
 
 // The rules, `compile`, and whether values fit.
 pub use sql_check::{
-    Built, CompileError, FusedAnswer, Names, RULES, Rule, Steps, boxing_takes_the_id_alone,
-    broken, compile, compile_by, fused, values_fit,
+    Built, CompileError, FusedAnswer, Names, RULES, Rule, Steps, boxing_takes_the_id_alone, broken,
+    compile, compile_by, fused, values_fit,
 };
 
 // `compile` with column types that are right for NULL, a cache of its answers, and what statements answer.

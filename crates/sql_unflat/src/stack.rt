@@ -6,9 +6,9 @@ ghost use Rattle.sql_node.specs.View.{expr_tree, order_item_tree};
 ghost use Rattle.sql_flat.specs.inside.Parts.{exprs_in, first, items_in, no_clauses, others, positions_in, put_clauses, values_in};
 ghost use Rattle.sql_unflat.specs.inside.Stacks.{clauses_of, part_of, split, stack};
 
-use sql_flat::Uniqueness;
 use crate::clauses::Clauses;
 use crate::part::Part;
+use sql_flat::Uniqueness;
 use sql_leaf::PositionalItem;
 use sql_node::{Expr, OrderItem};
 use sql_pass::Value;
