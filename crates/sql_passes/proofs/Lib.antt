@@ -1,0 +1,11 @@
+pub mod Alternatives
+pub mod Decided
+pub mod EmptyLists
+pub mod IllTyped
+pub mod Leaves
+pub mod Rooted
+pub mod Seen
+pub mod Selected
+pub mod Stacking
+pub mod Tested
+pub mod TypesGiven
