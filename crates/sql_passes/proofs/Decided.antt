@@ -1,10 +1,10 @@
 -- What the loops answer decides what is said of the parts of a statement.
-use Rattle.std.proofs.Common.{◌≡◌, List, [], Bool, refl, ap, ◌∙◌}
+use Rattle.std.proofs.Common.{◌≡◌, ℕ, ◌+◌, ◌||◌, List, [], ◌∷◌, Bool, refl, sym, ap, ◌∙◌}
 use Rattle.std.specs.Bool.{Decides}
 use Rattle.std.specs.List.{list_any}
 use Rattle.std.proofs.lemmas.Bool.Decides.{Decides-at, Decides-like}
 use Rattle.sql_rose.specs.Rose.{Roses, none}
-use Rattle.sql_loops.specs.Folds.{folded_each, sites}
+use Rattle.sql_loops.specs.Folds.{Site, folded_each, sites}
 use Rattle.sql_node.specs.Tree.{Statement}
 use Rattle.sql_rules.specs.Lists.{AnyOf}
 use Rattle.sql_rules.specs.Scope.{View, Place, Part, parts}
@@ -20,11 +20,19 @@ use Rattle.sql_passes.specs.inside.Lists.{kind_of, end_of}
 use Rattle.sql_passes.specs.inside.Tested.{any_from}
 use Rattle.sql_passes.specs.inside.Typing.{typing}
 use Rattle.sql_passes.specs.inside.Views.{Views}
+use Rattle.sql_passes.specs.inside.Walks.{walked}
+use Rattle.sql_passes.proofs.Around.{same-sites, seen_at, walks-statement}
 use Rattle.sql_passes.proofs.Seen.{Out, PartOut, of_kind, statement-seen}
 use Rattle.sql_passes.proofs.Tested.{any-flat, any-sites}
 
-abbrev outside : Known
+abbrev pub outside : Known
 outside = record { clause = []; condition = []; kids = none }
+
+-- a test that asks for no child
+pub each-alone : (test : FlatKind → Bool) (i : ℕ) (xs : List FlatNode)
+    → any_from typing (λ k gs. test k) kind_of end_of i xs ≡ list_any (λ x. test x.kind) xs
+each-alone test i [] = refl
+each-alone test i (x ∷ xs) = ap (λ b. test x.kind || b) (each-alone test (i + 1) xs)
 
 module _ (X : View → FlatKind → Roses FlatKind → Type 0) (Y : Place → Roses FlatKind → Type 0) (O D : Roses FlatKind → Type 0) (S : View → Views → Selecting → Roses FlatKind → Type 0) (C : Combining → Roses FlatKind → Type 0) (Z : FlatKind → Type 0) where
   -- the same of the rule that the parts break
@@ -48,3 +56,25 @@ module _ (X : View → FlatKind → Roses FlatKind → Type 0) (Y : Place → Ro
       ∙ any-flat typing test kind_of end_of flat_node (λ _ _. refl) (λ _ _. refl) (rose s)
       ∙ any-sites typing test outside (rose s))
       (any-decides (Out X Y O D S C Z) (λ x. test x.kind (folded_each typing x.within.kids)) (λ x. d x.around.clause x.kind x.within) all))
+
+  -- the loop from the first node on
+  pub decides-forward : (test : Site Views FlatKind → Bool)
+      → ((x : Site Known FlatKind) → Decides (test (seen_at x)) (Out X Y O D S C Z x))
+      → (s : Statement) (nodes : List FlatNode) (b : Bool) → nodes ≡ flat_of s
+      → b ≡ list_any test (walked [] 0 nodes) → Decides b (AnyOf (PartOut X Y O D S C Z) (parts [] s))
+  decides-forward test d s nodes b is h =
+      let seen = statement-seen X Y O D S C Z outside s in
+      let all = sites known_below outside (rose s) in
+      Decides-like b seen.0 seen.1
+      (Decides-at b (list_any (λ x. test (seen_at x)) all)
+      (h ∙ ap (λ xs. list_any test (walked [] 0 xs)) is ∙ ap (list_any test) (walks-statement s)
+      ∙ same-sites test outside (rose s))
+      (any-decides (Out X Y O D S C Z) (λ x. test (seen_at x)) d all))
+
+  -- a test of nodes alone
+  pub decides-nodes : (test : FlatKind → Bool)
+      → ((v : View) (k : FlatKind) (w : Known) → Decides (test k) (of_kind X Y O D S C Z v k w))
+      → (s : Statement) (nodes : List FlatNode) (b : Bool) → nodes ≡ flat_of s
+      → b ≡ list_any (λ x. test x.kind) nodes → Decides b (AnyOf (PartOut X Y O D S C Z) (parts [] s))
+  decides-nodes test d s nodes b is h =
+      decides-backward (λ k gs. test k) d s nodes b is (h ∙ sym (each-alone test 0 nodes))

@@ -39,7 +39,7 @@ use Rattle.sql_passes.specs.inside.Typing.{any_untyped, differ, first, ill, is_c
 use Rattle.sql_passes.specs.inside.Views.{Views}
 use Rattle.sql_passes.proofs.Alternatives.{any-either}
 use Rattle.sql_passes.proofs.Decided.{decides-backward, decides-rule}
-use Rattle.sql_passes.proofs.Leaves.{select_roses}
+use Rattle.sql_passes.proofs.SourceLeaves.{select_roses}
 use Rattle.sql_passes.proofs.Seen as seen
 use Rattle.sql_passes.proofs.Selected.{IsSelection, of-selection, selection-any}
 use Rattle.sql_passes.proofs.TypesGiven.{expr-typed, selection-typed, statement-typed}

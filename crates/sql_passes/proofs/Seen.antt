@@ -18,7 +18,7 @@ use Rattle.sql_flat.specs.declared.kind.FlatKind.TheVariants as K
 use Rattle.sql_flat.specs.declared.kind.Selecting.{Selecting}
 use Rattle.sql_passes.specs.inside.Known.{Known, known_below}
 use Rattle.sql_passes.specs.inside.Views.{Views}
-use Rattle.sql_passes.proofs.Leaves.{join-leaves, select-leaves, select_roses, widens}
+use Rattle.sql_passes.proofs.SourceLeaves.{join-leaves, select-leaves, select_roses, widens}
 
 -- the sides of a combination and its order below its node
 abbrev pub sides_roses : Statement → Statement → Option (List PositionalItem) → Roses FlatKind

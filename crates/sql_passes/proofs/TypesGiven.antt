@@ -12,7 +12,7 @@ use Rattle.sql_rules.proofs.Nulled.{elements}
 use Rattle.sql_flat.specs.Flat.{form_of, expr_rose, exprs_roses, items_roses, rose, uniqueness}
 use Rattle.sql_flat.specs.declared.kind.FlatKind.TheVariants as K
 use Rattle.sql_passes.specs.inside.Typing.{typing, types_of_each, where_all, both, columns_as, selection}
-use Rattle.sql_passes.proofs.Leaves.{select_roses}
+use Rattle.sql_passes.proofs.SourceLeaves.{select_roses}
 
 none-stays : (t : SqlType) (vs : List Value)
     → where_all None (folded_each typing (roses_of (λ v. leaf (K.Element t v)) vs)) ≡ None

@@ -3,8 +3,15 @@
 
 mod given;
 mod judging;
+mod kinds;
+mod leaves;
+mod names;
+mod pair;
+mod scope;
 mod stack;
+mod tables;
 mod types;
 mod typing;
 
+pub use names::{Names, Scoped, names_of_flat};
 pub use typing::{Typed, types_of_flat};

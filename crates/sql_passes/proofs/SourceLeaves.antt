@@ -37,11 +37,11 @@ same-origins k [] = refl
 same-origins Inner (l ∷ ls) = ap (λ v. l.origin ∷ v) (same-origins Inner ls)
 same-origins LeftOuter (l ∷ ls) = ap (λ v. l.origin ∷ v) (same-origins LeftOuter ls)
 
-map-append : {X Y : Type 0} (f : X → Y) (xs ys : List X) → map f (xs ++ ys) ≡ map f xs ++ map f ys
+pub map-append : {X Y : Type 0} (f : X → Y) (xs ys : List X) → map f (xs ++ ys) ≡ map f xs ++ map f ys
 map-append f [] ys = refl
 map-append f (x ∷ xs) ys = ap (λ v. f x ∷ v) (map-append f xs ys)
 
-origins-join : (k : JoinKind) (l r : Source) (on : MaybeExpr) → origins (join k l r on) ≡ origins l ++ origins r
+pub origins-join : (k : JoinKind) (l r : Source) (on : MaybeExpr) → origins (join k l r on) ≡ origins l ++ origins r
 origins-join k l r on =
     map-append (λ l. l.origin) (leaves l) (map (in_right_side k) (leaves r))
     ∙ ap (λ v. origins l ++ v) (same-origins k (leaves r))
