@@ -22,3 +22,4 @@ pub mod Stacking
 pub mod Tested
 pub mod TypesGiven
 pub mod UnknownNames
+pub mod UnsupportedNodes

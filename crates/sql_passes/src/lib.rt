@@ -1,6 +1,7 @@
 //! The rules that a statement breaks, by loops over its flat list.
 #![tactic(auto)]
 
+mod dialects;
 mod given;
 mod judging;
 mod kinds;
@@ -13,5 +14,6 @@ mod tables;
 mod types;
 mod typing;
 
+pub use dialects::is_flat_unsupported;
 pub use names::{Names, Scoped, names_of_flat};
 pub use typing::{Typed, types_of_flat};
