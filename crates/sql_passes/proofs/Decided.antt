@@ -1,9 +1,9 @@
 -- What the loops answer decides what is said of the parts of a statement.
-use Rattle.std.proofs.Common.{◌≡◌, ℕ, ◌+◌, ◌||◌, List, [], ◌∷◌, Bool, refl, sym, ap, ◌∙◌}
+use Rattle.std.proofs.Common.{◌≡◌, ℕ, suc, ◌+◌, ◌||◌, List, [], ◌∷◌, Bool, refl, sym, ap, ◌∙◌}
 use Rattle.std.specs.Bool.{Decides}
 use Rattle.std.specs.List.{list_any}
 use Rattle.std.proofs.lemmas.Bool.Decides.{Decides-at, Decides-like}
-use Rattle.sql_rose.specs.Rose.{Roses, none}
+use Rattle.sql_rose.specs.Rose.{Roses, none, sizes, flats}
 use Rattle.sql_loops.specs.Folds.{Site, folded_each, sites}
 use Rattle.sql_node.specs.Tree.{Statement}
 use Rattle.sql_rules.specs.Lists.{AnyOf}
@@ -15,12 +15,14 @@ use Rattle.sql_flat.specs.declared.kind.Combining.{Combining}
 use Rattle.sql_flat.specs.declared.kind.FlatKind.{FlatKind}
 use Rattle.sql_flat.specs.declared.kind.FlatNode.{FlatNode}
 use Rattle.sql_flat.specs.declared.kind.Selecting.{Selecting}
+use Rattle.sql_passes.specs.inside.Ahead.{any_ahead}
 use Rattle.sql_passes.specs.inside.Known.{Known, known_below}
 use Rattle.sql_passes.specs.inside.Lists.{kind_of, end_of}
 use Rattle.sql_passes.specs.inside.Tested.{any_from}
 use Rattle.sql_passes.specs.inside.Typing.{typing}
 use Rattle.sql_passes.specs.inside.Views.{Views}
 use Rattle.sql_passes.specs.inside.Walks.{walked}
+use Rattle.sql_passes.proofs.Ahead.{any-whole, over-sites}
 use Rattle.sql_passes.proofs.Around.{same-sites, seen_at, walks-statement}
 use Rattle.sql_passes.proofs.Seen.{Out, PartOut, of_kind, statement-seen}
 use Rattle.sql_passes.proofs.Tested.{any-flat, any-sites}
@@ -78,3 +80,18 @@ module _ (X : View → FlatKind → Roses FlatKind → Type 0) (Y : Place → Ro
       → b ≡ list_any (λ x. test x.kind) nodes → Decides b (AnyOf (PartOut X Y O D S C Z) (parts [] s))
   decides-nodes test d s nodes b is h =
       decides-backward (λ k gs. test k) d s nodes b is (h ∙ sym (each-alone test 0 nodes))
+
+  -- tests that read ahead
+  pub decides-ahead : (test : FlatKind → Roses FlatKind → Bool) (ahead : ℕ → FlatNode → List FlatNode → Bool)
+      → ((n : ℕ) (k : FlatKind) (ts : Roses FlatKind) (rest : List FlatNode)
+      → ahead n (flat_node k (n + suc (sizes ts))) (flats flat_node (n + 1) ts rest) ≡ test k ts)
+      → ((v : View) (k : FlatKind) (w : Known) → Decides (test k w.kids) (of_kind X Y O D S C Z v k w))
+      → (s : Statement) (nodes : List FlatNode) (b : Bool) → nodes ≡ flat_of s
+      → b ≡ any_ahead ahead 0 nodes → Decides b (AnyOf (PartOut X Y O D S C Z) (parts [] s))
+  decides-ahead test ahead same d s nodes b is h =
+      let seen = statement-seen X Y O D S C Z outside s in
+      let all = sites known_below outside (rose s) in
+      Decides-like b seen.0 seen.1
+      (Decides-at b (list_any (λ x. test x.kind x.within.kids) all)
+      (h ∙ ap (any_ahead ahead 0) is ∙ any-whole test ahead same (rose s) ∙ over-sites test outside (rose s))
+      (any-decides (Out X Y O D S C Z) (λ x. test x.kind x.within.kids) (λ x. d x.around.clause x.kind x.within) all))

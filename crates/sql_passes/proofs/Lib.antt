@@ -1,9 +1,11 @@
 pub mod Absent
+pub mod Ahead
 pub mod Alike
 pub mod Alternatives
 pub mod Around
 pub mod ByNames
 pub mod Clashes
+pub mod ClauseKinds
 pub mod Decided
 pub mod Declared
 pub mod EmptyLists

@@ -1,4 +1,6 @@
 -- Devices: what the loops over a flat list do, turn by turn, what trees of nodes give, and tests of leaves.
+pub mod Ahead
+pub mod Clauses
 pub mod Dialects
 pub mod Ends
 pub mod Known

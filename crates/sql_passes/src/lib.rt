@@ -1,6 +1,7 @@
 //! The rules that a statement breaks, by loops over its flat list.
 #![tactic(auto)]
 
+mod clauses;
 mod dialects;
 mod given;
 mod judging;
@@ -14,6 +15,7 @@ mod tables;
 mod types;
 mod typing;
 
+pub use clauses::is_flat_incompatible;
 pub use dialects::is_flat_unsupported;
 pub use names::{Names, Scoped, names_of_flat};
 pub use typing::{Typed, types_of_flat};
