@@ -160,8 +160,11 @@ impl Judged {
 
     /// Of a value.
     pub(crate) fn value(ty: SqlType, value: &Value) -> Judged
-        ensures { judged_of result
-            ≡ record { given = one (Some ty); mismatched = not (value_fits ty value.now); empty = false } }
+        ensures { judged_of result ≡ record {
+          given = one (Some ty);
+          mismatched = not (value_fits ty value.now);
+          empty = false;
+        } }
     {
         Judged {
             given: Given::One(Some(ty)),
@@ -215,7 +218,8 @@ impl Judged {
 
     /// Of an order, which may lack items.
     pub(crate) fn order(empty: bool) -> Judged
-        ensures { judged_of result ≡ record { given = one None; mismatched = false; empty = empty } }
+        ensures { judged_of result
+            ≡ record { given = one None; mismatched = false; empty = empty } }
     {
         Judged {
             given: Given::One(None),
