@@ -44,20 +44,26 @@ module _ (X : View → FlatKind → Roses FlatKind → Type 0) (Y : Place → Ro
   decides-rule R to back ps b d =
       Decides-like b (any_each (PartOut X Y O D S C Z) R to ps) (any_each R (PartOut X Y O D S C Z) back ps) d
 
-  -- the loop from the last node on
+  -- a loop from the last node on
+  pub decides-folded : {A : Type 0} (over : FlatKind → List A → A) (test : FlatKind → List A → Bool)
+      → ((v : View) (k : FlatKind) (w : Known) → Decides (test k (folded_each over w.kids)) (of_kind X Y O D S C Z v k w))
+      → (s : Statement) (nodes : List FlatNode) (b : Bool) → nodes ≡ flat_of s
+      → b ≡ any_from over test kind_of end_of 0 nodes → Decides b (AnyOf (PartOut X Y O D S C Z) (parts [] s))
+  decides-folded over test d s nodes b is h =
+      let seen = statement-seen X Y O D S C Z outside s in
+      let all = sites known_below outside (rose s) in
+      Decides-like b seen.0 seen.1
+      (Decides-at b (list_any (λ x. test x.kind (folded_each over x.within.kids)) all)
+      (h ∙ ap (any_from over test kind_of end_of 0) is
+      ∙ any-flat over test kind_of end_of flat_node (λ _ _. refl) (λ _ _. refl) (rose s)
+      ∙ any-sites over test outside (rose s))
+      (any-decides (Out X Y O D S C Z) (λ x. test x.kind (folded_each over x.within.kids)) (λ x. d x.around.clause x.kind x.within) all))
+
   pub decides-backward : (test : FlatKind → List Given → Bool)
       → ((v : View) (k : FlatKind) (w : Known) → Decides (test k (folded_each typing w.kids)) (of_kind X Y O D S C Z v k w))
       → (s : Statement) (nodes : List FlatNode) (b : Bool) → nodes ≡ flat_of s
       → b ≡ any_from typing test kind_of end_of 0 nodes → Decides b (AnyOf (PartOut X Y O D S C Z) (parts [] s))
-  decides-backward test d s nodes b is h =
-      let seen = statement-seen X Y O D S C Z outside s in
-      let all = sites known_below outside (rose s) in
-      Decides-like b seen.0 seen.1
-      (Decides-at b (list_any (λ x. test x.kind (folded_each typing x.within.kids)) all)
-      (h ∙ ap (any_from typing test kind_of end_of 0) is
-      ∙ any-flat typing test kind_of end_of flat_node (λ _ _. refl) (λ _ _. refl) (rose s)
-      ∙ any-sites typing test outside (rose s))
-      (any-decides (Out X Y O D S C Z) (λ x. test x.kind (folded_each typing x.within.kids)) (λ x. d x.around.clause x.kind x.within) all))
+  decides-backward = decides-folded typing
 
   -- the loop from the first node on
   pub decides-forward : (test : Site Views FlatKind → Bool)

@@ -15,10 +15,13 @@ pub mod Meetings
 pub mod NamesTell
 pub mod Opening
 pub mod OutOfScope
+pub mod PaddedRows
+pub mod PaddingStacking
 pub mod Relations
 pub mod Rooted
 pub mod Seen
 pub mod Selected
+pub mod SelectedPlaces
 pub mod SourceLeaves
 pub mod Stacking
 pub mod Tested

@@ -5,6 +5,8 @@ pub mod Dialects
 pub mod Ends
 pub mod Known
 pub mod Lists
+pub mod Padding
+pub mod PaddingStacks
 pub mod Sites
 pub mod Stacks
 pub mod Tables

@@ -82,7 +82,7 @@ fn is_seen(whole: bool, view: &[Origin<'_>], origin: Origin<'_>) -> bool
     false
 }
 
-fn origin_under<'s>(alias: &'s Option<SqlText>, column: &'s Column) -> Origin<'s>
+pub(crate) fn origin_under<'s>(alias: &'s Option<SqlText>, column: &'s Column) -> Origin<'s>
     ensures { origin_of result ≡ record { alias = alias.now; table = column.now.table } }
 {
     let table = column.table();
