@@ -1,0 +1,7 @@
+pub mod Framing
+pub mod Fusing
+pub mod Keeping
+pub mod Pouring
+pub mod Reading
+pub mod Turning
+pub mod Written

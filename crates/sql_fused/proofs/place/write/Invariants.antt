@@ -1,0 +1,22 @@
+use Rattle.std.proofs.Common.{◌≡◌, ◌+◌, ◌-◌, ◌*◌, ◌≤◌, true, drop, length, sum_by, []}
+use Rattle.sql_fused.specs.inside.Sinks.{Fits, poured, sunk}
+use Rattle.sql_fused.specs.inside.Turns.{frames, told_from}
+use Rattle.sql_fused.proofs.place.write.Given as goal
+
+abbrev pub decreases-loop-place : goal.decreases-loop-place
+decreases-loop-place g l = 2 * (length l.nodes - l.place.index) + length l.place.«open».items
+
+abbrev pub invariant-loop-place : goal.invariant-loop-place
+invariant-loop-place g l = record {
+  told :
+      poured g.DB.Backend.speaks (sunk g.DB.QueryBuilder.QueryBuilder.text g.DB.QueryBuilder.QueryBuilder.count l.sink)
+      (told_from g.DB.Backend.speaks (frames l.place.«open».items) l.place.first l.place.index (drop l.place.index l.nodes))
+      ≡ poured g.DB.Backend.speaks (sunk g.DB.QueryBuilder.QueryBuilder.text g.DB.QueryBuilder.QueryBuilder.count l.initial.sink)
+      (told_from g.DB.Backend.speaks [] true 0 l.nodes);
+  fits :
+      Fits g.DB.Backend.speaks (sunk g.DB.QueryBuilder.QueryBuilder.text g.DB.QueryBuilder.QueryBuilder.count l.initial.sink).count
+      → Fits g.DB.Backend.speaks (sunk g.DB.QueryBuilder.QueryBuilder.text g.DB.QueryBuilder.QueryBuilder.count l.sink).count;
+  within : l.place.index ≤ length l.nodes;
+  begun : sum_by (λ o. o.begun) l.place.«open».items ≤ l.place.index;
+  cost : l.steps + length l.place.«open».items ≤ l.initial.steps + 2 * l.place.index;
+}
