@@ -1,10 +1,9 @@
 -- What the loop has written of the list of a statement.
-use Rattle.std.proofs.Common.{◌≡◌, ◌<◌, ◌≤◌, ℕ, Bool, true, List, [], ◌∷◌, ◌++◌, length, Option, Result, Ok, Err, IsTrue, refl, sym, ap, ◌∙◌, subst, arith}
+use Rattle.std.proofs.Common.{◌≡◌, ◌<◌, ◌≤◌, true, List, [], length, Ok, Err, IsTrue, refl, sym, ap, ◌∙◌, subst, arith}
 use Rattle.sql_dialect.specs.Written.{numbers, MAX_BINDS}
 use Rattle.sql_dialect.specs.declared.backend.Dialect.{Dialect}
-use Rattle.sql_dialect.specs.declared.builder.BindError.{BindError}
 use Rattle.sql_dialect.specs.declared.builder.BindError.TheVariants.{TooManyBinds}
-use Rattle.sql_pass.specs.Pieces.{Piece, text_of, count_of, values_of, is_safe}
+use Rattle.sql_pass.specs.Pieces.{text_of, count_of, values_of, is_safe}
 use Rattle.sql_node.specs.Pieces.{pieces}
 use Rattle.sql_node.specs.Tree.{Statement}
 use Rattle.sql_loops.proofs.Telling.{tells-tree}

@@ -7,7 +7,7 @@ use Rattle.sql_dialect.specs.declared.backend.Dialect.TheVariants.{Pg, Mysql, Sq
 use Rattle.sql_pass.specs.Bounds.{of_i16}
 use Rattle.sql_pass.specs.Parts.{pieces_of_option}
 use Rattle.sql_pass.specs.Paths.{dotted, path_pieces, column_pieces}
-use Rattle.sql_pass.specs.Pieces.{Piece, one, Text, Ident, values_of, is_safe}
+use Rattle.sql_pass.specs.Pieces.{Piece, one, values_of, is_safe}
 use Rattle.sql_leaf.specs.Limits.{limit_offset_pieces}
 use Rattle.sql_leaf.specs.Locks.{locking_pieces}
 use Rattle.sql_leaf.specs.Positions.{direction_pieces, position_pieces}

@@ -145,12 +145,15 @@ pub bind-written : (d : Dialect) (s t : Sunk) (b : Bound) → t.text ≡ s.text 
     → Writes d s (one (Bind b)) (Ok tt) t
 unfolding Texted texted one
 bind-written d s t b text count values safe free =
-    writes ((λ i. record {
-      text = (text ∙ ap (λ x. s.text ++ x) (sym (append-nil (placeholder d (s.count + 1))))) i;
-      count = count i;
-      values = values i;
-      safe = safe i;
-    }), λ h. subst (λ n. Fits d n) (sym count) (fits-bind d s.count free h))
+    writes (
+      (λ i. record {
+        text = (text ∙ ap (λ x. s.text ++ x) (sym (append-nil (placeholder d (s.count + 1))))) i;
+        count = count i;
+        values = values i;
+        safe = safe i;
+      }),
+      λ h. subst (λ n. Fits d n) (sym count) (fits-bind d s.count free h),
+    )
 
 -- more values than there are numbers
 pub overflows-values : (d : Dialect) (n : ℕ) (ps : List Piece) → IsTrue (numbers d) → MAX_BINDS < n + length (values_of ps)
@@ -206,8 +209,10 @@ module _ {d : Dialect} {s : Sunk} {ps : List Piece} where
       → is_safe ps ≡ true → Pours d s ps (Ok tt) u
   unfolding Poured Texted keeping
   writes-keep {t} {u} {vs} w k v a =
-      pours (k ∙ ap (λ x. keeping x vs) (texted_by w).0 ∙ texted-poured d s ps vs v a,
-      λ h. subst (λ x. Fits d x.count) (sym k) ((texted_by w).1 h))
+      pours (
+        k ∙ ap (λ x. keeping x vs) (texted_by w).0 ∙ texted-poured d s ps vs v a,
+        λ h. subst (λ x. Fits d x.count) (sym k) ((texted_by w).1 h),
+      )
 
   pub writes-fail : {t u : Sunk} {e : BindError} {r : Result (Unit {0}) BindError} → Writes d s ps (Err e) t → r ≡ Err e
       → Pours d s ps r u

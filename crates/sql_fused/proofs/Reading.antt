@@ -1,8 +1,7 @@
 -- What is read ahead in a list is what is below a node of its tree.
-use Rattle.std.proofs.Common.{◌≡◌, ℕ, suc, ◌+◌, ◌-◌, Bool, List, [], ◌∷◌, ◌++◌, Option, map, take, length, refl, sym, ap, ◌∙◌, append_assoc, append-nil, arith}
+use Rattle.std.proofs.Common.{◌≡◌, ℕ, suc, ◌+◌, ◌-◌, List, [], ◌∷◌, ◌++◌, map, take, refl, sym, ap, ◌∙◌, append_assoc, append-nil, arith}
 use Rattle.std.proofs.lemmas.List.{map-append}
 use Rattle.sql_dialect.specs.declared.backend.Dialect.{Dialect}
-use Rattle.sql_pass.specs.Pieces.{Piece}
 use Rattle.sql_rose.specs.Rose.{Rose, Roses, node, none, more, size, sizes, flat, flats}
 use Rattle.sql_flat.specs.Flat.{flat_node}
 use Rattle.sql_flat.specs.declared.kind.FlatKind.{FlatKind}

@@ -1,5 +1,5 @@
 -- Turns of the loop.
-use Rattle.std.proofs.Common.{◌≡◌, ◌<◌, ◌≤◌, ◌-◌, ◌+◌, ◌||◌, nat_le, ℕ, suc, Bool, true, false, List, [], ◌∷◌, ◌++◌, map, length, take, drop, get_or, if◌then◌else◌, Option, None, Some, Result, Ok, Err, refl, sym, ap, ◌∙◌, subst, arith, append_assoc}
+use Rattle.std.proofs.Common.{◌≡◌, ◌<◌, ◌≤◌, ◌-◌, ◌+◌, ◌||◌, nat_le, ℕ, Bool, true, false, List, [], ◌∷◌, ◌++◌, length, drop, get_or, if◌then◌else◌, Option, None, Some, Result, Ok, Err, refl, sym, ap, ◌∙◌, subst, arith, append_assoc}
 use Rattle.std.proofs.lemmas.Bool.Decides.{nat_tests}
 use Rattle.std.proofs.lemmas.List.{drop-drop, drop_all, drop_more}
 use Rattle.sql_dialect.specs.declared.backend.Dialect.{Dialect}
@@ -15,7 +15,7 @@ use Rattle.sql_flat.specs.declared.kind.FlatNode.{FlatNode}
 use Rattle.sql_fused.proofs.Pouring.{poured-append, poured-none, overflows-left}
 use Rattle.sql_fused.specs.inside.Sinks.{Sunk, poured, Fits, Overflows, Poured, Pours, pours, poured_by}
 use Rattle.sql_fused.specs.inside.Turns.{Frames, closed_first, closing, end_of, has_ended, leading, led_first, onward, opened, opened_first, opened_index, opening, outer, parting, reads, told_after, told_from, with_child}
-use Rattle.sql_fused.specs.inside.Writing.{after, before, between, comma, is_list, kind_of, whole_of}
+use Rattle.sql_fused.specs.inside.Writing.{after, before, between, comma, is_list, kind_of}
 
 module _ (d : Dialect) where
   -- ---- the innermost node is closed
@@ -223,5 +223,8 @@ pub ended : (d : Dialect) (s start : Sunk) (first : Bool) (i : ℕ) (nodes : Lis
     → (Fits d start.count → Fits d s.count) → Pours d start whole (Ok tt) s
 unfolding Poured
 ended d s start first i nodes fs whole h none over fits =
-    pours (sym (poured-none d s)
-    ∙ ap (poured d s) (sym (λ j. told_from d (none j) first i (drop_all i nodes over j))) ∙ h, fits)
+    pours (
+      sym (poured-none d s)
+          ∙ ap (poured d s) (sym (λ j. told_from d (none j) first i (drop_all i nodes over j))) ∙ h,
+      fits,
+    )

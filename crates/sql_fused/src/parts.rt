@@ -2,7 +2,6 @@
 #![tactic(auto, using(crate::proofs::Pouring::keeping_on))]
 
 ghost use Rattle.std.specs.Prelude.{◌≡◌, ◌++◌, true, false, OnOk, IsErrOf};
-ghost use Rattle.sql_pass.specs.Bounds.{of_i16, of_i32, of_i64};
 ghost use Rattle.sql_leaf.specs.Limits.{limit_offset_pieces};
 ghost use Rattle.sql_leaf.specs.Sources.{table_source_pieces};
 ghost use Rattle.sql_fused.specs.inside.Kept.{big_values, row_values, sample_values, seed_values};
@@ -60,15 +59,23 @@ impl<DB: Backend> Sink<DB> {
     }
 
     /// Appends the limit and the offset.
-    #[tactic(auto, using(crate::proofs::Pouring::keeps, crate::proofs::Keeping::kept))]
+    #[tactic(auto, using(crate::proofs::Pouring::keeps, crate::proofs::Keeping::kept, crate::proofs::Pouring::pouring))]
     pub(crate) fn push_rows(&mut self, rows: LimitOffsetClause) -> Result<(), BindError>
         ensures { Pours DB.speaks (sunk DB.QueryBuilder.text DB.QueryBuilder.count self.old)
             (limit_offset_pieces DB.speaks false rows.limit_clause rows.offset_clause) result
             (sunk DB.QueryBuilder.text DB.QueryBuilder.count self.new) }
     {
-        self.write(&rows)?;
-        self.keep_rows(rows)?;
-        Ok(())
+        match rows {
+            LimitOffsetClause {
+                limit_clause: None,
+                offset_clause: None,
+            } => Ok(()),
+            _ => {
+                self.write(&rows)?;
+                self.keep_rows(rows)?;
+                Ok(())
+            }
+        }
     }
 
     /// Appends the limit and the offset of a boxed statement.

@@ -5,7 +5,7 @@ ghost use Rattle.std.specs.Prelude.{◌≡◌, [], ◌++◌, ◌+◌, ◌-◌, �
 ghost use Rattle.std.specs.List.{sum_by};
 ghost use Rattle.sql_fused.specs.inside.Sinks.{Pours, sunk};
 ghost use Rattle.sql_fused.specs.inside.Turns.{closed_first, closing, frames, has_ended, leading, led_first, onward as next_index, opened, opened_first, opened_index, opening, outer, parting, told_from, with_child};
-ghost use Rattle.sql_fused.specs.inside.Writing.{is_list as writes_nothing, kind_of, or_none, before, whole_of};
+ghost use Rattle.sql_fused.specs.inside.Writing.{is_list as writes_nothing, kind_of, before, whole_of};
 
 use crate::Steps;
 use crate::sink::Sink;

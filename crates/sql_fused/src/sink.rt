@@ -2,14 +2,10 @@
 #![tactic(auto, using(crate::proofs::Pouring::pouring))]
 
 ghost use Rattle.std.specs.Prelude.{◌≡◌, ◌∷◌, [], Ok, OnOk, IsErrOf};
-ghost use Rattle.sql_pass.specs.Bounds.{of_i16, of_i32, of_i64};
 ghost use Rattle.sql_pass.specs.Pieces.{one, Text, Ident, Bind, Unsafe};
 ghost use Rattle.sql_pass.specs.declared.value.Bound.{Bound};
-ghost use Rattle.sql_pass.specs.declared.value.Bound.TheVariants.{Value as OneValue, List as ManyValues};
-ghost use Rattle.sql_leaf.specs.Limits.{limit_offset_pieces};
-ghost use Rattle.sql_leaf.specs.Sources.{table_source_pieces};
-ghost use Rattle.sql_fused.specs.inside.Kept.{IsPlain, big_values, row_values, sample_values};
-ghost use Rattle.sql_fused.specs.inside.Sinks.{Fits, Overflows, Pours, keeping, nothing, sunk, Writes};
+ghost use Rattle.sql_fused.specs.inside.Kept.{IsPlain};
+ghost use Rattle.sql_fused.specs.inside.Sinks.{Pours, keeping, nothing, sunk, Writes};
 
 use crate::Fused;
 use sql_dialect::{Backend, BindError, Dialect, QueryBuilder};

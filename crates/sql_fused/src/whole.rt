@@ -3,7 +3,8 @@
 
 ghost use Rattle.std.specs.Prelude.{◌≡◌, ◌∷◌, ◌++◌, Bool, List, IfOk, is_some, map, option_map, option_to_list};
 ghost use Rattle.sql_dialect.specs.Syntax.{array};
-ghost use Rattle.sql_pass.specs.Pieces.{one, Bind, Text, Unsafe};
+ghost use Rattle.sql_pass.specs.Paths.{path_pieces};
+ghost use Rattle.sql_pass.specs.Pieces.{one, Bind};
 ghost use Rattle.sql_pass.specs.declared.value.Bound.TheVariants.{Value as OneValue, List as ManyValues};
 ghost use Rattle.sql_leaf.specs.Positions.{position_pieces};
 ghost use Rattle.sql_leaf.specs.Sources.{alias_pieces};
@@ -71,7 +72,8 @@ fn end_in_values(nodes: &[FlatNode]) -> bool
 }
 
 fn is_among_whole(comparison: ArrayComparison, values: bool, below: &[FlatNode]) -> bool
-    ensures { (n : Bool) → result ≡ is_some (among_whole comparison n values (map kind_of below.now)) }
+    ensures { (n : Bool) → result
+        ≡ is_some (among_whole comparison n values (map kind_of below.now)) }
 {
     match comparison {
         ArrayComparison::PgStyleArrayComparison => false,
@@ -184,6 +186,25 @@ fn copy_values(alloc: Global, nodes: &[FlatNode]) -> Result<Vec<Value>, NoMemory
     Ok(all)
 }
 
+fn push_path<DB: Backend>(
+    schema: Option<&str>,
+    name: &str,
+    sink: &mut Sink<DB>,
+) -> Result<(), BindError>
+    ensures { Pours DB.speaks (sunk DB.QueryBuilder.text DB.QueryBuilder.count sink.old)
+        (path_pieces (option_map (λ s. s.now) schema.entry) name.now) result
+        (sunk DB.QueryBuilder.text DB.QueryBuilder.count sink.new) }
+{
+    match schema {
+        None => sink.push_identifier(name),
+        Some(schema) => {
+            sink.push_identifier(schema)?;
+            sink.push_sql(".")?;
+            sink.push_identifier(name)
+        }
+    }
+}
+
 fn push_column<DB: Backend>(
     alias: &Option<SqlText>,
     column: &Column,
@@ -194,7 +215,12 @@ fn push_column<DB: Backend>(
         (sunk DB.QueryBuilder.text DB.QueryBuilder.count sink.new) }
 {
     match alias {
-        None => sink.push_part(column),
+        None => {
+            let (schema, name) = column.table().path();
+            push_path(schema, name, sink)?;
+            sink.push_sql(".")?;
+            sink.push_identifier(column.sql_name())
+        }
         Some(alias) => {
             sink.push_identifier(alias.as_str())?;
             sink.push_sql(".")?;
@@ -204,11 +230,7 @@ fn push_column<DB: Backend>(
 }
 
 #[tactic(auto, using(crate::proofs::Pouring::keeps))]
-fn push_value<DB: Backend>(
-    ty: SqlType,
-    value: &Value,
-    sink: &mut Sink<DB>,
-) -> Result<(), BindError>
+fn push_value<DB: Backend>(ty: SqlType, value: &Value, sink: &mut Sink<DB>) -> Result<(), BindError>
     ensures { Pours DB.speaks (sunk DB.QueryBuilder.text DB.QueryBuilder.count sink.old)
         (one (Bind (OneValue ty value.now))) result
         (sunk DB.QueryBuilder.text DB.QueryBuilder.count sink.new) }

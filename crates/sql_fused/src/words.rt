@@ -235,11 +235,7 @@ pub(crate) fn push_before<DB: Backend>(
 }
 
 #[tactic(auto, using(crate::proofs::Pouring::parting))]
-fn push_second<DB: Backend>(
-    text: &str,
-    begun: usize,
-    sink: &mut Sink<DB>,
-) -> Result<(), BindError>
+fn push_second<DB: Backend>(text: &str, begun: usize, sink: &mut Sink<DB>) -> Result<(), BindError>
     ensures { Pours DB.speaks (sunk DB.QueryBuilder.text DB.QueryBuilder.count sink.old)
         (at_second (one (Text text.now)) begun) result
         (sunk DB.QueryBuilder.text DB.QueryBuilder.count sink.new) }
@@ -275,10 +271,7 @@ fn push_all<DB: Backend>(rule: DuplicateRule, sink: &mut Sink<DB>) -> Result<(),
     }
 }
 
-fn push_combinator<DB: Backend>(
-    combining: &Combining,
-    sink: &mut Sink<DB>,
-) -> Result<(), BindError>
+fn push_combinator<DB: Backend>(combining: &Combining, sink: &mut Sink<DB>) -> Result<(), BindError>
     ensures { Pours DB.speaks (sunk DB.QueryBuilder.text DB.QueryBuilder.count sink.old)
         (one (Text (combinator_sql combining.now.combinator)) ++ all_pieces combining.now.duplicates) result
         (sunk DB.QueryBuilder.text DB.QueryBuilder.count sink.new) }
@@ -315,7 +308,11 @@ fn push_among_word<DB: Backend>(
         (at_second (one (Text (among_word (array DB.speaks) negated))) begun) result
         (sunk DB.QueryBuilder.text DB.QueryBuilder.count sink.new) }
 {
-    push_second(among_text(array_comparison(sink.dialect()), negated), begun, sink)
+    push_second(
+        among_text(array_comparison(sink.dialect()), negated),
+        begun,
+        sink,
+    )
 }
 
 /// Appends what is written before the next child of a node, of which so many were begun.
@@ -363,23 +360,28 @@ pub(crate) fn push_between<DB: Backend>(
     }
 }
 
-/// Appends the direction of an item.
-#[tactic(auto, using(crate::proofs::Keeping::plain))]
 fn push_direction<DB: Backend>(by: Direction, sink: &mut Sink<DB>) -> Result<(), BindError>
     ensures { Pours DB.speaks (sunk DB.QueryBuilder.text DB.QueryBuilder.count sink.old)
         (direction_pieces by) result
         (sunk DB.QueryBuilder.text DB.QueryBuilder.count sink.new) }
 {
-    sink.push_part(&by)
+    match by {
+        Direction::None => Ok(()),
+        Direction::Asc => sink.push_sql(" ASC"),
+        Direction::Desc => sink.push_sql(" DESC"),
+    }
 }
 
-#[tactic(auto, using(crate::proofs::Keeping::plain))]
+#[tactic(auto, using(crate::proofs::Keeping::plain, crate::proofs::Pouring::pouring))]
 fn push_lock<DB: Backend>(lock: LockingClause, sink: &mut Sink<DB>) -> Result<(), BindError>
     ensures { Pours DB.speaks (sunk DB.QueryBuilder.text DB.QueryBuilder.count sink.old)
         (locking_pieces lock) result
         (sunk DB.QueryBuilder.text DB.QueryBuilder.count sink.new) }
 {
-    sink.push_part(&lock)
+    match lock {
+        LockingClause::NoLockingClause => Ok(()),
+        LockingClause::LockingClause(_, _) => sink.push_part(&lock),
+    }
 }
 
 fn push_select_end<DB: Backend>(
@@ -401,10 +403,7 @@ fn push_select_end<DB: Backend>(
 }
 
 /// Appends what is written after the last child of a node.
-pub(crate) fn push_after<DB: Backend>(
-    kind: &FlatKind,
-    sink: &mut Sink<DB>,
-) -> Result<(), BindError>
+pub(crate) fn push_after<DB: Backend>(kind: &FlatKind, sink: &mut Sink<DB>) -> Result<(), BindError>
     ensures { Pours DB.speaks (sunk DB.QueryBuilder.text DB.QueryBuilder.count sink.old)
         (after DB.speaks kind.now) result
         (sunk DB.QueryBuilder.text DB.QueryBuilder.count sink.new) }

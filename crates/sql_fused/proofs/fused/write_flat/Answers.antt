@@ -1,4 +1,4 @@
-use Rattle.std.proofs.Common.{◌≡◌, ◌∙◌, sym, subst, Err}
+use Rattle.std.proofs.Common.{◌≡◌, ◌∙◌}
 use Rattle.std.proofs.lemmas.Result.{err_from_is_err_and}
 use Rattle.sql_dialect.specs.declared.builder.BindError.TheVariants.{TooManyBinds}
 use Rattle.sql_fused.proofs.Fusing.{fused-many, fused-room, fused-safe, fused-text, fused-values}

@@ -1,4 +1,4 @@
-use Rattle.std.proofs.Common.{◌≡◌, ◌+◌, map, subst, ◌<◌, ◌≤◌, ap, sym, refl, ◌∙◌, arith, drop, length, true, false, [], get_or}
+use Rattle.std.proofs.Common.{◌≡◌, ◌+◌, map, subst, ◌<◌, ◌≤◌, ap, sym, ◌∙◌, arith, drop, length, true, false, [], get_or}
 use Rattle.std.proofs.lemmas.Grind.{common_steps}
 use Rattle.sql_fused.proofs.Turning.{begins-is, closes-is, ended, opened-later, opened-within, pours-fits, refused, turned}
 use Rattle.sql_fused.specs.inside.Sinks.{poured, sunk}

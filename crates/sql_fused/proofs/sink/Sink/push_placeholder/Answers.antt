@@ -1,5 +1,4 @@
-use Rattle.std.proofs.Common.{sym, ◌∙◌, ap, refl}
-use Rattle.sql_dialect.specs.Written.{numbers, placeholder, raised}
+use Rattle.std.proofs.Common.{sym, refl}
 use Rattle.sql_fused.proofs.Pouring.{bind-written}
 use Rattle.sql_fused.proofs.sink.Sink.push_placeholder.Goals as goal
 
