@@ -16,14 +16,17 @@ use Rattle.sql_fused.specs.inside.Sinks.{Sunk, nothing, poured, Fits, Overflows,
 use Rattle.sql_fused.specs.inside.Turns.{end_of, reads, told_from}
 use Rattle.sql_fused.specs.inside.Writing.{after, before, between, comma, is_list, kind_of, whole}
 
-flat-told : (d : Dialect) (s : Statement) (nodes : List FlatNode) → nodes ≡ flat_of s → told_from d [] true 0 nodes ≡ pieces d s
+flat-told : (d : Dialect) (s : Statement) (nodes : List FlatNode) → nodes ≡ flat_of s → told_from d [] true 0 nodes
+    ≡ pieces d s
 flat-told d s nodes is =
     ap (told_from d [] true 0) is
-    ∙ tells-tree flat_node kind_of end_of (reads d) is_list (before d) (between d) (after d) comma (λ _ _. refl) (λ _ _. refl) (whole d) (reads-whole d) (rose s)
+    ∙ tells-tree flat_node kind_of end_of (reads d) is_list (before d) (between d) (after d) comma (λ _ _. refl)
+    (λ _ _. refl) (whole d) (reads-whole d) (rose s)
     ∙ statement-written d s
 
 module _ {d : Dialect} {start t : Sunk} {nodes : List FlatNode} (s : Statement) where
-  fused : Pours d start (told_from d [] true 0 nodes) (Ok tt) t → start ≡ nothing → nodes ≡ flat_of s → t ≡ poured d nothing (pieces d s)
+  fused : Pours d start (told_from d [] true 0 nodes) (Ok tt) t → start ≡ nothing → nodes ≡ flat_of s
+      → t ≡ poured d nothing (pieces d s)
   unfolding Poured
   fused w none is = (poured_by w).0 ∙ (λ i. poured d (none i) (flat-told d s nodes is i))
 
@@ -48,11 +51,13 @@ module _ {d : Dialect} {start t : Sunk} {nodes : List FlatNode} (s : Statement) 
   unfolding Poured poured Fits
   fused-room w none is numbered more =
       let counted = ap (λ x. x.count) (fused w none is) ∙ count-values d 0 (pieces d s) numbered in
-      let fits = (poured_by w).1 (subst (λ x. IsTrue (numbers d) → x.count ≤ MAX_BINDS) (sym none) (λ h. omega arith)) numbered in
+      let fits =
+      (poured_by w).1 (subst (λ x. IsTrue (numbers d) → x.count ≤ MAX_BINDS) (sym none) (λ h. omega arith)) numbered in
       omega arith
 
   -- or there are more values than numbers
-  pub fused-many : Pours d start (told_from d [] true 0 nodes) (Err TooManyBinds) t → start ≡ nothing → nodes ≡ flat_of s
+  pub fused-many : Pours d start (told_from d [] true 0 nodes) (Err TooManyBinds) t → start ≡ nothing
+      → nodes ≡ flat_of s
       → IsTrue (numbers d) × (MAX_BINDS < length (values_of (pieces d s)))
   unfolding Poured Overflows
   fused-many w none is =

@@ -25,7 +25,8 @@ use Rattle.sql_fused.specs.inside.Kept.{IsPlain, row_values, sample_values, seed
 
 -- ---- parts that bind nothing
 
-path-plain : (schema : Option (List ℕ)) (name : List ℕ) (ps : List Piece) → IsPlain ps → IsPlain (path_pieces schema name ++ ps)
+path-plain : (schema : Option (List ℕ)) (name : List ℕ) (ps : List Piece) → IsPlain ps
+    → IsPlain (path_pieces schema name ++ ps)
 unfolding one
 path-plain None name ps h = h
 path-plain (Some schema) name ps h = h
@@ -62,7 +63,8 @@ locking-plain (Locked m by) = locked-plain m by
 
 -- ---- limits and offsets
 
-pub rows-values : (d : Dialect) (boxed : Bool) (l o : Option ℤ) → values_of (limit_offset_pieces d boxed l o) ≡ row_values d l o
+pub rows-values : (d : Dialect) (boxed : Bool) (l o : Option ℤ) → values_of (limit_offset_pieces d boxed l o)
+    ≡ row_values d l o
 unfolding one
 rows-values Pg boxed None None = refl
 rows-values Mysql boxed None None = refl
@@ -101,12 +103,14 @@ rows-safe Bracket boxed (Some l) (Some o) = refl
 
 -- ---- tables
 
-path-values : (schema : Option (List ℕ)) (name : List ℕ) (ps : List Piece) → values_of (path_pieces schema name ++ ps) ≡ values_of ps
+path-values : (schema : Option (List ℕ)) (name : List ℕ) (ps : List Piece) → values_of (path_pieces schema name ++ ps)
+    ≡ values_of ps
 unfolding one
 path-values None name ps = refl
 path-values (Some schema) name ps = refl
 
-path-safe : (schema : Option (List ℕ)) (name : List ℕ) (ps : List Piece) → is_safe (path_pieces schema name ++ ps) ≡ is_safe ps
+path-safe : (schema : Option (List ℕ)) (name : List ℕ) (ps : List Piece) → is_safe (path_pieces schema name ++ ps)
+    ≡ is_safe ps
 unfolding one
 path-safe None name ps = refl
 path-safe (Some schema) name ps = refl
@@ -122,7 +126,8 @@ unfolding one
 sampled-values schema name None = path-values schema name []
 sampled-values schema name (Some s) = path-values schema name _ ∙ ap (λ vs. of_i16 s.portion ∷ vs) (seed-values s.seed)
 
-pub table-values : (t : TableDecl) (only : Bool) (s : Option Tablesample) → values_of (table_source_pieces t only s) ≡ sample_values s
+pub table-values : (t : TableDecl) (only : Bool) (s : Option Tablesample) → values_of (table_source_pieces t only s)
+    ≡ sample_values s
 unfolding one
 table-values t false s = sampled-values t.schema t.sql_name s
 table-values t true s = sampled-values t.schema t.sql_name s
@@ -173,6 +178,17 @@ locking-none l = (locking-plain l).0
 pub locking-safe : (l : LockingClause) → is_safe (locking_pieces l) ≡ true
 locking-safe l = (locking-plain l).1
 
-pub ruleset plain = (column-none, column-safe, alias-none, alias-safe, direction-none, direction-safe, position-none, position-safe, locking-none, locking-safe)
+pub ruleset plain = (
+  column-none,
+  column-safe,
+  alias-none,
+  alias-safe,
+  direction-none,
+  direction-safe,
+  position-none,
+  position-safe,
+  locking-none,
+  locking-safe,
+)
 
 pub ruleset kept = (rows-values, rows-safe, table-values, table-safe)

@@ -32,7 +32,17 @@ poured-none d s = λ i. record {
 
 pub poured-append : (d : Dialect) (s : Sunk) (ps qs : List Piece) → poured d (poured d s ps) qs ≡ poured d s (ps ++ qs)
 unfolding poured
-poured-append d s ps qs = grind (arith, common_steps, text_of-append d s.count ps qs, count_of-append d s.count ps qs, values_of-append ps qs, is_safe-append ps qs, and-assoc s.safe (is_safe ps) (is_safe qs))
+poured-append d s ps qs =
+    grind (
+      arith,
+      common_steps,
+      text_of-append d s.count ps qs,
+      count_of-append d s.count ps qs,
+      values_of-append ps
+          qs,
+      is_safe-append ps qs,
+      and-assoc s.safe (is_safe ps) (is_safe qs),
+    )
 
 count-at-up : (d : Dialect) (n : ℕ) (p : Piece) → n ≤ count_at d n p
 count-at-up d n (Text t) = omega arith
@@ -55,7 +65,8 @@ count-up d n (p ∷ ps) =
     omega arith
 
 -- a dialect that numbers placeholders counts the values
-count-one : (d : Dialect) (n : ℕ) (p : Piece) (ps : List Piece) → numbers d ≡ true → count_at d n p + length (values_of ps) ≡ n + length (values_of (p ∷ ps))
+count-one : (d : Dialect) (n : ℕ) (p : Piece) (ps : List Piece) → numbers d ≡ true
+    → count_at d n p + length (values_of ps) ≡ n + length (values_of (p ∷ ps))
 count-one d n (Text t) ps h = refl
 count-one d n (Ident t) ps h = refl
 count-one Pg n (Bind b) ps h = omega arith
@@ -68,7 +79,8 @@ count-one Sqlite n (ValueOnly b) ps h = cc
 count-one Bracket n (ValueOnly b) ps h = omega arith
 count-one d n Unsafe ps h = refl
 
-pub count-values : (d : Dialect) (n : ℕ) (ps : List Piece) → numbers d ≡ true → count_of d n ps ≡ n + length (values_of ps)
+pub count-values : (d : Dialect) (n : ℕ) (ps : List Piece) → numbers d ≡ true
+    → count_of d n ps ≡ n + length (values_of ps)
 count-values d n [] h = omega arith
 count-values d n (p ∷ ps) h = count-values d (count_at d n p) ps h ∙ count-one d n p ps h
 
@@ -79,7 +91,8 @@ overflows-left d n ps qs h =
     let b = count_of-append d n ps qs in
     (h.0, omega arith)
 
-pub overflows-right : (d : Dialect) (n : ℕ) (ps qs : List Piece) → Overflows d (count_of d n ps) qs → Overflows d n (ps ++ qs)
+pub overflows-right : (d : Dialect) (n : ℕ) (ps qs : List Piece) → Overflows d (count_of d n ps) qs
+    → Overflows d n (ps ++ qs)
 unfolding Overflows
 overflows-right d n ps qs h = let b = count_of-append d n ps qs in (h.0, omega arith)
 
@@ -108,7 +121,8 @@ module _ {d : Dialect} {s : Sunk} where
   pub pours-then : {t u : Sunk} {ps qs : List Piece} {r : Result (Unit {0}) BindError} → Pours d s ps (Ok tt) t
       → Pours d t qs r u → Pours d s (ps ++ qs) r u
   unfolding Poured
-  pours-then {t} {u} {ps} {qs} {r} a b = pours (poured-then d s t u ps qs r (poured_by a).0 (poured_by a).1 (poured_by b))
+  pours-then {t} {u} {ps} {qs} {r} a b =
+      pours (poured-then d s t u ps qs r (poured_by a).0 (poured_by a).1 (poured_by b))
 
   -- where the first are refused, all are
   pub pours-fail : {ps : List Piece} (qs : List Piece) {e : BindError} {t : Sunk} {r : Result (Unit {0}) BindError}
@@ -133,7 +147,8 @@ fits-bind Bracket n free h = λ is. let below = h is in by_test (λ e. free (ref
     by_test : ¬ (n ≡ MAX_BINDS) → n ≤ MAX_BINDS → n + 1 ≤ MAX_BINDS
     by_test f b = grind (arith, f, b)
 
-pub overflows-bind : (d : Dialect) (n : ℕ) (b : Bound) → IsTrue (numbers d) → n ≡ MAX_BINDS → Overflows d n (one (Bind b))
+pub overflows-bind : (d : Dialect) (n : ℕ) (b : Bound) → IsTrue (numbers d) → n ≡ MAX_BINDS
+    → Overflows d n (one (Bind b))
 unfolding Overflows one
 overflows-bind Pg n b is full = (is, omega arith)
 overflows-bind Mysql n b is full = cc
@@ -141,7 +156,8 @@ overflows-bind Sqlite n b is full = cc
 overflows-bind Bracket n b is full = (is, omega arith)
 
 pub bind-written : (d : Dialect) (s t : Sunk) (b : Bound) → t.text ≡ s.text ++ placeholder d (s.count + 1)
-    → t.count ≡ raised d s.count → t.values ≡ s.values → t.safe ≡ s.safe → ¬ (IsTrue (numbers d) × (s.count ≡ MAX_BINDS))
+    → t.count ≡ raised d s.count → t.values ≡ s.values → t.safe ≡ s.safe
+    → ¬ (IsTrue (numbers d) × (s.count ≡ MAX_BINDS))
     → Writes d s (one (Bind b)) (Ok tt) t
 unfolding Texted texted one
 bind-written d s t b text count values safe free =
@@ -156,13 +172,15 @@ bind-written d s t b text count values safe free =
     )
 
 -- more values than there are numbers
-pub overflows-values : (d : Dialect) (n : ℕ) (ps : List Piece) → IsTrue (numbers d) → MAX_BINDS < n + length (values_of ps)
+pub overflows-values : (d : Dialect) (n : ℕ) (ps : List Piece) → IsTrue (numbers d)
+    → MAX_BINDS < n + length (values_of ps)
     → Overflows d n ps
 unfolding Overflows
 overflows-values d n ps is more = let c = count-values d n ps is in (is, omega arith)
 
 pub fits-values : (d : Dialect) (n : ℕ) (ps : List Piece)
-    → (IsTrue (numbers d) → n ≤ MAX_BINDS → MAX_BINDS < n + length (values_of ps) → ⊥) → Fits d n → Fits d (count_of d n ps)
+    → (IsTrue (numbers d) → n ≤ MAX_BINDS → MAX_BINDS < n + length (values_of ps) → ⊥) → Fits d n
+    → Fits d (count_of d n ps)
 unfolding Fits
 fits-values d n ps room h = λ is.
     let c = count-values d n ps is in
@@ -184,7 +202,8 @@ texted-poured d s ps vs v a = λ i. record {
   safe = (sym (and-true s.safe) ∙ ap (λ b. s.safe && b) (sym a)) i;
 }
 
-pub texted-alone : (d : Dialect) (s : Sunk) (ps : List Piece) → values_of ps ≡ [] → is_safe ps ≡ true → texted d s ps ≡ poured d s ps
+pub texted-alone : (d : Dialect) (s : Sunk) (ps : List Piece) → values_of ps ≡ [] → is_safe ps ≡ true
+    → texted d s ps ≡ poured d s ps
 unfolding poured texted
 texted-alone d s ps v a = λ i. record {
   text = s.text ++ text_of d s.count ps;
@@ -193,7 +212,8 @@ texted-alone d s ps v a = λ i. record {
   safe = (sym (and-true s.safe) ∙ ap (λ b. s.safe && b) (sym a)) i;
 }
 
-alone : (d : Dialect) (s : Sunk) (ps : List Piece) (r : Result (Unit {0}) BindError) (t : Sunk) → Texted d s ps r t → IsPlain ps
+alone : (d : Dialect) (s : Sunk) (ps : List Piece) (r : Result (Unit {0}) BindError) (t : Sunk) → Texted d s ps r t
+    → IsPlain ps
     → Poured d s ps r t
 unfolding Poured Texted
 alone d s ps (Ok u) t w p = (w.0 ∙ texted-alone d s ps p.0 p.1, w.1)

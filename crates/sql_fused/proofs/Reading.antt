@@ -16,7 +16,8 @@ ends-kind [] k = refl
 ends-kind (x ∷ []) k = refl
 ends-kind (x ∷ (y ∷ ks)) k = ends-kind (y ∷ ks) k
 
-pub ends-last : (xs ys : List FlatNode) (x : FlatNode) → xs ≡ ys ++ x ∷ [] → ends_in_values (map kind_of xs) ≡ is_values x.kind
+pub ends-last : (xs ys : List FlatNode) (x : FlatNode) → xs ≡ ys ++ x ∷ [] → ends_in_values (map kind_of xs)
+    ≡ is_values x.kind
 ends-last xs ys x is =
     ap (λ l. ends_in_values (map kind_of l)) is
     ∙ ap ends_in_values (map-append kind_of ys (x ∷ [])) ∙ ends-kind (map kind_of ys) x.kind
@@ -30,7 +31,8 @@ mutual
       → map kind_of (take (size t + j) (flat flat_node m t rest)) ≡ kinds t ++ map kind_of (take j rest)
   tree-kinds m (node k ts) rest j =
       let e : suc (sizes ts) + j ≡ suc (sizes ts + j) = omega arith in
-      ap (λ n. map kind_of (take n (flat flat_node m (node k ts) rest))) e ∙ ap (λ l. k ∷ l) (trees-kinds (m + 1) ts rest j)
+      ap (λ n. map kind_of (take n (flat flat_node m (node k ts) rest))) e
+      ∙ ap (λ l. k ∷ l) (trees-kinds (m + 1) ts rest j)
 
   trees-kinds : (m : ℕ) (ts : Roses FlatKind) (rest : List FlatNode) (j : ℕ)
       → map kind_of (take (sizes ts + j) (flats flat_node m ts rest)) ≡ kinds_of ts ++ map kind_of (take j rest)

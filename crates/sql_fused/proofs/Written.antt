@@ -59,7 +59,8 @@ below-values : (t : SqlType) (vs : List Value) → values_in (kinds_of (elements
 below-values t [] = refl
 below-values t (v ∷ vs) = ap (λ l. v ∷ l) (below-values t vs)
 
-ends-last : (ks : List FlatKind) (k : FlatKind) (ls : List FlatKind) → ends_in_values (ks ++ k ∷ ls) ≡ ends_in_values (k ∷ ls)
+ends-last : (ks : List FlatKind) (k : FlatKind) (ls : List FlatKind) → ends_in_values (ks ++ k ∷ ls)
+    ≡ ends_in_values (k ∷ ls)
 ends-last [] k ls = refl
 ends-last (x ∷ []) k ls = refl
 ends-last (x ∷ (y ∷ ks)) k ls = ends-last (y ∷ ks) k ls
@@ -134,7 +135,8 @@ module _ (d : Dialect) where
       → kids K.Positions (suc j) (roses_of (λ x. leaf (K.Position x)) ps)
       ≡ commas false (map (λ x. position_pieces x.column x.direction) ps)
   positions-later j [] = refl
-  positions-later j (x ∷ ps) = ap (λ l. (comma ++ position_pieces x.column x.direction) ++ l) (positions-later (suc j) ps)
+  positions-later j (x ∷ ps) =
+      ap (λ l. (comma ++ position_pieces x.column x.direction) ++ l) (positions-later (suc j) ps)
 
   positions-first : (ps : List PositionalItem)
       → kids K.Positions 0 (roses_of (λ x. leaf (K.Position x)) ps)
@@ -182,7 +184,8 @@ clause_pieces d e f m o g h =
     ++ (maybe_pieces d (codes " WHERE ") m
     ++ (maybe_pieces d group_by g ++ (maybe_pieces d (codes " HAVING ") h ++ order_pieces d o))))
 
-written : (d : Dialect) (s : Selecting) (u : List Piece) (e : Expr) (f : From) (m : MaybeExpr) (o : Order) (g h : MaybeExpr)
+written : (d : Dialect) (s : Selecting) (u : List Piece) (e : Expr) (f : From) (m : MaybeExpr) (o : Order)
+    (g h : MaybeExpr)
     (form : Form) → kids d (K.Select s) 0 (after_distinct e f m o g h) ≡ clause_pieces d e f m o g h
     → behind_select d s.rows s.form ≡ end_pieces d s.rows form
     → (one (Text (codes "SELECT ")) ++ u)
@@ -206,9 +209,12 @@ on-written d s u ts h = rw (h, clause-next d s 1 0 ts) (simp (append_assoc, appe
 chained : (d : Dialect) (s : Selecting) (e : Expr) (f : From) (m : MaybeExpr) (o : Order) (g h : MaybeExpr)
     → writes d true (expr_rose e) ≡ spread true (expr_parts d e)
     → ((ts : Roses FlatKind) → kids d (K.Select s) 0 (from_roses f ts) ≡ from_pieces d f ++ kids d (K.Select s) 0 ts)
-    → ((ts : Roses FlatKind) → kids d (K.Select s) 0 (maybe_roses K.Where m ts) ≡ maybe_pieces d (codes " WHERE ") m ++ kids d (K.Select s) 0 ts)
-    → ((ts : Roses FlatKind) → kids d (K.Select s) 0 (maybe_roses K.GroupBy g ts) ≡ maybe_pieces d group_by g ++ kids d (K.Select s) 0 ts)
-    → ((ts : Roses FlatKind) → kids d (K.Select s) 0 (maybe_roses K.Having h ts) ≡ maybe_pieces d (codes " HAVING ") h ++ kids d (K.Select s) 0 ts)
+    → ((ts : Roses FlatKind) → kids d (K.Select s) 0 (maybe_roses K.Where m ts) ≡ maybe_pieces d (codes " WHERE ") m
+    ++ kids d (K.Select s) 0 ts)
+    → ((ts : Roses FlatKind) → kids d (K.Select s) 0 (maybe_roses K.GroupBy g ts) ≡ maybe_pieces d group_by g
+    ++ kids d (K.Select s) 0 ts)
+    → ((ts : Roses FlatKind) → kids d (K.Select s) 0 (maybe_roses K.Having h ts) ≡ maybe_pieces d (codes " HAVING ") h
+    ++ kids d (K.Select s) 0 ts)
     → kids d (K.Select s) 0 (order_roses o) ≡ order_pieces d o
     → kids d (K.Select s) 0 (after_distinct e f m o g h) ≡ clause_pieces d e f m o g h
 chained d s e f m o g h a b c k l n =
@@ -290,7 +296,8 @@ mutual
   expr-written Bracket b (among_values n e t (x ∷ xs)) =
       rw (some-value (kinds (expr_rose e)) t x xs)
       (parted-next Bracket b _ _
-      (rw (expr-written Bracket true e, later-values Bracket t 0 xs, length-more x xs) (simp (append_assoc, append-nil))))
+      (rw (expr-written Bracket true e, later-values Bracket t 0 xs, length-more x xs)
+      (simp (append_assoc, append-nil))))
   expr-written d b (among_rows n e q) =
       rw (rows-whole d n (kinds_of (two (expr_rose e) (rose q))), rows-open d)
       (parted-next d b _ _ (rw (expr-written d true e, statement-written d q) (simp (append_assoc, append-nil))))
@@ -300,10 +307,12 @@ mutual
   exprs-written d b (more_exprs e es) =
       ap (λ c. writes d b (expr_rose e) ++ elements d c (exprs_roses es)) (expr-stands d b e)
       ∙ (λ i. expr-written d b e i ++ exprs-written d (p.still b (expr_parts d e)) es i)
-      ∙ (λ i. sym (commas-each b (expr_parts d e)) i ++ commas (sym (stays-each b (expr_parts d e)) i) (exprs_parts d es))
+      ∙ (λ i. sym (commas-each b (expr_parts d e)) i ++ commas (sym (stays-each b (expr_parts d e)) i)
+      (exprs_parts d es))
       ∙ sym (commas-append b (each (expr_parts d e)) (exprs_parts d es))
 
-  items-later : (d : Dialect) (j : ℕ) (is : Items) → kids d K.OrderBy (suc j) (items_roses is) ≡ commas false (items_pieces d is)
+  items-later : (d : Dialect) (j : ℕ) (is : Items) → kids d K.OrderBy (suc j) (items_roses is)
+      ≡ commas false (items_pieces d is)
   items-later d j no_items = refl
   items-later d j (more_items e by is) =
       rw (expr-written d true e, items-later d (suc j) is) (simp (append_assoc, append-nil))
@@ -314,7 +323,8 @@ mutual
       rw (expr-written d true e, items-later d 0 is) (simp (append_assoc, append-nil))
 
   where-written : (d : Dialect) (s : Selecting) (m : MaybeExpr) (ts : Roses FlatKind)
-      → kids d (K.Select s) 0 (maybe_roses K.Where m ts) ≡ maybe_pieces d (codes " WHERE ") m ++ kids d (K.Select s) 0 ts
+      → kids d (K.Select s) 0 (maybe_roses K.Where m ts) ≡ maybe_pieces d (codes " WHERE ") m
+      ++ kids d (K.Select s) 0 ts
   where-written d s no_expr ts = refl
   where-written d s (an_expr e) ts =
       rw (expr-written d true e, clause-next d s 1 0 ts) (simp (append_assoc, append-nil))
@@ -326,7 +336,8 @@ mutual
       rw (expr-written d true e, clause-next d s 1 0 ts) (simp (append_assoc, append-nil))
 
   having-written : (d : Dialect) (s : Selecting) (m : MaybeExpr) (ts : Roses FlatKind)
-      → kids d (K.Select s) 0 (maybe_roses K.Having m ts) ≡ maybe_pieces d (codes " HAVING ") m ++ kids d (K.Select s) 0 ts
+      → kids d (K.Select s) 0 (maybe_roses K.Having m ts) ≡ maybe_pieces d (codes " HAVING ") m
+      ++ kids d (K.Select s) 0 ts
   having-written d s no_expr ts = refl
   having-written d s (an_expr e) ts =
       rw (expr-written d true e, clause-next d s 1 0 ts) (simp (append_assoc, append-nil))
@@ -351,18 +362,28 @@ mutual
 
   pub statement-written : (d : Dialect) (s : Statement) → writes d true (rose s) ≡ pieces d s
   statement-written d (select default e f every m o rows g h form marks) =
-      let s : Selecting = record { default = default; unique = unique.Every; rows = rows; form = form_of form; marks = marks } in
-      written d s [] e f m o g h form (chained d s e f m o g h (expr-written d true e) (from-written d s f) (where-written d s m) (group-written d s g) (having-written d s h) (order-written d s o)) (behind-form d rows form)
+      let s : Selecting =
+      record { default = default; unique = unique.Every; rows = rows; form = form_of form; marks = marks } in
+      written d s [] e f m o g h form
+      (chained d s e f m o g h (expr-written d true e) (from-written d s f) (where-written d s m) (group-written d s g)
+      (having-written d s h) (order-written d s o)) (behind-form d rows form)
   statement-written d (select default e f distinct m o rows g h form marks) =
-      let s : Selecting = record { default = default; unique = unique.Distinct; rows = rows; form = form_of form; marks = marks } in
-      written d s (distinct_pieces d distinct) e f m o g h form (chained d s e f m o g h (expr-written d true e) (from-written d s f) (where-written d s m) (group-written d s g) (having-written d s h) (order-written d s o)) (behind-form d rows form)
+      let s : Selecting =
+      record { default = default; unique = unique.Distinct; rows = rows; form = form_of form; marks = marks } in
+      written d s (distinct_pieces d distinct) e f m o g h form
+      (chained d s e f m o g h (expr-written d true e) (from-written d s f) (where-written d s m) (group-written d s g)
+      (having-written d s h) (order-written d s o)) (behind-form d rows form)
   statement-written d (select default e f (distinct_on u) m o rows g h form marks) =
-      let s : Selecting = record { default = default; unique = unique.DistinctOn; rows = rows; form = form_of form; marks = marks } in
+      let s : Selecting =
+      record { default = default; unique = unique.DistinctOn; rows = rows; form = form_of form; marks = marks } in
       let ts = after_distinct e f m o g h in
       ap (λ l. (one (Text (codes "SELECT ")) ++ []) ++ (l ++ behind_select d rows (form_of form)))
       (on-written d s u ts (expr-written d true u)
-      ∙ ap (λ l. distinct_pieces d (distinct_on u) ++ l) (chained d s e f m o g h (expr-written d true e) (from-written d s f) (where-written d s m) (group-written d s g) (having-written d s h) (order-written d s o)))
-      ∙ ap (λ l. (one (Text (codes "SELECT ")) ++ []) ++ ((distinct_pieces d (distinct_on u) ++ clause_pieces d e f m o g h) ++ l))
+      ∙ ap (λ l. distinct_pieces d (distinct_on u) ++ l)
+      (chained d s e f m o g h (expr-written d true e) (from-written d s f) (where-written d s m) (group-written d s g)
+      (having-written d s h) (order-written d s o)))
+      ∙ ap (λ l. (one (Text (codes "SELECT ")) ++ [])
+      ++ ((distinct_pieces d (distinct_on u) ++ clause_pieces d e f m o g h) ++ l))
       (behind-form d rows form)
       ∙ simp (append_assoc, append-nil)
   statement-written d (combination by all x y None rows) =

@@ -36,7 +36,8 @@ fn in_order(dialect: Dialect, rows: LimitOffsetClause) -> (Option<i64>, Option<i
 impl<DB: Backend> Sink<DB> {
     fn keep_big(&mut self, number: Option<i64>) -> Result<(), BindError>
         ensures ok { OnOk result (sunk DB.QueryBuilder.text DB.QueryBuilder.count self.new
-            ≡ keeping (sunk DB.QueryBuilder.text DB.QueryBuilder.count self.old) (big_values number)) }
+            ≡ keeping (sunk DB.QueryBuilder.text DB.QueryBuilder.count self.old)
+            (big_values number)) }
         ensures err { ¬ IsErrOf result BindError.TooManyBinds }
     {
         match number {
@@ -49,7 +50,8 @@ impl<DB: Backend> Sink<DB> {
 
     fn keep_rows(&mut self, rows: LimitOffsetClause) -> Result<(), BindError>
         ensures ok { OnOk result (sunk DB.QueryBuilder.text DB.QueryBuilder.count self.new
-            ≡ keeping (sunk DB.QueryBuilder.text DB.QueryBuilder.count self.old) (row_values DB.speaks rows.limit_clause rows.offset_clause)) }
+            ≡ keeping (sunk DB.QueryBuilder.text DB.QueryBuilder.count self.old)
+            (row_values DB.speaks rows.limit_clause rows.offset_clause)) }
         ensures err { ¬ IsErrOf result BindError.TooManyBinds }
     {
         let (first, second) = in_order(self.dialect(), rows);
@@ -92,7 +94,8 @@ impl<DB: Backend> Sink<DB> {
 
     fn keep_seed(&mut self, seed: Option<i32>) -> Result<(), BindError>
         ensures ok { OnOk result (sunk DB.QueryBuilder.text DB.QueryBuilder.count self.new
-            ≡ keeping (sunk DB.QueryBuilder.text DB.QueryBuilder.count self.old) (seed_values seed)) }
+            ≡ keeping (sunk DB.QueryBuilder.text DB.QueryBuilder.count self.old)
+            (seed_values seed)) }
         ensures err { ¬ IsErrOf result BindError.TooManyBinds }
     {
         match seed {
@@ -103,7 +106,8 @@ impl<DB: Backend> Sink<DB> {
 
     fn keep_sample(&mut self, sample: Option<Tablesample>) -> Result<(), BindError>
         ensures ok { OnOk result (sunk DB.QueryBuilder.text DB.QueryBuilder.count self.new
-            ≡ keeping (sunk DB.QueryBuilder.text DB.QueryBuilder.count self.old) (sample_values sample)) }
+            ≡ keeping (sunk DB.QueryBuilder.text DB.QueryBuilder.count self.old)
+            (sample_values sample)) }
         ensures err { ¬ IsErrOf result BindError.TooManyBinds }
     {
         match sample {

@@ -211,7 +211,8 @@ fn push_column<DB: Backend>(
     sink: &mut Sink<DB>,
 ) -> Result<(), BindError>
     ensures { Pours DB.speaks (sunk DB.QueryBuilder.text DB.QueryBuilder.count sink.old)
-        (leaf_pieces (record { alias = alias.now; table = column.now.table }) column.now.decl) result
+        (leaf_pieces (record { alias = alias.now; table = column.now.table })
+        column.now.decl) result
         (sunk DB.QueryBuilder.text DB.QueryBuilder.count sink.new) }
 {
     match alias {

@@ -273,7 +273,8 @@ fn push_all<DB: Backend>(rule: DuplicateRule, sink: &mut Sink<DB>) -> Result<(),
 
 fn push_combinator<DB: Backend>(combining: &Combining, sink: &mut Sink<DB>) -> Result<(), BindError>
     ensures { Pours DB.speaks (sunk DB.QueryBuilder.text DB.QueryBuilder.count sink.old)
-        (one (Text (combinator_sql combining.now.combinator)) ++ all_pieces combining.now.duplicates) result
+        (one (Text (combinator_sql combining.now.combinator))
+        ++ all_pieces combining.now.duplicates) result
         (sunk DB.QueryBuilder.text DB.QueryBuilder.count sink.new) }
 {
     sink.push_sql(combinator_text(combining.combinator))?;
@@ -288,8 +289,8 @@ fn push_between_sides<DB: Backend>(
 ) -> Result<(), BindError>
     ensures { Pours DB.speaks (sunk DB.QueryBuilder.text DB.QueryBuilder.count sink.old)
         (at_second
-        (one (Text (combinator_sql combining.now.combinator)) ++ all_pieces combining.now.duplicates)
-        begun) result
+        (one (Text (combinator_sql combining.now.combinator))
+        ++ all_pieces combining.now.duplicates) begun) result
         (sunk DB.QueryBuilder.text DB.QueryBuilder.count sink.new) }
 {
     if begun == 1 {

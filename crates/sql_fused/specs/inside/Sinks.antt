@@ -44,7 +44,8 @@ Poured d s ps (Err e) t = e ≡ TooManyBinds → Overflows d s.count ps
 pub data Pours (d : Dialect) (s : Sunk) (ps : List Piece) (r : Result (Unit {0}) BindError) (t : Sunk) : Type 0 where
   pours : Poured d s ps r t → Pours d s ps r t
 
-abbrev pub poured_by : {d : Dialect} {s : Sunk} {ps : List Piece} {r : Result (Unit {0}) BindError} {t : Sunk} → Pours d s ps r t
+abbrev pub poured_by : {d : Dialect} {s : Sunk} {ps : List Piece} {r : Result (Unit {0}) BindError} {t : Sunk}
+    → Pours d s ps r t
     → Poured d s ps r t
 poured_by (pours p) = p
 
@@ -60,7 +61,8 @@ Texted d s ps (Err e) t = e ≡ TooManyBinds → Overflows d s.count ps
 pub data Writes (d : Dialect) (s : Sunk) (ps : List Piece) (r : Result (Unit {0}) BindError) (t : Sunk) : Type 0 where
   writes : Texted d s ps r t → Writes d s ps r t
 
-abbrev pub texted_by : {d : Dialect} {s : Sunk} {ps : List Piece} {r : Result (Unit {0}) BindError} {t : Sunk} → Writes d s ps r t
+abbrev pub texted_by : {d : Dialect} {s : Sunk} {ps : List Piece} {r : Result (Unit {0}) BindError} {t : Sunk}
+    → Writes d s ps r t
     → Texted d s ps r t
 texted_by (writes p) = p
 

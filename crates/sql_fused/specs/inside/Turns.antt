@@ -26,7 +26,8 @@ frames os = map frame_of (reverse os)
 
 -- what is written from the index i on, and nothing before the index u
 abbrev pub told_after : Dialect → ℕ → Frames → Bool → ℕ → List FlatNode → List Piece
-told_after d u fs first i xs = tell kind_of end_of (reads d) is_list (before d) (between d) (after d) comma u fs first i xs
+told_after d u fs first i xs =
+    tell kind_of end_of (reads d) is_list (before d) (between d) (after d) comma u fs first i xs
 
 abbrev pub told_from : Dialect → Frames → Bool → ℕ → List FlatNode → List Piece
 told_from d fs first i xs = told_after d 0 fs first i xs

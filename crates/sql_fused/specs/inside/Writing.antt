@@ -57,7 +57,8 @@ abbrev pub or_none : Option (List Piece) → List Piece
 or_none None = []
 or_none (Some ps) = ps
 
--- ---- nodes that are written whole: those without children; a list of values that is bound as one; a membership in no values
+-- ---- nodes that are written whole: those without children, a list of values that is bound as one, and a membership in no
+-- values
 
 -- the values among those kinds
 abbrev pub values_in : List FlatKind → List Value

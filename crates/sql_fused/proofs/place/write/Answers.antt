@@ -19,7 +19,8 @@ loop-place-preserved-then-innermost_has_ended g c =
           (λ j. poured d t
           (told_from d (c.in_ok-close.ensures.frames j) (c.in_ok-close.ensures.first j) (c.in_ok-close.ensures.index j)
           (drop (c.in_ok-close.ensures.index j) nodes)))
-          ∙ turned d _ t _ _ _ _ c.loop-place.invariant.told (closes-is d fs place.first place.index nodes e) c.in_ok-close.ensures.text;
+          ∙ turned d _ t _ _ _ _ c.loop-place.invariant.told
+          (closes-is d fs place.first place.index nodes e) c.in_ok-close.ensures.text;
       fits = λ h. pours-fits c.in_ok-close.ensures.text (c.loop-place.invariant.fits h);
       within = grind (arith, common_steps);
       begun = grind (arith, common_steps);
@@ -53,7 +54,8 @@ loop-place-preserved g c =
     let later : place.index < c.begin.new.self.index =
     subst (λ n. place.index < n) (sym c.in_ok-begin.ensures.index) (opened-later d o x place.index (length nodes) l) in
     let within : c.begin.new.self.index ≤ length nodes =
-    subst (λ n. n ≤ length nodes) (sym c.in_ok-begin.ensures.index) (opened-within d o x place.index (length nodes) l) in
+    subst (λ n. n ≤ length nodes) (sym c.in_ok-begin.ensures.index)
+    (opened-within d o x place.index (length nodes) l) in
     record {
       told =
           (λ j. poured d t
@@ -81,7 +83,8 @@ returns-in_err-begin-clause-text g c =
     let is : o ≡ reads d place.index x (drop (place.index + 1) nodes) =
     ap (λ ks. whole_of d x.kind (map kind_of ks)) c.below-below.ensures in
     refused d _ _ _ _ _ _ _ _ _ _ c.loop-place.invariant.told
-    (begins-is d fs place.first place.index nodes x o e l at is) c.in_err-begin.ensures.text (grind (arith, common_steps))
+    (begins-is d fs place.first place.index nodes x o e l at is) c.in_err-begin.ensures.text
+    (grind (arith, common_steps))
 
 pub returns-clause-text : goal.returns-clause-text
 returns-clause-text g c =
@@ -90,5 +93,6 @@ returns-clause-text g c =
     let over : length nodes ≤ place.index = grind (arith, common_steps) in
     let closed : place.«open».items ≡ [] = grind (arith, common_steps) in
     let none : frames place.«open».items ≡ [] = ap frames closed in
-    ended g.DB.Backend.speaks _ _ place.first place.index nodes (frames place.«open».items) _ c.loop-place.invariant.told none over
+    ended g.DB.Backend.speaks _ _ place.first place.index nodes
+    (frames place.«open».items) _ c.loop-place.invariant.told none over
     c.loop-place.invariant.fits

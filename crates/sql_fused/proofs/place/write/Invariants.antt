@@ -10,12 +10,16 @@ abbrev pub invariant-loop-place : goal.invariant-loop-place
 invariant-loop-place g l = record {
   told :
       poured g.DB.Backend.speaks (sunk g.DB.QueryBuilder.QueryBuilder.text g.DB.QueryBuilder.QueryBuilder.count l.sink)
-      (told_from g.DB.Backend.speaks (frames l.place.«open».items) l.place.first l.place.index (drop l.place.index l.nodes))
-      ≡ poured g.DB.Backend.speaks (sunk g.DB.QueryBuilder.QueryBuilder.text g.DB.QueryBuilder.QueryBuilder.count l.initial.sink)
+      (told_from g.DB.Backend.speaks (frames l.place.«open».items) l.place.first l.place.index
+      (drop l.place.index l.nodes))
+      ≡ poured g.DB.Backend.speaks
+      (sunk g.DB.QueryBuilder.QueryBuilder.text g.DB.QueryBuilder.QueryBuilder.count l.initial.sink)
       (told_from g.DB.Backend.speaks [] true 0 l.nodes);
   fits :
-      Fits g.DB.Backend.speaks (sunk g.DB.QueryBuilder.QueryBuilder.text g.DB.QueryBuilder.QueryBuilder.count l.initial.sink).count
-      → Fits g.DB.Backend.speaks (sunk g.DB.QueryBuilder.QueryBuilder.text g.DB.QueryBuilder.QueryBuilder.count l.sink).count;
+      Fits g.DB.Backend.speaks
+      (sunk g.DB.QueryBuilder.QueryBuilder.text g.DB.QueryBuilder.QueryBuilder.count l.initial.sink).count
+      → Fits g.DB.Backend.speaks
+      (sunk g.DB.QueryBuilder.QueryBuilder.text g.DB.QueryBuilder.QueryBuilder.count l.sink).count;
   within : l.place.index ≤ length l.nodes;
   begun : sum_by (λ o. o.begun) l.place.«open».items ≤ l.place.index;
   cost : l.steps + length l.place.«open».items ≤ l.initial.steps + 2 * l.place.index;
