@@ -56,6 +56,7 @@ pub use Rattle.sql_raw.specs.Debug
 pub use Rattle.sql_raw.specs.Raw
 -- Flat lists, shapes, ids and keys.
 pub use Rattle.sql_flat.specs.Flat as FlatLists
+pub use Rattle.sql_rose.specs.Rose
 pub use Rattle.sql_key.specs.Ids
 pub use Rattle.sql_key.specs.Keys
 pub use Rattle.sql_key.specs.Shape
@@ -85,6 +86,7 @@ pub use Rattle.sql_law.specs.Fitting
 pub use Rattle.sql_law.specs.Lengths
 -- What `compile` gives.
 pub use Rattle.sql_check.specs.Compiled
+pub use Rattle.sql_check.specs.Fused
 pub use Rattle.sql_check.specs.Errors
 pub use Rattle.sql_check.specs.declared.built.Built
 pub use Rattle.sql_check.specs.declared.error.CompileError

@@ -1,12 +1,12 @@
-//! The order of tables and of columns, and when two are equal.
+//! The order of tables and of columns, and when two are equal. A table keeps its names spelled as one text, so that
+//! comparing two tables compares two texts, and types and lengths.
 ghost use Rattle.std.specs.Prelude.{◌≡◌};
 ghost use Rattle.std.specs.Ordering.{as_partial_cmp, eq_by_cmp};
 ghost use Rattle.std.specs.Cmp.{eq_by_cmp_equiv, partial_equiv_from_equiv, partial_order_from_total};
 ghost use Rattle.std.specs.Cmp.Lexicographic.{slice_cmp};
-ghost use Rattle.std.specs.Option.{option_cmp};
 ghost use Rattle.std.specs.Cmp.Rules.{comparing};
 ghost use Rattle.std.proofs.Common.{rules};
-ghost use Rattle.sql_schema.specs.inside.Tables.{by_sql_name, column_cmp, column_hash, declared_cmp, declared_total, same_column_hash, same_hash, table_cmp, table_hash, tables_total, text_cmp};
+ghost use Rattle.sql_schema.specs.inside.Tables.{column_cmp, column_hash, declared_cmp, declared_total, same_column_hash, same_hash, sized_cmp, table_cmp, table_hash, tables_total};
 
 use crate::{Column, ColumnDecl, Table};
 use std::cmp::Ordering;
@@ -22,15 +22,23 @@ fn cmp_column(one: &ColumnDecl, other: &ColumnDecl) -> Ordering
         .then_with(|| one.max_length.cmp(&other.max_length))
 }
 
+fn cmp_sizes(one: &ColumnDecl, other: &ColumnDecl) -> Ordering
+    ensures { result ≡ sized_cmp one.now other.now }
+{
+    one.ty
+        .cmp(&other.ty)
+        .then_with(|| one.max_length.cmp(&other.max_length))
+}
+
 fn cmp_columns(one: &[ColumnDecl], other: &[ColumnDecl]) -> Ordering
-    ensures { result ≡ slice_cmp column_cmp one.now other.now }
+    ensures { result ≡ slice_cmp sized_cmp one.now other.now }
 {
     let mut rest = other;
     for column in one {
         let Some((first, behind)) = rest.split_first() else {
             return Ordering::Greater;
         };
-        let order = cmp_column(column, first);
+        let order = cmp_sizes(column, first);
         if order != Ordering::Equal {
             return order;
         }
@@ -41,26 +49,6 @@ fn cmp_columns(one: &[ColumnDecl], other: &[ColumnDecl]) -> Ordering
     } else {
         Ordering::Less
     }
-}
-
-fn cmp_schemas(one: &Table, other: &Table) -> Ordering
-    ensures { result ≡ option_cmp text_cmp one.now.schema other.now.schema }
-{
-    match (one.path().0, other.path().0) {
-        (None, None) => Ordering::Equal,
-        (None, Some(_)) => Ordering::Less,
-        (Some(_), None) => Ordering::Greater,
-        (Some(one), Some(other)) => one.cmp(other),
-    }
-}
-
-fn cmp_names(one: &Table, other: &Table) -> Ordering
-    ensures { result ≡ by_sql_name one.now other.now }
-{
-    one.name()
-        .cmp(other.name())
-        .then_with(|| cmp_schemas(one, other))
-        .then_with(|| one.path().1.cmp(other.path().1))
 }
 
 impl PartialEq for Table {
@@ -87,9 +75,9 @@ impl Ord for Table {
     ghost matches_eq = { Prim.search (comparing, rules) };
 
     fn cmp(&self, other: &Table) -> Ordering {
-        cmp_names(self, other)
+        self.spelled_names()
+            .cmp(other.spelled_names())
             .then_with(|| cmp_columns(self.columns(), other.columns()))
-            .then_with(|| self.primary_key().cmp(other.primary_key()))
     }
 }
 

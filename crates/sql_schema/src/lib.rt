@@ -13,6 +13,7 @@ mod names;
 mod pairs;
 mod refusal;
 mod schema;
+mod spelled;
 mod table;
 mod tables;
 mod text;

@@ -1,6 +1,7 @@
 ghost use Rattle.std.specs.Prelude.{◌≡◌, ℕ, Option, IfOk};
 
 use crate::names::{Names, index_names, index_of};
+use crate::spelled::spell;
 use crate::{ColumnDecl, NoMemory, SqlText, SqlType, TableDecl};
 use std::alloc::Global;
 use std::marker::Model;
@@ -13,11 +14,13 @@ pub struct Table {
     declared: Rc<Declared>,
 }
 
-/// A declaration of a table, with an index of its columns' names.
+/// A declaration of a table, with an index of its columns' names, and all its names in one text, by which tables are
+/// compared.
 #[derive(Debug, Drop)]
 struct Declared {
     decl: TableDecl,
     names: Names,
+    spelled: String,
 }
 
 impl Drop for Table {
@@ -31,28 +34,40 @@ impl Model for Table {
     ghost use Rattle.std.specs.BTreeMap.{get_by_text};
     ghost use Rattle.sql_schema.specs.declared.declaration.TableDecl.{TableDecl};
     ghost use Rattle.sql_schema.specs.Refusals.{is_unsound};
+    ghost use Rattle.std.specs.Prelude.{string_bytes};
     ghost use Rattle.sql_schema.specs.inside.Indices.{Indexes};
+    ghost use Rattle.sql_schema.specs.inside.Spelled.{table_text};
 
     ghost Value = { TableDecl };
 
     ghost view = { λ t. t.declared.value.decl };
 
     ghost invariant = { λ t. (is_unsound t.declared.value.decl ≡ false)
-        × Indexes (λ c. c.name) (get_by_text t.declared.value.names) t.declared.value.decl.columns
-        (length t.declared.value.decl.columns) };
+        × (Indexes (λ c. c.name) (get_by_text t.declared.value.names) t.declared.value.decl.columns
+        (length t.declared.value.decl.columns)
+        × (string_bytes t.declared.value.spelled ≡ table_text t.declared.value.decl)) };
 }
 
 impl Table {
     ghost use Rattle.std.specs.Prelude.{◌≡◌, false, IfOk, option_map};
     ghost use Rattle.sql_schema.specs.Columns.{column_in, column_named, columns_in};
     ghost use Rattle.sql_schema.specs.Refusals.{is_unsound};
+    ghost use Rattle.sql_schema.specs.inside.Spelled.{table_text};
 
     pub(crate) fn new(alloc: Global, decl: TableDecl) -> Result<Table, NoMemory>
         requires { is_unsound decl ≡ false }
         ensures { IfOk result (λ t. t ≡ decl) }
     {
         let names = index_names(alloc, decl.columns.as_slice())?;
-        let declared = Rc::new(alloc, Declared { decl, names })?;
+        let spelled = spell(alloc, &decl)?;
+        let declared = Rc::new(
+            alloc,
+            Declared {
+                decl,
+                names,
+                spelled,
+            },
+        )?;
         Ok(Table { declared })
     }
 
@@ -102,6 +117,13 @@ impl Table {
                 Ok(Some(Column { table, index }))
             }
         }
+    }
+
+    /// Its names and those of its columns, in one text.
+    pub(crate) fn spelled_names(&self) -> &str
+        ensures { result.now ≡ table_text self.now }
+    {
+        self.declared.spelled.as_str()
     }
 
     /// The declaration of the column of that name, or None where there is none.

@@ -23,7 +23,7 @@ pub trait Unflatten {
     /// The flat list.
     ghost list: { Self → List FlatNode };
 
-    /// The statement whose flat list it is, built anew: of the list that `flatten` gives as its example
+    /// The statement whose flat list it is, rebuilt: of the list that `flatten` gives as its example
     /// `SELECT "users"."id" FROM "users" WHERE ("users"."id" = $1)`. Fails only for memory.
     fn unflatten(&self, alloc: Global) -> Result<Statement, NoMemory>
         ensures { IfOk result (λ s. flat_of (statement_tree s) ≡ list self.now) };

@@ -1,15 +1,16 @@
--- The order of tables and of columns: by each part of their declarations, one after the other.
+-- The order of tables, by their names in one text and then by their columns' types and lengths; and of columns.
 use Rattle.std.specs.Prelude.{◌≡◌, ℕ, true, List}
 use Rattle.std.proofs.Common.{sym, ap, ◌∙◌}
 use Rattle.std.specs.declared.cmp.Ordering.{Ordering}
 use Rattle.std.specs.Ordering.{on, then_cmp, nat_cmp, eq_by_cmp, is_eq}
 use Rattle.std.specs.Option.{option_cmp}
 use Rattle.std.specs.Cmp.{IsTotalOrder, first_so, second_so, tied_then, then_total, on_total, nat_cmp_total}
-use Rattle.std.specs.Cmp.Lexicographic.{slice_cmp, same_text, texts_ties, on_texts, options_total, lists_total, nat_list_cmp_total}
+use Rattle.std.specs.Cmp.Lexicographic.{slice_cmp, same_text, texts_ties, on_texts, options_total, lists_total}
 use Rattle.std.specs.Hash.{HashWrites, str}
 use Rattle.sql_schema.specs.declared.declaration.ColumnDecl.{ColumnDecl}
 use Rattle.sql_schema.specs.declared.declaration.TableDecl.{TableDecl}
 use Rattle.sql_schema.specs.Columns.{DeclaredColumn}
+use Rattle.sql_schema.specs.inside.Spelled.{table_text, same-name}
 use Rattle.sql_schema.specs.contracts.types.SqlTypeOrd.TheImpl as type_ord
 use Rattle.sql_schema.specs.contracts.types.SqlTypeOrd.TheImpl.Laws.{total-law}
 
@@ -23,20 +24,13 @@ column_cmp =
     (on (λ c. c.ty) (type_ord.ghosts).cmp))
     (on (λ c. c.max_length) (option_cmp nat_cmp))
 
-abbrev by_name : TableDecl → TableDecl → Ordering
-by_name = on (λ t. t.name) text_cmp
+-- by types and lengths alone
+abbrev pub sized_cmp : ColumnDecl → ColumnDecl → Ordering
+sized_cmp = then_cmp (on (λ c. c.ty) (type_ord.ghosts).cmp) (on (λ c. c.max_length) (option_cmp nat_cmp))
 
-abbrev by_schema : TableDecl → TableDecl → Ordering
-by_schema = then_cmp by_name (on (λ t. t.schema) (option_cmp text_cmp))
-
-abbrev pub by_sql_name : TableDecl → TableDecl → Ordering
-by_sql_name = then_cmp by_schema (on (λ t. t.sql_name) text_cmp)
-
-abbrev by_columns : TableDecl → TableDecl → Ordering
-by_columns = then_cmp by_sql_name (on (λ t. t.columns) (slice_cmp column_cmp))
-
+-- by all names, and then by the columns' types and lengths
 abbrev pub table_cmp : TableDecl → TableDecl → Ordering
-table_cmp = then_cmp by_columns (on (λ t. t.primary_key) (slice_cmp text_cmp))
+table_cmp = then_cmp (on table_text text_cmp) (on (λ t. t.columns) (slice_cmp sized_cmp))
 
 -- first by the table
 abbrev pub declared_cmp : DeclaredColumn → DeclaredColumn → Ordering
@@ -58,15 +52,11 @@ columns_total =
     (then_total (then_total (on_texts (λ c. c.name)) (on_texts (λ c. c.sql_name))) (on_total (λ c. c.ty) total-law))
     (on_total (λ c. c.max_length) (options_total nat_cmp_total))
 
+sizes_total : IsTotalOrder sized_cmp
+sizes_total = then_total (on_total (λ c. c.ty) total-law) (on_total (λ c. c.max_length) (options_total nat_cmp_total))
+
 pub tables_total : IsTotalOrder table_cmp
-tables_total =
-    then_total
-    (then_total
-    (then_total
-    (then_total (on_texts (λ t. t.name)) (on_total (λ t. t.schema) (options_total nat_list_cmp_total)))
-    (on_texts (λ t. t.sql_name)))
-    (on_total (λ t. t.columns) (lists_total columns_total)))
-    (on_total (λ t. t.primary_key) (lists_total nat_list_cmp_total))
+tables_total = then_total (on_texts table_text) (on_total (λ t. t.columns) (lists_total sizes_total))
 
 pub declared_total : IsTotalOrder declared_cmp
 declared_total = then_total (on_total (λ c. c.table) tables_total) (on_total (λ c. c.decl) columns_total)
@@ -77,11 +67,9 @@ first_tied R S a b h = first_so (is_eq (R a b)) (is_eq (S a b)) (tied_then (R a 
 
 pub same_hash : (a b : TableDecl) → eq_by_cmp table_cmp a b ≡ true → table_hash a ≡ table_hash b
 same_hash a b h =
-    let c = first_tied by_columns (on (λ t. t.primary_key) (slice_cmp text_cmp)) a b h in
-    let d = first_tied by_sql_name (on (λ t. t.columns) (slice_cmp column_cmp)) a b c in
-    let e = first_tied by_schema (on (λ t. t.sql_name) text_cmp) a b d in
-    let f = first_tied by_name (on (λ t. t.schema) (option_cmp text_cmp)) a b e in
-    ap str (same_text a.name b.name (sym (texts_ties a.name b.name ∙ f)))
+    let c = first_tied (on table_text text_cmp) (on (λ t. t.columns) (slice_cmp sized_cmp)) a b h in
+    let d = same_text (table_text a) (table_text b) (sym (texts_ties (table_text a) (table_text b) ∙ c)) in
+    ap str (same-name a b d)
 
 abbrev by_column_name : ColumnDecl → ColumnDecl → Ordering
 by_column_name = on (λ c. c.name) text_cmp

@@ -15,7 +15,7 @@ returns-in-None c =
     let known =
     subst
     (λ d. (is_unsound d ≡ false) × Indexes (λ x. x.name) (get_by_text names) d.columns (length d.columns))
-    c.self.view_is c.self.invariant in
+    c.self.view_is (c.self.invariant.0, c.self.invariant.1.0) in
     let is : c.index_of.result ≡ get_by_text names q =
     c.index_of.ensures ∙ ap (λ v. get_by_text v.names q) c.deref.ensures in
     ap (option_map (λ x. column_of s x))
@@ -31,7 +31,7 @@ returns-in_ok-table-in-Some c =
     let known =
     subst
     (λ d. (is_unsound d ≡ false) × Indexes (λ x. x.name) (get_by_text names) d.columns (length d.columns))
-    c.self.view_is c.self.invariant in
+    c.self.view_is (c.self.invariant.0, c.self.invariant.1.0) in
     let is : c.index_of.result ≡ get_by_text names q =
     c.index_of.ensures ∙ ap (λ v. get_by_text v.names q) c.deref.ensures in
     ap (λ t. Some (column_at t i)) c.in_ok-table-in-Some.ensures

@@ -14,7 +14,7 @@ returns-in-None c =
     let known =
     subst
     (λ d. (is_unsound d ≡ false) × Indexes (λ x. x.name) (get_by_text names) d.columns (length d.columns))
-    c.self.view_is c.self.invariant in
+    c.self.view_is (c.self.invariant.0, c.self.invariant.1.0) in
     let is : c.index_of.result ≡ get_by_text names q =
     c.index_of.ensures ∙ ap (λ v. get_by_text v.names q) c.deref.ensures in
     ap (option_map (λ i. get_or s.columns i no_column)) (sym c.in-None.is)
@@ -30,7 +30,7 @@ returns-in-Some c =
     let known =
     subst
     (λ d. (is_unsound d ≡ false) × Indexes (λ x. x.name) (get_by_text names) d.columns (length d.columns))
-    c.self.view_is c.self.invariant in
+    c.self.view_is (c.self.invariant.0, c.self.invariant.1.0) in
     let is : c.index_of.result ≡ get_by_text names q =
     c.index_of.ensures ∙ ap (λ v. get_by_text v.names q) c.deref.ensures in
     let read : r ≡ get_or c.as_slice.result.now i r = search rules in
