@@ -5,4 +5,7 @@ mod binds;
 mod types;
 
 pub use binds::{are_too_many, has_too_many_binds};
-pub use types::{columns, fits, type_of};
+pub use types::{
+    as_nullable, big_type, bool_type, columns, compared_type, fits, if_typed, is_bool, joined_type,
+    not_type, single_type, type_of,
+};

@@ -15,7 +15,8 @@ use sql_pass::Value;
 use sql_schema::{Base, NoMemory, SqlType};
 use std::alloc::Global;
 
-fn is_bool(ty: SqlType) -> bool
+/// Whether the type is Bool, nullable or not.
+pub fn is_bool(ty: SqlType) -> bool
     ensures { result ≡ bool_based ty }
 {
     ty.base == Base::Bool
@@ -42,14 +43,16 @@ fn all_fit(ty: SqlType, values: &[Value]) -> bool
     values.iter().all(|value| fits(ty, value))
 }
 
-fn bool_type(nullable: bool) -> Option<SqlType>
+/// Bool, nullable or not: what a comparison has.
+pub fn bool_type(nullable: bool) -> Option<SqlType>
     ensures { result ≡ a_bool nullable }
 {
     let base = Base::Bool;
     Some(SqlType { base, nullable })
 }
 
-fn big_type() -> Option<SqlType>
+/// BigInt that is never NULL: what `count(*)` has.
+pub fn big_type() -> Option<SqlType>
     ensures { result ≡ a_big }
 {
     let base = Base::BigInt;
@@ -57,7 +60,8 @@ fn big_type() -> Option<SqlType>
     Some(SqlType { base, nullable })
 }
 
-fn as_nullable(ty: Option<SqlType>) -> Option<SqlType>
+/// The same type, nullable, as in `.nullable()`.
+pub fn as_nullable(ty: Option<SqlType>) -> Option<SqlType>
     ensures { result ≡ nullable_of ty }
 {
     match ty {
@@ -69,7 +73,8 @@ fn as_nullable(ty: Option<SqlType>) -> Option<SqlType>
     }
 }
 
-fn not_type(ty: Option<SqlType>) -> Option<SqlType>
+/// The type of `NOT` before an expression of that type: itself, where it is Bool.
+pub fn not_type(ty: Option<SqlType>) -> Option<SqlType>
     ensures { result ≡ negated ty }
 {
     match ty {
@@ -78,7 +83,8 @@ fn not_type(ty: Option<SqlType>) -> Option<SqlType>
     }
 }
 
-fn if_typed(ty: Option<SqlType>, then: Option<SqlType>) -> Option<SqlType>
+/// The second type, where the first is there.
+pub fn if_typed(ty: Option<SqlType>, then: Option<SqlType>) -> Option<SqlType>
     ensures { result ≡ where_typed ty then }
 {
     match ty {
@@ -87,7 +93,8 @@ fn if_typed(ty: Option<SqlType>, then: Option<SqlType>) -> Option<SqlType>
     }
 }
 
-fn compared_type(left: Option<SqlType>, right: Option<SqlType>) -> Option<SqlType>
+/// The type of `a = b`: Bool, where both have one type, and nullable as they are.
+pub fn compared_type(left: Option<SqlType>, right: Option<SqlType>) -> Option<SqlType>
     ensures { result ≡ compared left right }
 {
     match (left, right) {
@@ -102,7 +109,8 @@ fn compared_type(left: Option<SqlType>, right: Option<SqlType>) -> Option<SqlTyp
     }
 }
 
-fn joined_type(left: Option<SqlType>, right: Option<SqlType>) -> Option<SqlType>
+/// The type of `a AND b`: Bool, where both are Bool, and nullable where one of them is.
+pub fn joined_type(left: Option<SqlType>, right: Option<SqlType>) -> Option<SqlType>
     ensures { result ≡ joined left right }
 {
     match (left, right) {
@@ -127,7 +135,8 @@ fn among_values_type(ty: Option<SqlType>, of: SqlType, values: &[Value]) -> Opti
     }
 }
 
-fn single_type(columns: &[Option<SqlType>]) -> Option<SqlType>
+/// The type of a subselect as a value: that of its column, where it has one column alone.
+pub fn single_type(columns: &[Option<SqlType>]) -> Option<SqlType>
     ensures { result ≡ single columns.now }
 {
     match columns {
