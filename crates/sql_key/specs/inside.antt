@@ -1,4 +1,3 @@
--- Devices: nodes without their values, lists without the values of lists, and which nodes leave a statement its id.
-pub mod Blank
+-- Devices: lists without the values of lists, and which nodes leave a statement its id.
 pub mod Kept
 pub mod Thin

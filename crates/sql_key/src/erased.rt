@@ -4,7 +4,7 @@
 ghost use Rattle.std.specs.Prelude.{◌≡◌, IfOk, map};
 ghost use Rattle.std.specs.Option.{option_map};
 ghost use Rattle.sql_key.specs.Shape.{blank, blank_rows, blank_sample};
-ghost use Rattle.sql_key.specs.inside.Blank.{blank_combining, blank_kind, blank_node, blank_selecting, blank_source};
+ghost use Rattle.sql_key.specs.Blank.{blank_combining, blank_kind, blank_node, blank_selecting, blank_source};
 
 use sql_flat::{Combining, FlatKind, FlatNode, Selecting};
 use sql_leaf::{LimitOffsetClause, TableSource, Tablesample};
@@ -89,7 +89,8 @@ fn copied(alloc: Global, alias: &Option<SqlText>) -> Result<Option<SqlText>, NoM
     }
 }
 
-fn erased_kind(alloc: Global, kind: &FlatKind) -> Result<FlatKind, NoMemory>
+/// A copy of the kind without its value: of the value 1 in `"users"."id" = $1` a NULL of the same type. Fails only for memory.
+pub fn erased_kind(alloc: Global, kind: &FlatKind) -> Result<FlatKind, NoMemory>
     ensures { IfOk result (λ k. k ≡ blank_kind kind.now) }
 {
     match kind {

@@ -8,6 +8,7 @@ mod key;
 mod laws;
 mod plain;
 
+pub use erased::erased_kind;
 pub use expression::expression_key;
 pub use id::{QueryId, flat_query_id};
 pub use key::QueryKey;

@@ -7,7 +7,7 @@ use Rattle.sql_flat.specs.declared.kind.FlatKind.{FlatKind}
 use Rattle.sql_flat.specs.declared.kind.FlatKind.TheVariants as K
 use Rattle.sql_flat.specs.declared.kind.FlatNode.{FlatNode}
 use Rattle.sql_key.specs.Shape.{nulls}
-use Rattle.sql_key.specs.inside.Blank.{blank_kind}
+use Rattle.sql_key.specs.Blank.{blank_kind}
 
 -- what stands for a list of values
 abbrev pub many : Bool → List Value → List Value

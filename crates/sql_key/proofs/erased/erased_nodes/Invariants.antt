@@ -1,5 +1,5 @@
 use Rattle.std.proofs.Common.{◌≡◌, map, take}
-use Rattle.sql_key.specs.inside.Blank.{blank_node}
+use Rattle.sql_key.specs.Blank.{blank_node}
 use Rattle.sql_key.proofs.erased.erased_nodes.Given as goal
 
 abbrev pub invariant-loop-node : goal.invariant-loop-node

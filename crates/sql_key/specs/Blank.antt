@@ -1,4 +1,4 @@
--- A node without its value.
+-- A node without its value: NULL in place of the value, 0 in place of a number or a sample.
 use Rattle.std.specs.Prelude.{option_map}
 use Rattle.sql_pass.specs.declared.value.Value.TheVariants.{Null}
 use Rattle.sql_leaf.specs.declared.table_source.TableSource.{TableSource}
