@@ -4,6 +4,7 @@
 # 'N passed, M failed'.
 command -v python3 >/dev/null || { echo "skipped: no python3"; exit 0; }
 top=$(cd "$(dirname "$0")/.." && pwd) || exit 1
+[ -x "$top/crates/sql_tool/out/sql_tool" ] || { echo "the program is not built: run ./sql_tool build < examples/filter.json first"; exit 1; }
 export PYTHONUTF8=1
 exec python3 - "$top" <<'END'
 import json, pathlib, re, subprocess, sys

@@ -1,5 +1,5 @@
 -- The first of the rules that are broken, and that none is where no rule but the last could be and that one is not.
-use Rattle.std.proofs.Common.{None, Some, List, [], ◌∷◌, ◌++◌, ap, refl, ◌∙◌, append_assoc}
+use Rattle.std.proofs.Common.{None, Some, [], ◌∷◌, ◌++◌, ap, refl, ◌∙◌, append_assoc}
 use Rattle.sql_schema.specs.Declarations.{Declarations}
 use Rattle.sql_dialect.specs.declared.backend.Dialect.{Dialect}
 use Rattle.sql_node.specs.Tree.{Statement}

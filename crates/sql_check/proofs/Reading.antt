@@ -1,7 +1,6 @@
 -- How the text of a statement is read that breaks no rule.
 use Rattle.std.proofs.Common.{◌≡◌, ◌∙◌, ℕ, List, ap, sym, subst}
-use Rattle.std.specs.Prelude.{length, string_bytes}
-use Rattle.sql_schema.specs.Declarations.{Declarations}
+use Rattle.std.specs.Prelude.{length}
 use Rattle.sql_dialect.specs.declared.backend.Dialect.{Dialect}
 use Rattle.sql_grammar.specs.Numbering.{Fills}
 use Rattle.sql_grammar.specs.Reading.{OnlyReading}

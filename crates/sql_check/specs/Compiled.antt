@@ -1,7 +1,6 @@
 -- What the answer says of a statement that breaks no rule, and how that is read.
-use Rattle.std.specs.Prelude.{◌≡◌, ◌++◌, ℕ, List, [], ◌∷◌, map, length, Some}
+use Rattle.std.specs.Prelude.{◌≡◌, ◌++◌, ℕ, List, ◌∷◌, map, length, Some}
 use Rattle.sql_schema.specs.Declarations.{Declarations}
-use Rattle.sql_schema.specs.declared.types.SqlType.{SqlType}
 use Rattle.sql_dialect.specs.declared.backend.Dialect.{Dialect}
 use Rattle.sql_grammar.specs.Numbering.{Fills}
 use Rattle.sql_grammar.specs.Reading.{OnlyReading}

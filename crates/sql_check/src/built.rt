@@ -4,13 +4,14 @@ ghost use Rattle.sql_node.specs.Tree as t;
 ghost use Rattle.sql_node.specs.View.{statement_tree};
 ghost use Rattle.sql_flat.specs.Flat.{flat_of};
 ghost use Rattle.sql_judge.specs.First.{IsFirst, inner_rules};
-ghost use Rattle.sql_judge.specs.declared.viewed.Names.TheVariants as name;
+ghost use Rattle.sql_judge.specs.declared.names.Names.TheVariants as name;
 ghost use Rattle.sql_check.specs.Compiled.{IsBuilt, IsLeast, IsRead};
 ghost use Rattle.sql_check.specs.Errors.{rule_of};
 ghost use Rattle.sql_check.specs.Fused.{IsFused};
 ghost use Rattle.sql_check.specs.Typed.{known};
 ghost use Rattle.sql_rules.specs.Counted.{PlacesAreCounted};
 ghost use Rattle.sql_rules.specs.Rules.{Broken, HasTooManyBinds};
+ghost use Rattle.sql_rules.specs.Types.{columns as columns_of};
 ghost use Rattle.sql_rules.specs.declared.rule.Rule.{Rule};
 ghost use Rattle.sql_rules.specs.declared.rule.Rule.TheVariants as rule;
 
@@ -19,13 +20,12 @@ use crate::error::CompileError;
 use sql_dialect::{Backend, BindError};
 use sql_flat::{Flat, flatten};
 use sql_fused::Steps;
-use sql_judge::{Names, first_broken_by};
+use sql_judge::{Judgement, Names, judge};
 use sql_key::QueryKey;
 use sql_law::{accepted_are_read, names_one_leaf};
 use sql_node::Statement;
 use sql_pass::Bound;
 use sql_schema::{NoMemory, Schema, SqlList, SqlText, SqlType};
-use sql_types::columns;
 use std::alloc::Global;
 use std::marker::Brand;
 use std::sync::ledger::{Blank, Ledger};
@@ -78,7 +78,7 @@ fn fused_from<DB: Backend, L: Ledger>(
 }
 
 /// What `fused` answers, whose steps nobody counts.
-fn uncounted<DB: Backend>(
+pub(crate) fn uncounted<DB: Backend>(
     alloc: Global,
     backend: &DB,
     flat: &Flat,
@@ -99,22 +99,22 @@ fn uncounted<DB: Backend>(
 fn build<DB: Backend>(
     alloc: Global,
     backend: &DB,
-    statement: &Statement,
+    flat: &Flat,
+    columns: &[Option<SqlType>],
 ) -> Result<Built, CompileError>
-    ensures built { IfOk result (λ b. (schema : Declarations)
-        → IsFirst (λ r. Broken r schema DB.speaks (statement_tree statement.now)) inner_rules None
-        → IsBuilt schema DB.speaks (statement_tree statement.now) b) }
-    ensures read { IfOk result (λ b. (schema : Declarations)
-        → IsFirst (λ r. Broken r schema DB.speaks (statement_tree statement.now)) inner_rules None
-        → PlacesAreCounted (statement_tree statement.now)
-        → IsRead DB.speaks (statement_tree statement.now) b.sql b.binds) }
+    requires { (s : t.Statement) → flat.now ≡ flat_of s → columns.now ≡ columns_of s }
+    ensures built { IfOk result (λ b. (s : t.Statement) → flat.now ≡ flat_of s
+        → (schema : Declarations) → IsFirst (λ r. Broken r schema DB.speaks s) inner_rules None
+        → IsBuilt schema DB.speaks s b) }
+    ensures read { IfOk result (λ b. (s : t.Statement) → flat.now ≡ flat_of s
+        → (schema : Declarations) → IsFirst (λ r. Broken r schema DB.speaks s) inner_rules None
+        → PlacesAreCounted s → IsRead DB.speaks s b.sql b.binds) }
     ensures refused { IfErr result (λ e. (r : Rule) → rule_of e ≡ Some r
-        → (r ≡ rule.TooManyBinds) × HasTooManyBinds DB.speaks (statement_tree statement.now)) }
+        → (s : t.Statement) → flat.now ≡ flat_of s
+        → (r ≡ rule.TooManyBinds) × HasTooManyBinds DB.speaks s) }
 {
-    let flat = flatten(alloc, statement)?;
-    let told = uncounted(alloc, backend, &flat, Blank::new(1))?;
-    let types = columns(alloc, statement)?;
-    let sql_types = known_types(alloc, &types)?;
+    let told = uncounted(alloc, backend, flat, Blank::new(1))?;
+    let sql_types = known_types(alloc, columns)?;
     accepted_are_read();
     names_one_leaf();
     Ok(Built {
@@ -146,9 +146,11 @@ pub fn compile_by<DB: Backend>(
     ensures refused { IfErr result (λ e. (r : Rule) → rule_of e ≡ Some r
         → IsLeast r schema.now DB.speaks (statement_tree statement.now)) }
 {
-    match first_broken_by(alloc, names, backend, schema, statement)? {
+    let flat = flatten(alloc, statement)?;
+    let Judgement { first, columns } = judge(alloc, names, backend, schema, &flat)?;
+    match first {
         Some(rule) => Err(CompileError::from(rule)),
-        None => build(alloc, backend, statement),
+        None => build(alloc, backend, &flat, columns.as_slice()),
     }
 }
 

@@ -4,15 +4,17 @@
 
 mod answer;
 mod boxing;
+mod breaking;
 mod built;
 mod error;
 mod fitting;
 
 pub use answer::{FusedAnswer, fused};
 pub use boxing::boxing_takes_the_id_alone;
+pub use breaking::broken;
 pub use built::{Built, compile, compile_by};
 pub use error::CompileError;
 pub use fitting::values_fit;
 pub use sql_fused::Steps;
-pub use sql_judge::{Names, broken};
+pub use sql_judge::Names;
 pub use sql_rules::{RULES, Rule};

@@ -6,13 +6,14 @@ use sql_check::{broken, compile};
 use sql_dialect::Pg;
 use sql_expr::{Expr, ExpressionMethods, FromClause, LockingClause, SelectStatement, Statement};
 use sql_fixture::{INTEGER, beside, is, schema};
-use sql_judge::first_broken;
+use sql_flat::flatten;
+use sql_judge::{Names, judge};
 use sql_key::{QueryId, QueryKey, expression_key};
 use sql_places::{Form, Inner, clauses, nodes, own_view, parts, widest_view};
 use sql_rows::{StatementCache, compile_sound};
 use sql_schema::Schema;
 use sql_select::{Query, QueryDsl};
-use sql_types::{columns, has_too_many_binds, type_of};
+use sql_types::{columns, type_of};
 use std::alloc::Global;
 use std::num::NonZeroUsize;
 use std::test::Fail;
@@ -105,14 +106,10 @@ fn verdicts_of(alloc: Global, schema: &Schema, statement: &Statement) -> Result<
         broken(alloc, &Pg, schema, statement)?.is_empty(),
         "no rule broken",
     )?;
-    is(
-        first_broken(alloc, &Pg, schema, statement)?.is_none(),
-        "no first rule",
-    )?;
-    is(
-        !has_too_many_binds(alloc, &Pg, statement)?,
-        "placeholders enough",
-    )?;
+    let flat = flatten(alloc, statement)?;
+    let judged = judge(alloc, Names::Asked, &Pg, schema, &flat);
+    drop(flat);
+    is(judged?.first.is_none(), "no first rule")?;
     let built = compile(alloc, &Pg, schema, statement)?;
     is(
         built.sql.as_str() == "SELECT \"users\".\"id\" FROM \"users\"",

@@ -13,8 +13,8 @@ use Rattle.sql_rules.specs.Lists.{IsSuffix}
 use Rattle.sql_schema.specs.Declarations.{Declarations}
 use Rattle.sql_schema.specs.Together.{may_stand_together}
 use Rattle.sql_rules.specs.Rules.{Clash, MayNotMeet}
-use Rattle.sql_judge.specs.Ends.{path_ends, front_under, last_under, leaf_ends, leaves_clash, tables_part}
-use Rattle.sql_judge.specs.Tables.{last_alike}
+use Rattle.sql_judge.specs.inside.Ends.{path_ends, front_under, last_under, leaf_ends, leaves_clash, tables_part}
+use Rattle.sql_judge.specs.inside.Tables.{last_alike}
 
 last_of_one : {X : Type 0} (x y : X) (front : List X) → y ∷ [] ≡ front ++ x ∷ [] → x ≡ y
 last_of_one x y [] e = cc

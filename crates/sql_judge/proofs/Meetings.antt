@@ -9,10 +9,10 @@ use Rattle.sql_schema.specs.declared.declaration.TableDecl.{TableDecl}
 use Rattle.sql_schema.specs.inside.NameSets.{Name, name_cmp}
 use Rattle.sql_schema.proofs.Repeats.{or-swapped}
 use Rattle.sql_node.specs.Tree.{Origin}
-use Rattle.sql_rules.specs.Lists.{AnyOf, AnyPair, Each}
+use Rattle.sql_rules.specs.Lists.{AnyOf, AnyPair}
 use Rattle.sql_rules.specs.Rules.{MayNotMeet}
 use Rattle.sql_rules.proofs.Loops.{any_each}
-use Rattle.sql_judge.specs.Tables.{HasTable, Cover, Holds}
+use Rattle.sql_judge.specs.inside.Tables.{HasTable, Cover, Holds}
 use denote.Ref.{Bor}
 
 -- ---- a relation of either order, which nothing has to itself
@@ -136,7 +136,8 @@ by-key P true v u o t e f old p = let one : v ≡ u = cc in subst P (ap (λ x. x
 by-key P false v u o t e f old p = old e
 
 pub held-more : (P : TableDecl → Type 0) (m n : BTreeMap Name (Bor TableDecl)) (k : Name) (v : Bor TableDecl)
-    → Updates name_cmp m n k (Some v) → ((t : TableDecl) → Holds m t → P t) → P v.now → (t : TableDecl) → Holds n t → P t
+    → Updates name_cmp m n k (Some v)
+    → ((t : TableDecl) → Holds m t → P t) → P v.now → (t : TableDecl) → Holds n t → P t
 held-more P m n k v u old p t h =
     by-key P (is_at (name_cmp k) h.0) v h.1 (get name_cmp m h.0) t (sym (u.0 h.0) ∙ h.2) h.3
     (λ e. old t (h.0, h.1, e, h.3)) p

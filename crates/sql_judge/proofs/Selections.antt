@@ -3,7 +3,7 @@ use Rattle.std.proofs.Common.{ℕ, ◌+◌, ◌<◌, List, [], ◌∷◌, ◌++�
 use Rattle.std.proofs.lemmas.List.{take_more, append-nil}
 use Rattle.sql_rules.specs.Lists.{Selects}
 
-selects-append : {X : Type 0} (P : X → Type 0) (xs ys a b : List X) → Selects P xs a → Selects P ys b
+pub selects-append : {X : Type 0} (P : X → Type 0) (xs ys a b : List X) → Selects P xs a → Selects P ys b
     → Selects P (xs ++ ys) (a ++ b)
 selects-append P [] ys a b h k = subst (λ x. Selects P ys (x ++ b)) (sym h) k
 selects-append P (x ∷ xs) ys a b (inl h) k =

@@ -1,23 +1,26 @@
-//! Aggregates and groups.
-#![tactic(auto, using(sql_node::proofs::Trees::opens_expr, sql_node::proofs::Trees::opens_distinct_clause, crate::proofs::Groups::groups))]
+//! Aggregates and groups, by loops over the clauses of each select statement. They take no memory.
+#![tactic(auto)]
 
-ghost use Rattle.std.specs.Prelude.{◌≡◌, ◌&&◌, IfOk, map, option_map};
+ghost use Rattle.std.specs.Prelude.{◌≡◌, ◌+◌, ◌<◌, ◌&&◌, ◌||◌, drop};
 ghost use Rattle.std.specs.Bool.{Decides};
 ghost use Rattle.std.specs.List.{list_any};
-ghost use Rattle.sql_node.specs.View.{distinct_clause_tree, expr_tree, exprs_of, items_of, maybe_of, order_item_tree};
 ghost use Rattle.std.specs.Str.{bytes_eq};
+ghost use Rattle.sql_schema.specs.Declarations.{Declarations};
+ghost use Rattle.sql_dialect.specs.declared.backend.Dialect.{Dialect};
+ghost use Rattle.sql_node.specs.Tree.{Statement};
 ghost use Rattle.sql_source.specs.Borrowed.{origin_of};
 ghost use Rattle.sql_source.specs.Origins.{same_origin};
-ghost use Rattle.sql_rules.specs.Scope.{nodes_of};
-ghost use Rattle.sql_rules.specs.Rules.{CountsAggregate, HasAggregate, IsMisgrouped, distinct_verdict as distinct_gives, items_verdict as items_give, order_verdict as order_gives};
-ghost use Rattle.sql_rules.specs.Verdicts.{column_verdict as column_gives, fields, fields_of, holds_aggregate, holds_column, holds_key as holds_whole_key, is_aggregate, NoVerdict, mix as mixed, verdict as gives, verdict_of};
-ghost use Rattle.sql_places.specs.Borrowed.{order_of, select_of};
-ghost use Rattle.sql_judge.specs.Grouped.{count_gives, verdict_tree};
+ghost use Rattle.sql_rules.specs.Rules.{Broken};
+ghost use Rattle.sql_rules.specs.Verdicts.{holds_column, holds_key as holds_whole_key, mix as mixed};
+ghost use Rattle.sql_rules.specs.declared.rule.Rule.TheVariants as rule;
+ghost use Rattle.sql_flat.specs.Flat.{flat_of};
+ghost use Rattle.sql_judge.specs.inside.Ahead.{after_at, any_ahead};
+ghost use Rattle.sql_judge.specs.inside.Grouping.{adding as added, all_give, breaks as sums_break, column_gives, field_at, field_passed, fields_by, fields_from, group_in, is_aggregate as aggregates, is_none as gives_none, is_unboxed as form_unboxed, kind_gives, misgrouped_at, nothing_summed, own_at, own_from, own_passed, piece_at, select_breaks, summed, sums_of, verdict_of};
+ghost use Rattle.sql_judge.specs.inside.Kids.{kids_from};
 
-use crate::test::NodeTest;
-use crate::unsupported::is_unboxed;
-use sql_node::{DistinctClause, Expr, OrderItem};
-use sql_places::SelectView;
+use crate::jump::past;
+use crate::names::origin_under;
+use sql_flat::{Flat, FlatKind, FlatNode, Form, Selecting};
 use sql_schema::Column;
 use sql_source::Origin;
 
@@ -30,8 +33,24 @@ enum Verdict {
     NoVerdict,
 }
 
+/// The nodes of a GROUP BY, from its own to the index after the last.
+#[derive(Debug, Clone, Copy, PartialEq, Eq)]
+struct Group {
+    start: usize,
+    end: usize,
+}
+
+/// The verdicts on the selection, DISTINCT ON and the order, and whether an aggregate stands in WHERE or GROUP BY.
+#[derive(Debug, Clone, Copy, PartialEq, Eq)]
+struct Sums {
+    selected: Verdict,
+    distinct: Verdict,
+    ordered: Verdict,
+    aggregate: bool,
+}
+
 fn mix(left: Verdict, right: Verdict) -> Verdict
-    ensures { verdict_tree result ≡ mixed (verdict_tree left) (verdict_tree right) }
+    ensures { verdict_of result ≡ mixed (verdict_of left) (verdict_of right) }
 {
     match (left, right) {
         (Verdict::NoVerdict, _) => Verdict::NoVerdict,
@@ -45,104 +64,137 @@ fn mix(left: Verdict, right: Verdict) -> Verdict
     }
 }
 
-#[cycle(aggregate)]
-fn any_aggregate(exprs: &[Expr]) -> bool
-    ensures { result ≡ list_any is_aggregate (nodes_of (exprs_of (map expr_tree exprs.now))) }
+fn is_none(verdict: Verdict) -> bool
+    ensures { result ≡ gives_none (verdict_of verdict) }
 {
-    for expr in exprs {
-        if has_aggregate(expr) {
-            return true;
-        }
-    }
-    false
-}
-
-/// Whether an aggregate stands in the expression, outside subselects.
-#[cycle(aggregate)]
-fn has_aggregate(expr: &Expr) -> bool
-    ensures { result ≡ holds_aggregate (expr_tree expr.now) }
-{
-    match expr {
-        Expr::CountStar | Expr::Count(_) => true,
-        Expr::Column(_)
-        | Expr::Field(_)
-        | Expr::Value(_, _)
-        | Expr::Exists(_)
-        | Expr::Subselect(_) => false,
-        Expr::List(exprs) => any_aggregate(exprs.as_slice()),
-        Expr::Nullable(a) | Expr::Not(a) | Expr::IsNull(a) | Expr::IsNotNull(a) => has_aggregate(a),
-        Expr::Eq(a, b)
-        | Expr::Ne(a, b)
-        | Expr::Gt(a, b)
-        | Expr::Ge(a, b)
-        | Expr::Lt(a, b)
-        | Expr::Le(a, b)
-        | Expr::And(a, b)
-        | Expr::Or(a, b) => has_aggregate(a) || has_aggregate(b),
-        Expr::EqAny(a, _) | Expr::NeAll(a, _) => has_aggregate(a),
+    match verdict {
+        Verdict::NoVerdict => true,
+        Verdict::No | Verdict::Yes | Verdict::Never => false,
     }
 }
 
-#[cycle(holds)]
-fn any_holds(exprs: &[Expr], origin: Origin<'_>, name: &str) -> bool
-    ensures { result
-        ≡ holds_column (fields_of (exprs_of (map expr_tree exprs.now))) (origin_of origin.entry)
-        name.now }
+/// Whether it is a subselect or a list of values, or what is counted is below it.
+fn is_passed(kind: &FlatKind) -> bool
+    ensures { result ≡ own_passed kind.now }
 {
-    for expr in exprs {
-        if holds(expr, origin, name) {
-            return true;
-        }
-    }
-    false
-}
-
-/// Whether a column is the one of that name. Names are compared first: whole tables, only where they agree.
-fn is_field(of: Origin<'_>, own: &str, origin: Origin<'_>, name: &str) -> bool
-    ensures { result
-        ≡ (same_origin (origin_of of.entry) (origin_of origin.entry) && bytes_eq own.now name.now) }
-{
-    own == name && of.is_same(origin)
-}
-
-/// Whether a group by list has the column of that name.
-#[cycle(holds)]
-fn holds(group: &Expr, origin: Origin<'_>, name: &str) -> bool
-    ensures { result
-        ≡ holds_column (fields (expr_tree group.now)) (origin_of origin.entry) name.now }
-{
-    match group {
-        Expr::Column(column) => {
-            is_field(
-                Origin::of_table(column.table()),
-                column.name(),
-                origin,
-                name,
-            )
-        }
-        Expr::Field(field) => is_field(Origin::of_field(field), field.column.name(), origin, name),
-        Expr::List(exprs) => any_holds(exprs.as_slice(), origin, name),
-        Expr::Nullable(a) => holds(a, origin, name),
+    match kind {
+        FlatKind::Count | FlatKind::Values(_) => true,
+        FlatKind::Select(_) | FlatKind::Combination(_) => true,
         _ => false,
     }
 }
 
-fn holds_key(group: &Expr, origin: Origin<'_>) -> bool
-    ensures { result ≡ holds_whole_key (fields (expr_tree group.now)) (origin_of origin.entry) }
+/// The index of the next node outside subselects.
+fn after_own(index: usize, node: &FlatNode) -> usize
+    requires { index < 18446744073709551615 }
+    ensures next { result ≡ after_at own_at own_passed index node.now }
+    ensures later { index < result }
 {
-    let key = origin.table.primary_key();
-    key.iter().all(|name| holds(group, origin, name.as_str()))
+    if is_passed(&node.kind) {
+        past(index, node)
+    } else {
+        index + 1
+    }
 }
 
-fn column_verdict(group: Option<&Expr>, origin: Origin<'_>, column: &Column) -> Verdict
-    ensures { verdict_tree result
-        ≡ column_gives (maybe_of (option_map (λ e. expr_tree e.now) group.entry))
-        (origin_of origin.entry) column.now.decl }
+/// Whether no field of a GROUP BY is below it.
+fn is_closed(kind: &FlatKind) -> bool
+    ensures { result ≡ field_passed kind.now }
+{
+    match kind {
+        FlatKind::List | FlatKind::Nullable | FlatKind::GroupBy => false,
+        _ => true,
+    }
+}
+
+/// The index of the next node that may be a field of a GROUP BY.
+fn after_field(index: usize, node: &FlatNode) -> usize
+    requires { index < 18446744073709551615 }
+    ensures next { result ≡ after_at field_at field_passed index node.now }
+    ensures later { index < result }
+{
+    if is_closed(&node.kind) {
+        past(index, node)
+    } else {
+        index + 1
+    }
+}
+
+fn is_aggregate(kind: &FlatKind) -> bool
+    ensures { result ≡ aggregates kind.now }
+{
+    match kind {
+        FlatKind::CountStar | FlatKind::Count => true,
+        _ => false,
+    }
+}
+
+/// Whether an aggregate is among the nodes from one index to another, outside subselects.
+fn has_aggregate(nodes: &[FlatNode], from: usize, end: usize) -> bool
+    ensures { result ≡ list_any aggregates (own_from end from nodes.now) }
+{
+    let mut index = from;
+    while index < end && index < nodes.len() {
+        let node = &nodes[index];
+        if is_aggregate(&node.kind) {
+            return true;
+        }
+        index = after_own(index, node);
+    }
+    false
+}
+
+/// Whether it is the column of that name. Names are compared first: whole tables, only where they agree.
+fn is_field(kind: &FlatKind, origin: Origin<'_>, name: &str) -> bool
+    ensures { result ≡ holds_column (field_at kind.now) (origin_of origin.entry) name.now }
+{
+    match kind {
+        FlatKind::Column(alias, column) => {
+            column.name() == name && origin_under(alias, column).is_same(origin)
+        }
+        _ => false,
+    }
+}
+
+/// Whether a GROUP BY has the column of that name.
+fn holds(nodes: &[FlatNode], group: Group, origin: Origin<'_>, name: &str) -> bool
+    ensures { result
+        ≡ holds_column (fields_from group.end group.start nodes.now) (origin_of origin.entry)
+        name.now }
+{
+    let mut index = group.start;
+    while index < group.end && index < nodes.len() {
+        let node = &nodes[index];
+        if is_field(&node.kind, origin, name) {
+            return true;
+        }
+        index = after_field(index, node);
+    }
+    false
+}
+
+fn holds_key(nodes: &[FlatNode], group: Group, origin: Origin<'_>) -> bool
+    ensures { result
+        ≡ holds_whole_key (fields_from group.end group.start nodes.now) (origin_of origin.entry) }
+{
+    let key = origin.table.primary_key();
+    key.iter()
+        .all(|name| holds(nodes, group, origin, name.as_str()))
+}
+
+fn column_verdict(
+    nodes: &[FlatNode],
+    group: Option<Group>,
+    origin: Origin<'_>,
+    column: &Column,
+) -> Verdict
+    ensures { verdict_of result
+        ≡ column_gives (fields_by nodes.now group) (origin_of origin.entry) column.now.decl }
 {
     match group {
         None => Verdict::No,
         Some(group) => {
-            if holds(group, origin, column.name()) || holds_key(group, origin) {
+            if holds(nodes, group, origin, column.name()) || holds_key(nodes, group, origin) {
                 Verdict::Yes
             } else {
                 Verdict::NoVerdict
@@ -151,143 +203,154 @@ fn column_verdict(group: Option<&Expr>, origin: Origin<'_>, column: &Column) -> 
     }
 }
 
-#[cycle(verdict)]
-fn verdict_of_each(exprs: &[Expr], group: Option<&Expr>) -> Verdict
-    ensures { verdict_tree result
-        ≡ verdict_of (maybe_of (option_map (λ e. expr_tree e.now) group.entry))
-        (exprs_of (map expr_tree exprs.now)) }
+fn kind_verdict(nodes: &[FlatNode], group: Option<Group>, kind: &FlatKind) -> Verdict
+    ensures { verdict_of result ≡ kind_gives (fields_by nodes.now group) kind.now }
+{
+    match kind {
+        FlatKind::Column(alias, column) => {
+            column_verdict(nodes, group, origin_under(alias, column), column)
+        }
+        FlatKind::CountStar | FlatKind::Count => Verdict::Yes,
+        _ => Verdict::Never,
+    }
+}
+
+/// The verdict on the nodes from one index to another, outside subselects.
+fn own_verdict(nodes: &[FlatNode], group: Option<Group>, from: usize, end: usize) -> Verdict
+    ensures { verdict_of result ≡ all_give (fields_by nodes.now group) (own_from end from nodes.now) }
 {
     let mut all = Verdict::Never;
-    for expr in exprs {
-        all = mix(all, expr_verdict(expr, group));
+    let mut index = from;
+    while index < end && index < nodes.len() {
+        let node = &nodes[index];
+        all = mix(all, kind_verdict(nodes, group, &node.kind));
+        index = after_own(index, node);
     }
     all
 }
 
-fn count_verdict(counted: &Expr) -> Verdict
-    ensures { verdict_tree result ≡ count_gives (expr_tree counted.now) }
+/// The GROUP BY among the clauses from one index to another.
+fn find_group(nodes: &[FlatNode], from: usize, end: usize) -> Option<Group>
+    ensures { fields_by nodes.now result ≡ group_in (kids_from piece_at end from nodes.now) }
 {
-    if has_aggregate(counted) {
-        Verdict::NoVerdict
-    } else {
-        Verdict::Yes
+    let mut index = from;
+    while index < end && index < nodes.len() {
+        let node = &nodes[index];
+        if let FlatKind::GroupBy = &node.kind {
+            return Some(Group {
+                start: index,
+                end: node.end,
+            });
+        }
+        index = past(index, node);
+    }
+    None
+}
+
+impl Sums {
+    /// With those of a clause, or of a selection.
+    fn adding(
+        mut self,
+        nodes: &[FlatNode],
+        group: Option<Group>,
+        index: usize,
+        node: &FlatNode,
+    ) -> Sums
+        ensures { sums_of result
+            ≡ added (fields_by nodes.now group) (sums_of self) node.now.kind
+            (own_from node.now.end index nodes.now) }
+    {
+        match &node.kind {
+            FlatKind::From | FlatKind::Having => {}
+            FlatKind::Where | FlatKind::GroupBy => {
+                self.aggregate = self.aggregate || has_aggregate(nodes, index, node.end);
+            }
+            FlatKind::DistinctOn => {
+                self.distinct = mix(self.distinct, own_verdict(nodes, group, index, node.end));
+            }
+            FlatKind::OrderBy => {
+                self.ordered = mix(self.ordered, own_verdict(nodes, group, index, node.end));
+            }
+            _ => self.selected = mix(self.selected, own_verdict(nodes, group, index, node.end)),
+        }
+        self
     }
 }
 
-#[cycle(verdict)]
-fn expr_verdict(expr: &Expr, group: Option<&Expr>) -> Verdict
-    ensures { verdict_tree result
-        ≡ gives (maybe_of (option_map (λ e. expr_tree e.now) group.entry)) (expr_tree expr.now) }
+/// Of the clauses from one index to another.
+fn clause_sums(nodes: &[FlatNode], group: Option<Group>, from: usize, end: usize) -> Sums
+    ensures { sums_of result
+        ≡ summed (fields_by nodes.now group) nothing_summed (kids_from piece_at end from nodes.now) }
 {
-    match expr {
-        Expr::Column(column) => column_verdict(group, Origin::of_table(column.table()), column),
-        Expr::Field(field) => column_verdict(group, Origin::of_field(field), &field.column),
-        Expr::Value(_, _) | Expr::Exists(_) | Expr::Subselect(_) => Verdict::Never,
-        Expr::List(exprs) => verdict_of_each(exprs.as_slice(), group),
-        Expr::CountStar => Verdict::Yes,
-        Expr::Nullable(a) | Expr::Not(a) | Expr::IsNull(a) | Expr::IsNotNull(a) => expr_verdict(
-            a, group,
-        ),
-        Expr::Count(a) => count_verdict(a),
-        Expr::Eq(a, b)
-        | Expr::Ne(a, b)
-        | Expr::Gt(a, b)
-        | Expr::Ge(a, b)
-        | Expr::Lt(a, b)
-        | Expr::Le(a, b)
-        | Expr::And(a, b)
-        | Expr::Or(a, b) => mix(expr_verdict(a, group), expr_verdict(b, group)),
-        Expr::EqAny(a, _) | Expr::NeAll(a, _) => expr_verdict(a, group),
-    }
-}
-
-fn order_verdict(order: Option<&[OrderItem]>, group: Option<&Expr>) -> Verdict
-    ensures { verdict_tree result
-        ≡ order_gives (maybe_of (option_map (λ e. expr_tree e.now) group.entry))
-        (order_of (option_map (λ is. map order_item_tree is.now) order.entry)) }
-{
-    match order {
-        None => Verdict::Never,
-        Some(items) => items_verdict(items, group),
-    }
-}
-
-fn item_verdict(item: &OrderItem, group: Option<&Expr>) -> Verdict
-    ensures { verdict_tree result
-        ≡ gives (maybe_of (option_map (λ e. expr_tree e.now) group.entry))
-        (order_item_tree item.now).0 }
-{
-    expr_verdict(&item.expr, group)
-}
-
-fn items_verdict(items: &[OrderItem], group: Option<&Expr>) -> Verdict
-    ensures { verdict_tree result
-        ≡ items_give (maybe_of (option_map (λ e. expr_tree e.now) group.entry))
-        (items_of (map order_item_tree items.now)) }
-{
-    let mut all = Verdict::Never;
-    for item in items {
-        all = mix(all, item_verdict(item, group));
+    let mut all = Sums {
+        selected: Verdict::Never,
+        distinct: Verdict::Never,
+        ordered: Verdict::Never,
+        aggregate: false,
+    };
+    let mut index = from;
+    while index < end && index < nodes.len() {
+        let node = &nodes[index];
+        all = all.adding(nodes, group, index, node);
+        index = past(index, node);
     }
     all
 }
 
-fn distinct_verdict(distinct: &DistinctClause, group: Option<&Expr>) -> Verdict
-    ensures { verdict_tree result
-        ≡ distinct_gives (maybe_of (option_map (λ e. expr_tree e.now) group.entry))
-        (distinct_clause_tree distinct.now) }
+fn is_unboxed(form: Form) -> bool
+    ensures { result ≡ form_unboxed form }
 {
-    match distinct {
-        DistinctClause::NoDistinctClause => Verdict::Never,
-        DistinctClause::DistinctClause => Verdict::Never,
-        DistinctClause::DistinctOnClause(exprs) => expr_verdict(exprs, group),
+    match form {
+        Form::Unboxed(_) => true,
+        Form::Boxed(_, _) => false,
     }
 }
 
-fn clause_has_aggregate(clause: Option<&Expr>) -> bool
-    ensures { Decides result
-        (HasAggregate (maybe_of (option_map (λ e. expr_tree e.now) clause.entry))) }
+/// Whether they break the rule. The order of a boxed statement is not looked at.
+fn breaks(form: Form, sums: Sums) -> bool
+    ensures { result ≡ sums_break form (sums_of sums) }
 {
-    match clause {
-        None => false,
-        Some(expr) => has_aggregate(expr),
+    sums.aggregate
+        || ((is_none(sums.selected) || is_none(sums.distinct))
+            || (is_unboxed(form)
+                && (is_none(mix(sums.selected, sums.ordered))
+                    || is_none(mix(sums.selected, sums.distinct)))))
+}
+
+fn select_misgroups(nodes: &[FlatNode], select: &Selecting, from: usize, end: usize) -> bool
+    ensures { result ≡ select_breaks select.now.form (kids_from piece_at end from nodes.now) }
+{
+    let group = find_group(nodes, from, end);
+    breaks(select.form, clause_sums(nodes, group, from, end))
+}
+
+fn is_misgrouped(nodes: &[FlatNode], index: usize, node: &FlatNode) -> bool
+    requires { index < 18446744073709551615 }
+    ensures { result ≡ misgrouped_at index node.now (drop (index + 1) nodes.now) }
+{
+    match &node.kind {
+        FlatKind::Select(select) => select_misgroups(nodes, select, index + 1, node.end),
+        FlatKind::Count => has_aggregate(nodes, index + 1, node.end),
+        _ => false,
     }
 }
 
-fn is_none(verdict: Verdict) -> bool
-    ensures { Decides result (verdict_tree verdict ≡ NoVerdict) }
+fn any_misgrouped(nodes: &[FlatNode]) -> bool
+    ensures { result ≡ any_ahead misgrouped_at 0 nodes.now }
 {
-    match verdict {
-        Verdict::NoVerdict => true,
-        Verdict::No | Verdict::Yes | Verdict::Never => false,
-    }
-}
-
-/// Whether an aggregate stands in a condition or a group by list, or what is selected has no one value in a group.
-pub(crate) fn is_misgrouped(select: SelectView<'_>) -> bool
-    ensures { Decides result (IsMisgrouped (select_of select.entry)) }
-{
-    let group = select.group_by;
-    let selected = expr_verdict(select.selection, group);
-    let distinct = distinct_verdict(select.distinct, group);
-    let ordered = order_verdict(select.order, group);
-    (clause_has_aggregate(select.condition) || clause_has_aggregate(group))
-        || (is_none(selected) || is_none(distinct))
-        || (is_unboxed(select.form)
-            && (is_none(mix(selected, ordered)) || is_none(mix(selected, distinct))))
-}
-
-/// That an aggregate is counted.
-#[derive(Drop)]
-pub(crate) struct Counted;
-
-impl NodeTest for Counted {
-    ghost holds = { λ t v e. CountsAggregate e };
-
-    fn test(&self, _view: &[Origin<'_>], expr: &Expr) -> bool {
-        match expr {
-            Expr::Count(a) => has_aggregate(a),
-            _ => false,
+    for (index, node) in nodes.iter().enumerate() {
+        if is_misgrouped(nodes, index, node) {
+            return true;
         }
     }
+    false
+}
+
+/// Whether an aggregate stands where none may, or what is selected has no one value in a group, in the statement whose
+/// flat list this is: `SELECT "users"."id", count(*) FROM "users"`. It takes no memory.
+pub(crate) fn is_flat_misgrouped(flat: &Flat) -> bool
+    ensures { (s : Statement) → flat.now ≡ flat_of s → (schema : Declarations) (d : Dialect)
+        → Decides result (Broken rule.Grouping schema d s) }
+{
+    any_misgrouped(flat.nodes())
 }

@@ -7,11 +7,11 @@ ghost use Rattle.sql_schema.specs.Refusals.{any_two};
 ghost use Rattle.sql_source.specs.Borrowed.{origin_of};
 ghost use Rattle.sql_rules.specs.Lists.{AnyPair};
 ghost use Rattle.sql_rules.specs.Rules.{Clash as clash, MayNotMeet};
-ghost use Rattle.sql_judge.specs.Ends.{front_under, last_under, leaf_ends, leaves_clash, path_ends, tables_part};
-ghost use Rattle.sql_judge.specs.Tables.{Cover, Holds, last_alike, named_alike};
+ghost use Rattle.sql_judge.specs.inside.Ends.{front_under, last_under, leaf_ends, leaves_clash, path_ends, tables_part};
+ghost use Rattle.sql_judge.specs.inside.Tables.{Cover, Holds, last_alike, named_alike};
 
-use crate::names::is_one_table;
-use crate::test::{PairTest, any_pair};
+use crate::pair::{PairTest, any_pair};
+use crate::tables::is_one_table;
 use sql_schema::{NoMemory, Schema, Table, TableNotEqual};
 use sql_source::Origin;
 use std::alloc::Global;

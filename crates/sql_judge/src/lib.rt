@@ -1,19 +1,27 @@
-//! Which rules a statement breaks.
+//! Which rules a statement breaks, and the types of its columns, by loops over its flat list.
 #![tactic(auto)]
 
+mod clauses;
+mod counted;
+mod dialects;
+mod flags;
+mod given;
 mod grouping;
-mod incompatible;
-mod judge;
+mod judgement;
+mod judging;
+mod jump;
+mod kinds;
 mod leaves;
-mod lists;
 mod names;
-mod nullable;
 mod order;
-mod relation;
-mod test;
+mod padding;
+mod pair;
+mod scope;
+mod shapes;
+mod stack;
+mod tables;
+mod types;
 mod typing;
-mod unsupported;
-mod viewed;
 
-pub use judge::{broken, first_broken, first_broken_by};
-pub use viewed::Names;
+pub use judgement::{Judgement, broken_but_the_last, judge};
+pub use names::Names;

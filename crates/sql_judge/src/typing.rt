@@ -1,111 +1,110 @@
-//! Expressions without a type, values that do not fit, and conditions that are not Bool.
-#![tactic(auto, using(sql_node::proofs::Trees::opens_expr))]
+//! The types of a statement's columns, and whether it is ill-typed or holds an empty list, by one loop from the last
+//! node to the first.
+#![tactic(auto, using(crate::proofs::Stacking::stacking))]
 
-ghost use Rattle.std.specs.Prelude.{◌≡◌, IfOk, map, IsTrue};
+ghost use Rattle.std.specs.Prelude.{◌≡◌, ◌∷◌, ◌||◌, IfOk, OnOk};
 ghost use Rattle.std.specs.Bool.{Decides};
-ghost use Rattle.std.specs.List.{list_any};
-ghost use Rattle.sql_node.specs.View.{expr_tree, exprs_of};
-ghost use Rattle.sql_rules.specs.Lists.{AnyOf};
-ghost use Rattle.sql_rules.specs.Rules.{IsBool, IsIllTyped, IsIllTypedClause};
-ghost use Rattle.sql_rules.specs.Scope.{flat, flat_of, nodes as nodes_in};
-ghost use Rattle.sql_rules.specs.Types.{type_of as type_in};
-ghost use Rattle.sql_places.specs.Claused.{clause_of};
-ghost use Rattle.sql_rules.specs.inside.Misfits.{misfit};
+ghost use Rattle.sql_schema.specs.Declarations.{Declarations};
+ghost use Rattle.sql_dialect.specs.declared.backend.Dialect.{Dialect};
+ghost use Rattle.sql_node.specs.Tree.{Statement};
+ghost use Rattle.sql_rules.specs.Rules.{Broken};
+ghost use Rattle.sql_rules.specs.Types.{columns as columns_of};
+ghost use Rattle.sql_rules.specs.declared.rule.Rule.TheVariants as rule;
+ghost use Rattle.sql_flat.specs.Flat.{flat_of};
+ghost use Rattle.sql_judge.specs.inside.Lists.{any_empty_from, any_ill_from, typed_from};
+ghost use Rattle.sql_judge.specs.inside.Stacks.{split, stack};
+ghost use Rattle.sql_judge.specs.inside.Typing.{empty as is_empty, ill, typing};
 
-use crate::test::ClauseTest;
-use sql_node::Expr;
-use sql_places::{Clause, ClauseKind, nodes};
-use sql_schema::{Base, NoMemory, SqlType};
-use sql_types::{fits, type_of};
+use crate::given::Judged;
+use crate::judging::judged_at;
+use crate::stack::{Done, leave, next};
+use sql_flat::{Flat, FlatNode};
+use sql_schema::{NoMemory, SqlType};
 use std::alloc::Global;
 
-/// Whether it is a value that does not fit its type.
-fn is_misfit(expr: &Expr) -> bool
-    ensures { result ≡ misfit (expr_tree expr.now) }
+/// The types of a statement's columns, and whether an expression is ill-typed or a list has no element.
+#[derive(Debug, Drop)]
+pub(crate) struct Typed {
+    pub columns: Vec<Option<SqlType>>,
+    pub mismatched: bool,
+    pub empty: bool,
+}
+
+/// What the loop knows of the nodes behind.
+#[derive(Debug, Drop)]
+struct Found {
+    done: Vec<Done>,
+    mismatched: bool,
+    empty: bool,
+}
+
+/// Puts what a node has in the place of what its children have.
+fn put(alloc: Global, index: usize, node: &FlatNode, found: &mut Found) -> Result<(), NoMemory>
+    ensures done { OnOk result (stack found.new.done.items
+        ≡ (index, typing node.now.kind (split node.now.end found.old.done.items).0)
+        ∷ (split node.now.end found.old.done.items).1) }
+    ensures mismatched { OnOk result (found.new.mismatched
+        ≡ (ill node.now.kind (split node.now.end found.old.done.items).0 || found.old.mismatched)) }
+    ensures empty { OnOk result (found.new.empty
+        ≡ (is_empty node.now.kind (split node.now.end found.old.done.items).0 || found.old.empty)) }
 {
-    match expr {
-        Expr::Value(ty, value) => !fits(*ty, value),
-        _ => false,
+    let Judged {
+        given,
+        mismatched,
+        empty,
+    } = judged_at(alloc, &node.kind, &mut found.done, node.end)?;
+    leave(&mut found.done, node.end);
+    found.done.push(Done {
+        start: index,
+        given,
+    })?;
+    found.mismatched = mismatched || found.mismatched;
+    found.empty = empty || found.empty;
+    Ok(())
+}
+
+/// What the nodes have, from the first on.
+fn judge_each(alloc: Global, nodes: &[FlatNode]) -> Result<Found, NoMemory>
+    ensures done { IfOk result (λ f. stack f.done.items ≡ typed_from 0 nodes.now) }
+    ensures mismatched { IfOk result (λ f. f.mismatched ≡ any_ill_from 0 nodes.now) }
+    ensures empty { IfOk result (λ f. f.empty ≡ any_empty_from 0 nodes.now) }
+{
+    let mut found = Found {
+        done: Vec::new(alloc),
+        mismatched: false,
+        empty: false,
+    };
+    let mut index = nodes.len();
+    while index > 0 {
+        index -= 1;
+        put(alloc, index, &nodes[index], &mut found)?;
     }
+    Ok(found)
 }
 
-fn any_misfit(exprs: &[&Expr]) -> bool
-    ensures { result ≡ list_any (λ e. misfit (expr_tree e.now)) exprs.now }
+#[tactic(auto, using(crate::proofs::Rooted::root))]
+/// The types of the columns of the statement whose flat list this is, from left to right; whether an expression in it
+/// has no type, a value does not fit its own or a condition is not Bool; and whether a list in it has no element. Of
+/// `SELECT "users"."id" FROM "users" WHERE ("users"."id" = $1)` the columns are one, an integer, and both flags are
+/// false. One pass over the nodes. Fails only for memory.
+pub(crate) fn types_of_flat(alloc: Global, flat: &Flat) -> Result<Typed, NoMemory>
+    ensures columns { (s : Statement) → flat.now ≡ flat_of s
+        → IfOk result (λ t. t.columns.items ≡ columns_of s) }
+    ensures mismatched { (s : Statement) → flat.now ≡ flat_of s
+        → (schema : Declarations) (d : Dialect)
+        → IfOk result (λ t. Decides t.mismatched (Broken rule.TypeMismatch schema d s)) }
+    ensures empty { (s : Statement) → flat.now ≡ flat_of s → (schema : Declarations) (d : Dialect)
+        → IfOk result (λ t. Decides t.empty (Broken rule.EmptyList schema d s)) }
 {
-    exprs.iter().any(|expr| is_misfit(expr))
-}
-
-/// Whether the expression, or one in it, has no type or is a value that does not fit. One without a type leaves all around
-/// it without a type.
-fn is_ill_typed(alloc: Global, expr: &Expr) -> Result<bool, NoMemory>
-    ensures { IfOk result (λ b. Decides b (AnyOf IsIllTyped (nodes_in (expr_tree expr.now)))) }
-{
-    let ty = type_of(alloc, expr)?;
-    let all = nodes(alloc, expr)?;
-    Ok(ty.is_none() || any_misfit(all.as_slice()))
-}
-
-#[cycle(elements)]
-fn any_ill_typed(alloc: Global, exprs: &[Expr]) -> Result<bool, NoMemory>
-    ensures { IfOk result (λ b. Decides b
-        (AnyOf (λ e. AnyOf IsIllTyped (nodes_in e))
-        (flat_of (exprs_of (map expr_tree exprs.now))))) }
-{
-    for expr in exprs {
-        if has_ill_typed(alloc, expr)? {
-            return Ok(true);
-        }
-    }
-    Ok(false)
-}
-
-/// Whether an element of a list is ill-typed.
-#[cycle(elements)]
-fn has_ill_typed(alloc: Global, expr: &Expr) -> Result<bool, NoMemory>
-    ensures { IfOk result (λ b. Decides b
-        (AnyOf (λ e. AnyOf IsIllTyped (nodes_in e)) (flat (expr_tree expr.now)))) }
-{
-    match expr {
-        Expr::List(exprs) => any_ill_typed(alloc, exprs.as_slice()),
-        Expr::Nullable(a) => has_ill_typed(alloc, a),
-        _ => is_ill_typed(alloc, expr),
-    }
-}
-
-fn is_truth(ty: Option<SqlType>) -> bool
-    ensures { Decides result (IsBool ty) }
-{
-    match ty {
-        None => false,
-        Some(ty) => ty.base == Base::Bool,
-    }
-}
-
-fn is_no_condition(alloc: Global, expr: &Expr) -> Result<bool, NoMemory>
-    ensures { IfOk result (λ b. Decides b (¬ IsBool (type_in (expr_tree expr.now)))) }
-{
-    let ty = type_of(alloc, expr)?;
-    Ok(!is_truth(ty))
-}
-
-/// That a clause is ill-typed.
-#[derive(Drop)]
-pub(crate) struct IllTyped;
-
-impl ClauseTest for IllTyped {
-    ghost holds = { λ t c. IsIllTypedClause c };
-
-    fn test(&self, alloc: Global, clause: &Clause<'_>) -> Result<bool, NoMemory> {
-        match clause.kind {
-            ClauseKind::Selection | ClauseKind::DistinctOn | ClauseKind::GroupBy => {
-                has_ill_typed(alloc, clause.expr)
-            }
-            ClauseKind::OrderBy => is_ill_typed(alloc, clause.expr),
-            ClauseKind::On | ClauseKind::Where | ClauseKind::Having => {
-                let ill_typed = is_ill_typed(alloc, clause.expr)?;
-                let other = is_no_condition(alloc, clause.expr)?;
-                Ok(ill_typed || other)
-            }
-        }
-    }
+    let Found {
+        mut done,
+        mismatched,
+        empty,
+    } = judge_each(alloc, flat.nodes())?;
+    let columns = next(&mut done, 1).into_types(alloc)?;
+    Ok(Typed {
+        columns,
+        mismatched,
+        empty,
+    })
 }

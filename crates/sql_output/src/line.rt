@@ -5,7 +5,7 @@ ghost use Rattle.sql_check.specs.Errors.{rule_of};
 ghost use Rattle.sql_document.specs.Trees.{request_tree};
 ghost use Rattle.sql_node.specs.View.{statement_tree};
 ghost use Rattle.sql_rows.specs.Entries.{IsNext};
-ghost use Rattle.sql_judge.specs.declared.viewed.Names.TheVariants as name;
+ghost use Rattle.sql_judge.specs.declared.names.Names.TheVariants as name;
 ghost use Rattle.sql_rules.specs.Rules.{Broken};
 ghost use Rattle.sql_rules.specs.Texts.{rule_text};
 ghost use Rattle.sql_rules.specs.declared.rule.Rule.{Rule};

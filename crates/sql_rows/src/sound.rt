@@ -2,7 +2,7 @@ ghost use Rattle.std.specs.Prelude.{◌≡◌, Some, IfOk, IfErr};
 ghost use Rattle.sql_node.specs.View.{statement_tree};
 ghost use Rattle.sql_check.specs.Compiled.{IsBuilt, IsLeast, IsRead};
 ghost use Rattle.sql_check.specs.Errors.{rule_of};
-ghost use Rattle.sql_judge.specs.declared.viewed.Names.TheVariants as name;
+ghost use Rattle.sql_judge.specs.declared.names.Names.TheVariants as name;
 ghost use Rattle.sql_rules.specs.Rules.{Broken};
 ghost use Rattle.sql_rules.specs.declared.rule.Rule.{Rule};
 ghost use Rattle.sql_rules.specs.declared.rule.Rule.TheVariants as rule;

@@ -2,9 +2,9 @@ use Rattle.std.proofs.Common.{◌≡◌, sym, ◌∙◌}
 use Rattle.std.proofs.lemmas.Bool.{false≢true}
 use Rattle.sql_source.specs.Borrowed.{origin_of}
 use Rattle.sql_rules.proofs.Loops.{pair_map}
-use Rattle.sql_judge.specs.Tables.{named_alike}
+use Rattle.sql_judge.specs.inside.Tables.{named_alike}
 use Rattle.sql_judge.proofs.Alike.{two-pass}
-use Rattle.sql_judge.proofs.Scoped.{names-of-one}
+use Rattle.sql_judge.proofs.ByNames.{names-of-one}
 use Rattle.sql_judge.proofs.leaves.any_ambiguous.Goals as goal
 
 pub returns-else-alike : goal.returns-else-alike

@@ -1,4 +1,4 @@
-use Rattle.std.proofs.Common.{map, ap, sym, subst}
+use Rattle.std.proofs.Common.{map, subst}
 use Rattle.std.specs.Bool.{Decides}
 use Rattle.std.proofs.lemmas.Bool.Decides.{Decides-like}
 use Rattle.sql_source.specs.Borrowed.{origin_of}

@@ -3,7 +3,7 @@ use Rattle.std.proofs.lemmas.Bool.{false≢true}
 use Rattle.sql_source.specs.Borrowed.{origin_of}
 use Rattle.sql_rules.specs.Rules.{Clash}
 use Rattle.sql_rules.proofs.Loops.{pair_map}
-use Rattle.sql_judge.specs.Tables.{last_alike}
+use Rattle.sql_judge.specs.inside.Tables.{last_alike}
 use Rattle.sql_judge.proofs.Alike.{two-pass}
 use Rattle.sql_judge.proofs.Clashes.{clash-last}
 use Rattle.sql_judge.proofs.leaves.any_clash.Goals as goal

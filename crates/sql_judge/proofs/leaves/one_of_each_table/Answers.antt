@@ -4,8 +4,8 @@ use Rattle.sql_source.specs.Borrowed.{origin_of}
 use Rattle.sql_rules.specs.Lists.{AnyOf}
 use Rattle.sql_rules.proofs.Lists.{any_left, any_right}
 use Rattle.sql_rules.proofs.Loops.{here_any}
-use Rattle.sql_places.proofs.Gathering.{map-append}
-use Rattle.sql_judge.specs.Tables.{Cover, Holds}
+use Rattle.sql_judge.proofs.SourceLeaves.{map-append}
+use Rattle.sql_judge.specs.inside.Tables.{Cover, Holds}
 use Rattle.sql_judge.proofs.Meetings.{cover-more, cover-next, has-last, held-more}
 use Rattle.sql_judge.proofs.leaves.one_of_each_table.Goals as goal
 use Rattle.sql_judge.proofs.leaves.one_of_each_table.Goals.{then-not-held+in_ok-insert+in_ok-push, else-not-held}

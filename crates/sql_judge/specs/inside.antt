@@ -1,0 +1,22 @@
+-- Devices: what the loops over a flat list do, turn by turn, what trees of nodes give, and tests of leaves.
+pub mod Ahead
+pub mod Clauses
+pub mod Counted
+pub mod Dialects
+pub mod Ends
+pub mod Flags
+pub mod Grouping
+pub mod Kids
+pub mod Known
+pub mod Lists
+pub mod Padding
+pub mod PaddingStacks
+pub mod Shapes
+pub mod Sites
+pub mod Stacks
+pub mod Tables
+pub mod Tested
+pub mod Typing
+pub mod Views
+pub mod Walks
+pub mod Words
