@@ -50,7 +50,7 @@ module _ {B : Type 0} (at : ℕ → FlatNode → List FlatNode → B) where
       by_test false q =
           kids-reached e x.end (p + 1) (p + 1) (drop (p + 1) nodes) (omega (arith, ltb-false p x.end q)) (omega arith)
 
-  -- there is none behind the last node
+  -- there is none after the last node
   pub kids-end : (e i : ℕ) (nodes : List FlatNode) → (e ≤ i) ⊎ (length nodes ≤ i) → kids_from at e i nodes ≡ []
   kids-end e i nodes (inl h) = kids-stop e i i (drop i nodes) h
   kids-end e i nodes (inr h) = ap (kids at e i i) (drop_all i nodes h)

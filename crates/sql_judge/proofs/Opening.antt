@@ -46,7 +46,7 @@ open-ends p all os o is h = rw (ap opens is ∙ opens-push os o, le-ltb p o.end 
 pub open-around : (all os : List Open) (o : Open) → all ≡ os ++ o ∷ [] → around (opens all) ≡ views_of o.known
 open-around all os o is = rw (ap opens is ∙ opens-push os o) refl
 
--- the last of a list, behind the others
+-- the last of a list, after the others
 last-is : {X : Type 0} (xs : List X) (x : X) → slice_get xs (length xs - 1) ≡ Some x
     → xs ≡ take (length xs - 1) xs ++ x ∷ []
 last-is xs x h =

@@ -105,7 +105,7 @@ module _ (chosen : FlatKind → Bool) where
       ∙ first-clause e i i ts rest (omega arith) (omega arith) in
       rw (lt-ltb n e (omega arith), le-ltb n u g) (λ j. cond (chosen k) (words-kids n us after j) (behind j))
 
-  -- behind a select statement's node
+  -- after a select statement's node
   kids-clause : (n : ℕ) (k : FlatKind) (ts : Roses FlatKind) (rest : List FlatNode)
       → words_behind chosen n (flat_node k (n + suc (sizes ts))) (flats flat_node (n + 1) ts rest)
       ≡ first_words chosen ts

@@ -28,7 +28,7 @@ nest-ends p all os o is h = rw (ap nest_of is ∙ nest-push os o, le-ltb p o.end
 nest-innermost : (all os : List Open) (o : Open) → all ≡ os ++ o ∷ [] → innermost (nest_of all) ≡ o.standing
 nest-innermost all os o is = rw (ap nest_of is ∙ nest-push os o) refl
 
--- the last of a list, behind the others
+-- the last of a list, after the others
 last-is : {X : Type 0} (xs : List X) (x : X) → slice_get xs (length xs - 1) ≡ Some x
     → xs ≡ take (length xs - 1) xs ++ x ∷ []
 last-is xs x h =

@@ -108,7 +108,7 @@ pub(crate) fn values_type(ty: SqlType, done: &mut Vec<Done>, end: usize) -> Opti
     all
 }
 
-/// What the selection of a select statement has, which stands behind DISTINCT ON.
+/// What the selection of a select statement has, which comes after DISTINCT ON.
 pub(crate) fn selection(unique: Uniqueness, done: &mut Vec<Done>, end: usize) -> Given
     ensures given { given_of result ≡ selected unique (split end done.old.items).0 }
     ensures left { (split end done.new.items).1 ≡ (split end done.old.items).1 }

@@ -30,7 +30,7 @@ pub(crate) struct Typed {
     pub empty: bool,
 }
 
-/// What the loop knows of the nodes behind.
+/// What the loop knows of the nodes after it.
 #[derive(Debug, Drop)]
 struct Found {
     done: Vec<Done>,

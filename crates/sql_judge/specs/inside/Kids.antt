@@ -5,7 +5,7 @@ use Rattle.sql_rose.specs.Rose.{Rose, node, Roses, none, more}
 use Rattle.sql_flat.specs.declared.kind.FlatKind.{FlatKind}
 use Rattle.sql_flat.specs.declared.kind.FlatNode.{FlatNode}
 
--- the index behind a node and what is below it
+-- the index after a node and what is below it
 abbrev pub past : ℕ → FlatNode → ℕ
 past p x = if ltb p x.end then x.end else p + 1
 
