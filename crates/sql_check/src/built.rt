@@ -126,6 +126,32 @@ fn build<DB: Backend>(
     })
 }
 
+/// What `compile_by` answers of the statement whose flat list this is.
+///
+/// List and schema stay as they are. `NoMemory` may stand in place of any answer.
+pub fn compile_flat_by<DB: Backend>(
+    alloc: Global,
+    names: Names,
+    backend: &DB,
+    schema: &Schema,
+    flat: &Flat,
+) -> Result<Built, CompileError>
+    requires { names ≡ name.Known → (s : t.Statement) → flat.now ≡ flat_of s
+        → ¬ Broken rule.UnknownName schema.now DB.speaks s }
+    ensures built { IfOk result (λ b. (s : t.Statement) → flat.now ≡ flat_of s
+        → IsBuilt schema.now DB.speaks s b) }
+    ensures read { IfOk result (λ b. (s : t.Statement) → flat.now ≡ flat_of s
+        → IsRead DB.speaks s b.sql b.binds) }
+    ensures refused { IfErr result (λ e. (r : Rule) → rule_of e ≡ Some r
+        → (s : t.Statement) → flat.now ≡ flat_of s → IsLeast r schema.now DB.speaks s) }
+{
+    let Judgement { first, columns } = judge(alloc, names, backend, schema, flat)?;
+    match first {
+        Some(rule) => Err(CompileError::from(rule)),
+        None => build(alloc, backend, flat, columns.as_slice()),
+    }
+}
+
 /// Compiles a statement that breaks no rule, or answers the first rule that it breaks. Names that are known to be the schema's are not
 /// looked up.
 ///
@@ -147,11 +173,7 @@ pub fn compile_by<DB: Backend>(
         → IsLeast r schema.now DB.speaks (statement_tree statement.now)) }
 {
     let flat = flatten(alloc, statement)?;
-    let Judgement { first, columns } = judge(alloc, names, backend, schema, &flat)?;
-    match first {
-        Some(rule) => Err(CompileError::from(rule)),
-        None => build(alloc, backend, &flat, columns.as_slice()),
-    }
+    compile_flat_by(alloc, names, backend, schema, &flat)
 }
 
 /// Compiles a statement that breaks no rule, or answers the first rule that it breaks.

@@ -12,7 +12,7 @@ mod fitting;
 pub use answer::{FusedAnswer, fused};
 pub use boxing::boxing_takes_the_id_alone;
 pub use breaking::broken;
-pub use built::{Built, compile, compile_by};
+pub use built::{Built, compile, compile_by, compile_flat_by};
 pub use error::CompileError;
 pub use fitting::values_fit;
 pub use sql_fused::Steps;

@@ -1,5 +1,5 @@
 -- What a call makes of the entries, where its pair is there, or new, or there is none.
-use Rattle.std.proofs.Common.{◌≡◌, ◌↔◌, true, false, true≢false, List, None, Some, Contains, inl, inr, refl, sym, ap, ◌∙◌, subst}
+use Rattle.std.proofs.Common.{◌≡◌, ◌↔◌, true, false, true≢false, List, None, Some, Contains, inr, refl, sym, ap, ◌∙◌, subst}
 use Rattle.std.specs.Prelude.{Result, Ok, Err, OnOk, OnErr}
 use Rattle.sql_dialect.specs.declared.backend.Dialect.{Dialect}
 use Rattle.sql_node.specs.Tree.{Statement}

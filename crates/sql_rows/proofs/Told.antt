@@ -28,7 +28,7 @@ kept-serves schema d s pair b own built = λ e t other.
     subst (λ x. Tells schema x t (kept_of b))
     (sym own.dialect ∙ other.dialect) told
 
--- an entry behind a put serves where what was put does
+-- an entry after a put serves where what was put does
 pub put-serves : (schema : Declarations) (c : LruCache RequestKey Kept) (q : RequestKey) (v : Kept)
     (e : RequestKey × Kept) → IsPut same_key c q v e → Serves schema (q, v) → Serves schema e
 put-serves schema c q v e put h = subst (Serves schema) (λ i. (key put.1 i, sym put.0 i)) h

@@ -1,7 +1,9 @@
 ghost use Rattle.std.specs.Prelude.{◌≡◌, ◌≢◌, ◌↔◌, ◌≤◌, [], length, false, slice_get, Contains, AllPairs, IfOk, IfErr, OnOk, OnErr, IsTrue, Some};
 ghost use Rattle.std.specs.NonZero.{non_zero_usize_get};
 ghost use Rattle.sql_schema.specs.Declarations.{Declarations};
+ghost use Rattle.sql_node.specs.Tree.{Statement as Tree};
 ghost use Rattle.sql_node.specs.View.{statement_tree};
+ghost use Rattle.sql_flat.specs.Flat.{flat_of};
 ghost use Rattle.sql_key.specs.Keys.{id_of};
 ghost use Rattle.sql_judge.specs.declared.names.Names.TheVariants as name;
 ghost use Rattle.sql_rules.specs.Rules.{Broken};
@@ -14,11 +16,12 @@ ghost use Rattle.sql_meaning.specs.Fitting.{AnswersFit};
 ghost use Rattle.sql_rows.specs.Entries.{IsHit, IsLookedUp, IsNext, put};
 ghost use Rattle.sql_rows.specs.inside.Served.{Serves, Tells, kept_of};
 
-use crate::compile_sound_by;
+use crate::sound::compile_sound_flat_by;
 use lru::LruCache;
 use sql_check::{Built, CompileError, Names, values_fit};
 use sql_dialect::{Backend, Dialect};
-use sql_key::{QueryId, QueryKey};
+use sql_flat::{Flat, flatten};
+use sql_key::{QueryKey, flat_query_id};
 use sql_law::{accepted_are_read, names_one_leaf};
 use sql_meaning::types_are_sound;
 use sql_node::Statement;
@@ -87,21 +90,29 @@ fn copied(
     })
 }
 
+/// A statement that is asked for, and its flat list.
+#[derive(Clone, Copy)]
+struct Asked<'s> {
+    statement: &'s Statement,
+    flat: &'s Flat,
+}
+
 /// The pair that is looked up for a statement.
 fn pair_of<DB: Backend>(
     alloc: Global,
     backend: &DB,
-    statement: &Statement,
+    asked: Asked<'_>,
 ) -> Result<Option<RequestKey>, NoMemory>
-    ensures { IfOk result (λ found. (pair : RequestKey)
-        → (found ≡ Some pair) ↔ IsLookedUp DB.speaks (statement_tree statement.now) pair) }
+    requires { asked.flat.now ≡ flat_of (statement_tree asked.statement.now) }
+    ensures { IfOk result (λ found. (pair : RequestKey) → (found ≡ Some pair)
+        ↔ IsLookedUp DB.speaks (statement_tree asked.entry.statement.now) pair) }
 {
-    let fit = values_fit(statement);
+    let fit = values_fit(asked.statement);
     if !fit {
         return Ok(None);
     }
     let dialect = backend.dialect();
-    match statement.query_id(alloc)? {
+    match flat_query_id(alloc, asked.flat)? {
         Some(key) => Ok(Some(RequestKey { dialect, key })),
         None => Ok(None),
     }
@@ -230,26 +241,26 @@ impl StatementCache {
         }
     }
 
-    /// The answer that nothing kept is used for.
+    /// The answer for the statement of a flat list that nothing kept is used for.
     fn compile_alone<DB: Backend>(
         &self,
         alloc: Global,
         names: Names,
         backend: &DB,
-        statement: &Statement,
+        flat: &Flat,
     ) -> Result<Built, CompileError>
-        requires { names ≡ name.Known
-            → ¬ Broken rule.UnknownName self.now.schema DB.speaks (statement_tree statement.now) }
-        ensures built { IfOk result (λ b.
-            IsBuilt self.now.schema DB.speaks (statement_tree statement.now) b) }
-        ensures read { IfOk result (λ b.
-            IsRead DB.speaks (statement_tree statement.now) b.sql b.binds) }
-        ensures sound { IfOk result (λ b.
-            AnswersFit self.now.schema (statement_tree statement.now) b.sql_types) }
+        requires { names ≡ name.Known → (s : Tree) → flat.now ≡ flat_of s
+            → ¬ Broken rule.UnknownName self.now.schema DB.speaks s }
+        ensures built { IfOk result (λ b. (s : Tree) → flat.now ≡ flat_of s
+            → IsBuilt self.now.schema DB.speaks s b) }
+        ensures read { IfOk result (λ b. (s : Tree) → flat.now ≡ flat_of s
+            → IsRead DB.speaks s b.sql b.binds) }
+        ensures sound { IfOk result (λ b. (s : Tree) → flat.now ≡ flat_of s
+            → AnswersFit self.now.schema s b.sql_types) }
         ensures refused { IfErr result (λ e. (r : Rule) → rule_of e ≡ Some r
-            → IsLeast r self.now.schema DB.speaks (statement_tree statement.now)) }
+            → (s : Tree) → flat.now ≡ flat_of s → IsLeast r self.now.schema DB.speaks s) }
     {
-        compile_sound_by(alloc, names, backend, self.schema(), statement)
+        compile_sound_flat_by(alloc, names, backend, self.schema(), flat)
     }
 
     /// The answer by what is kept with the first pair, which is the statement's.
@@ -280,25 +291,26 @@ impl StatementCache {
         alloc: Global,
         names: Names,
         backend: &DB,
-        statement: &Statement,
+        asked: Asked<'_>,
         pair: RequestKey,
     ) -> Result<Built, CompileError>
         requires known { names ≡ name.Known
-            → ¬ Broken rule.UnknownName self.old.schema DB.speaks (statement_tree statement.now) }
-        requires looked_up { IsLookedUp DB.speaks (statement_tree statement.now) pair }
+            → ¬ Broken rule.UnknownName self.old.schema DB.speaks (statement_tree asked.statement.now) }
+        requires flat { asked.flat.now ≡ flat_of (statement_tree asked.statement.now) }
+        requires looked_up { IsLookedUp DB.speaks (statement_tree asked.statement.now) pair }
         requires new { ¬ Contains self.old.keys pair }
         ensures built { IfOk result (λ b.
-            IsBuilt self.old.schema DB.speaks (statement_tree statement.now) b) }
+            IsBuilt self.old.schema DB.speaks (statement_tree asked.entry.statement.now) b) }
         ensures read { IfOk result (λ b.
-            IsRead DB.speaks (statement_tree statement.now) b.sql b.binds) }
+            IsRead DB.speaks (statement_tree asked.entry.statement.now) b.sql b.binds) }
         ensures sound { IfOk result (λ b.
-            AnswersFit self.old.schema (statement_tree statement.now) b.sql_types) }
+            AnswersFit self.old.schema (statement_tree asked.entry.statement.now) b.sql_types) }
         ensures refused { IfErr result (λ e. (r : Rule) → rule_of e ≡ Some r
-            → IsLeast r self.old.schema DB.speaks (statement_tree statement.now)) }
+            → IsLeast r self.old.schema DB.speaks (statement_tree asked.entry.statement.now)) }
         ensures put { OnOk result (self.new ≡ put self.old pair) }
         ensures unchanged { OnErr result (self.new ≡ self.old) }
     {
-        match self.compile_alone(alloc, names, backend, statement) {
+        match self.compile_alone(alloc, names, backend, asked.flat) {
             Ok(built) => {
                 self.keep(alloc, pair, &built)?;
                 Ok(built)
@@ -332,13 +344,18 @@ impl StatementCache {
         ensures entries { IsNext DB.speaks (statement_tree statement.now)
             self.old result self.new }
     {
-        match pair_of(alloc, backend, statement)? {
-            None => self.compile_alone(alloc, names, backend, statement),
+        let flat = flatten(alloc, statement)?;
+        let asked = Asked {
+            statement,
+            flat: &flat,
+        };
+        match pair_of(alloc, backend, asked)? {
+            None => self.compile_alone(alloc, names, backend, &flat),
             Some(pair) => {
                 if self.look_up(&pair) {
                     self.answer_kept(alloc, backend, statement, pair)
                 } else {
-                    self.answer_new(alloc, names, backend, statement, pair)
+                    self.answer_new(alloc, names, backend, asked, pair)
                 }
             }
         }

@@ -1,5 +1,7 @@
 ghost use Rattle.std.specs.Prelude.{◌≡◌, Some, IfOk, IfErr};
+ghost use Rattle.sql_node.specs.Tree.{Statement as Tree};
 ghost use Rattle.sql_node.specs.View.{statement_tree};
+ghost use Rattle.sql_flat.specs.Flat.{flat_of};
 ghost use Rattle.sql_check.specs.Compiled.{IsBuilt, IsLeast, IsRead};
 ghost use Rattle.sql_check.specs.Errors.{rule_of};
 ghost use Rattle.sql_judge.specs.declared.names.Names.TheVariants as name;
@@ -8,8 +10,9 @@ ghost use Rattle.sql_rules.specs.declared.rule.Rule.{Rule};
 ghost use Rattle.sql_rules.specs.declared.rule.Rule.TheVariants as rule;
 ghost use Rattle.sql_meaning.specs.Fitting.{AnswersFit};
 
-use sql_check::{Built, CompileError, Names, compile_by};
+use sql_check::{Built, CompileError, Names, compile_by, compile_flat_by};
 use sql_dialect::Backend;
+use sql_flat::Flat;
 use sql_meaning::types_are_sound;
 use sql_node::Statement;
 use sql_schema::Schema;
@@ -40,6 +43,29 @@ pub fn compile_sound_by<DB: Backend>(
 {
     types_are_sound();
     compile_by(alloc, names, backend, schema, statement)
+}
+
+/// What `compile_sound_by` answers of the statement whose flat list this is.
+pub(crate) fn compile_sound_flat_by<DB: Backend>(
+    alloc: Global,
+    names: Names,
+    backend: &DB,
+    schema: &Schema,
+    flat: &Flat,
+) -> Result<Built, CompileError>
+    requires { names ≡ name.Known → (s : Tree) → flat.now ≡ flat_of s
+        → ¬ Broken rule.UnknownName schema.now DB.speaks s }
+    ensures built { IfOk result (λ b. (s : Tree) → flat.now ≡ flat_of s
+        → IsBuilt schema.now DB.speaks s b) }
+    ensures read { IfOk result (λ b. (s : Tree) → flat.now ≡ flat_of s
+        → IsRead DB.speaks s b.sql b.binds) }
+    ensures sound { IfOk result (λ b. (s : Tree) → flat.now ≡ flat_of s
+        → AnswersFit schema.now s b.sql_types) }
+    ensures refused { IfErr result (λ e. (r : Rule) → rule_of e ≡ Some r
+        → (s : Tree) → flat.now ≡ flat_of s → IsLeast r schema.now DB.speaks s) }
+{
+    types_are_sound();
+    compile_flat_by(alloc, names, backend, schema, flat)
 }
 
 /// What `compile` answers, with column types that are right for NULL, as those of `compile_sound_by`.

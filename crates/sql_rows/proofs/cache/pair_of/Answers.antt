@@ -6,19 +6,19 @@ use Rattle.sql_rows.proofs.cache.pair_of.Goals as goal
 pub returns-then-not-fit : goal.returns-then-not-fit
 returns-then-not-fit g c =
     let d = g.DB.Backend.speaks in
-    let s = statement_tree c.args.statement.now in
+    let s = statement_tree c.args.asked.statement.now in
     no-pair d s (misfit d s (sym c.if-not-fit.true ∙ c.values_fit-fit.ensures))
 
 pub returns-in-Some : goal.returns-in-Some
 returns-in-Some g c =
     let d = g.DB.Backend.speaks in
-    let s = statement_tree c.args.statement.now in
+    let s = statement_tree c.args.asked.statement.now in
     own-pair d s (record { dialect = c.dialect-dialect.result; key = c.in-Some.key })
     (looked-up d s (sym c.if-not-fit.false ∙ c.values_fit-fit.ensures) c.in-Some.key c.dialect-dialect.result
-    (sym c.in_ok-key.ensures ∙ c.in-Some.is) c.dialect-dialect.ensures)
+    (sym (c.in_ok-key.ensures s c.requires) ∙ c.in-Some.is) c.dialect-dialect.ensures)
 
 pub returns-in-None : goal.returns-in-None
 returns-in-None g c =
     let d = g.DB.Backend.speaks in
-    let s = statement_tree c.args.statement.now in
-    no-pair d s (without-id d s (sym c.in_ok-key.ensures ∙ c.in-None.is))
+    let s = statement_tree c.args.asked.statement.now in
+    no-pair d s (without-id d s (sym (c.in_ok-key.ensures s c.requires) ∙ c.in-None.is))
