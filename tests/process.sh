@@ -89,6 +89,16 @@ check 'one request' writes "$work/line"
 head -c -2 "$work/first" >"$work/cut"
 run build <"$work/cut"
 check 'a document without its last byte' is_empty 3 BadDocument
+# 2,000 lines of 90 bytes take more than one write.
+awk 'BEGIN {
+    printf "{\"schema\":{\"tables\":[{\"name\":\"foo\",\"columns\":[{\"name\":\"id\",\"type\":\"Integer\"}]}]},\"requests\":["
+    for (i = 0; i < 2000; i++) printf "%s{\"dialect\":\"Pg\",\"query\":{\"from\":{\"table\":\"foo\"}}}", i ? "," : ""
+    print "]}" }' >"$work/many"
+awk 'BEGIN {
+    for (i = 0; i < 2000; i++)
+        print "{\"binds\":[],\"columns\":[\"Integer\"],\"id\":1,\"safe\":true,\"sql\":\"SELECT \\\"foo\\\".\\\"id\\\" FROM \\\"foo\\\"\"}" }' >"$work/line"
+run build <"$work/many"
+check '2000 requests' writes "$work/line"
 printf '{"schema":{"tables":[]},"requests":[]}' >"$work/none"
 run build <"$work/none"
 check 'no requests' is_empty 0 ''

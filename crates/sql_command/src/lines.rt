@@ -6,7 +6,7 @@ ghost use Rattle.sql_command.specs.declared.status.Status.{Status};
 ghost use Rattle.sql_command.specs.declared.lines.WriteError.TheVariants.{Fault, Memory};
 
 use crate::status::Status;
-use sql_stream::{Failed, Sink, write_all};
+use sql_stream::{Failed, Sink, write_all, write_pending};
 use std::alloc::{AllocError, Global};
 
 /// Why not all was written.
@@ -47,7 +47,7 @@ pub(crate) trait Lines {
             → HasLines first self.new (items ++ item.now ∷ []) (text ++ string_bytes line)) };
 }
 
-/// Writes the line of each of these items, in order.
+/// Writes the line of each of these items, in order, many at once. Where memory runs out, the lines before that are written.
 fn write_each<L: Lines, K: Sink>(
     alloc: Global,
     lines: &mut L,
@@ -65,10 +65,17 @@ fn write_each<L: Lines, K: Sink>(
         → K.faults sink.new ≡ K.faults sink.old) }
     ensures ok { OnOk result (K.faults sink.new ≡ K.faults sink.old) }
 {
+    let mut pending = Vec::new(alloc);
     for (index, item) in items.iter().enumerate() {
-        let line = lines.line(alloc, index as u64 + 1, item)?;
-        write_all(sink, line.as_bytes())?;
+        match lines.line(alloc, index as u64 + 1, item) {
+            Ok(line) => write_pending(sink, &mut pending, line.as_bytes())?,
+            Err(error) => {
+                write_all(sink, pending.as_slice())?;
+                return Err(WriteError::from(error));
+            }
+        }
     }
+    write_all(sink, pending.as_slice())?;
     Ok(())
 }
 

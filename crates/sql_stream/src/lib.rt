@@ -16,4 +16,4 @@ pub use outside::{Failed, Sink, Source};
 pub use reading::{ReadError, read_all};
 pub use standard::{CountedReader, StdSink, StdSource};
 pub use sure::{SureSink, SureSource};
-pub use writing::write_all;
+pub use writing::{write_all, write_pending};

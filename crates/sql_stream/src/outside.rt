@@ -4,6 +4,9 @@ ghost use Rattle.std.specs.Io.KnownBytes.{WriteAppends};
 ghost use Rattle.sql_stream.specs.Causes.{HasCause};
 ghost use Rattle.sql_stream.specs.Reading.{Reads};
 
+/// How many bytes are read, or of short texts written, at once: a call of the operating system then costs little beside them.
+pub(crate) const PIECE: usize = 65536;
+
 /// An object outside has failed, and has counted it.
 #[derive(Debug, Clone, Copy, PartialEq, Eq)]
 pub struct Failed;

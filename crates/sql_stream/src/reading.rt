@@ -4,7 +4,7 @@ ghost use Rattle.sql_stream.specs.Causes.{HasCause, HasRisen};
 ghost use Rattle.sql_stream.specs.Reading.{Gives};
 ghost use Rattle.sql_stream.specs.declared.reading.ReadError.TheVariants.{NoMemory, Fault, TooLarge};
 
-use crate::outside::{Failed, Source};
+use crate::outside::{Failed, PIECE, Source};
 use std::alloc::{AllocError, Global};
 
 /// Why not all was read.
@@ -54,7 +54,7 @@ pub fn read_all<S: Source>(
     ensures ok { OnOk result (S.faults source.new ≡ S.faults source.old) }
 {
     let mut bytes = Vec::new(alloc);
-    let mut piece = [0u8; 4096];
+    let mut piece = [0u8; PIECE];
     loop {
         let count = source.read(&mut piece)?;
         if count == 0 {
