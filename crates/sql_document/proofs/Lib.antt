@@ -2,3 +2,5 @@ pub mod Bytes
 pub mod EachItem
 pub mod Pairs
 pub mod Nesting
+pub mod Numbers
+pub mod Seen

@@ -1,5 +1,5 @@
 -- Beyond a value's own depth, the bound on the nesting changes nothing.
-use Rattle.std.proofs.Common.{◌≡◌, ℕ, zero, suc, ◌+◌, ◌<◌, max, List, codes, Option, Some, None, is_some, if◌then◌else◌, option_map, option_and_then, Ordering, Less, Equal, Greater, refl, sym, ap, ◌∙◌, arith}
+use Rattle.std.proofs.Common.{◌≡◌, ℕ, zero, suc, ◌<◌, List, codes, Option, Some, None, is_some, if◌then◌else◌, option_map, option_and_then, Ordering, Less, Equal, Greater, refl, ap, arith}
 use Rattle.std.specs.Ordering.{nat_cmp, match_ordering}
 use Rattle.std.specs.Cmp.Lexicographic.{slice_cmp}
 use Rattle.serde_json.specs.Data.{Data, null, boolean, number, string, array, object, Items, no_items, item, Members, no_members, member, depth, items_depth, members_depth}
@@ -7,13 +7,13 @@ use Rattle.serde_json.specs.Find.{get, get_member, at, get_item, as_str, as_arra
 use Rattle.sql_leaf.specs.declared.position.Direction.{Direction}
 use Rattle.sql_leaf.specs.declared.position.Direction.TheVariants as direction
 use Rattle.sql_leaf.specs.declared.table_source.JoinKind.{JoinKind}
-use Rattle.sql_syntax.specs.Tree.{Expr, list, exists, single_value, unary, rows, Source, Start, from, select, Query, Call, clause, combine, find, order, then_order_by}
-use Rattle.sql_syntax.specs.View.{Item, exprs_of, items_of}
+use Rattle.sql_syntax.specs.Tree.{Expr, list, unary, rows, Source, from, select, Query, clause, combine}
+use Rattle.sql_syntax.specs.View.{Item, exprs_of}
 use Rattle.sql_syntax.specs.declared.expr.BinaryOperator.{BinaryOperator}
 use Rattle.sql_syntax.specs.declared.expr.Quantified.{Quantified}
 use Rattle.sql_document.specs.Members.{if_some, if_any, single, only_member, each, each_if_any, two_of, argument_of}
 use Rattle.sql_document.specs.Names.{direction_of, unary_of, binary_of, quantified_of, plain_of, clause_of, join_of, combination_of}
-use Rattle.sql_document.specs.Queries.{membership_of, binary_expr, quantified_expr, operation, member_expr, join_source_of, one_of_three, start_of, query_from, directed, item_of, join_call, list_call, argument_call, last_call, named_call, expr_of, source_of, query_of, call_of}
+use Rattle.sql_document.specs.Queries.{membership_of, binary_expr, quantified_expr, operation, member_expr, join_source_of, one_of_three, start_of, directed, item_of, join_call, list_call, argument_call, last_call, named_call, expr_of, source_of, query_of, call_of}
 
 -- the two give the same for what nests less deep than n
 abbrev pub Agree : {A : Type 0} → ℕ → (Data → Option A) → (Data → Option A) → Type 0

@@ -11,3 +11,5 @@ pub mod Names
 pub mod Members
 -- How `read_document` and its parts answer.
 pub mod Giving
+-- A device of proofs. Nothing under `inside` has to be believed.
+pub mod inside

@@ -2,7 +2,7 @@
 --
 -- The number that falls is a bound on the nesting. It changes nothing (`depth_changes_nothing`): `serde_json` reads no
 -- value that nests deeper than 127, and each step down takes one from the bound and one level or more of the value.
-use Rattle.std.specs.Prelude.{ℕ, zero, suc, List, Bool, true, false, ◌||◌, codes, Option, Some, None, is_some, option_map, if◌then◌else◌}
+use Rattle.std.specs.Prelude.{ℕ, zero, suc, List, Bool, false, ◌||◌, codes, Option, Some, None, is_some, option_map, if◌then◌else◌}
 use Rattle.std.specs.Str.{bytes_eq}
 use Rattle.serde_json.specs.Data.{Data, Items, null, boolean, number, string, array, object}
 use Rattle.serde_json.specs.Find.{get, at, as_bool, as_str, as_array}

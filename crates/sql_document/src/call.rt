@@ -1,7 +1,7 @@
 #![tactic(auto, using(sql_syntax::proofs::Trees::opens_call))]
 
 ghost use Rattle.std.specs.Prelude.{◌≡◌, option_map, option_and_then};
-ghost use Rattle.serde_json.specs.View.{view, items_view};
+ghost use Rattle.sql_document.specs.inside.Seen.{seen, items_seen};
 ghost use Rattle.sql_document.specs.Members.{if_any, argument_of};
 ghost use Rattle.sql_document.specs.Giving.{Gives};
 ghost use Rattle.sql_document.specs.Queries.{plain_call as plain_call_of, join_call as join_call_of, boxed_call as boxed_call_of, list_call as list_call_of, argument_call as argument_call_of, last_call as last_call_of, dialect_named, named_call as named_call_of, expr_of, source_of, query_of, call_of};
@@ -10,13 +10,14 @@ ghost use Rattle.sql_syntax.specs.View.{call_tree};
 
 use crate::each::decode_each;
 use crate::expr::{condition, expr, exprs};
+use crate::look::{as_array, as_i64, as_str, at};
 use crate::member::{argument, text_item};
 use crate::names::{clause_call, combination, dialect, join_kind, plain_call};
 use crate::order::items;
 use crate::query::query;
 use crate::refusal::Refusal;
 use crate::source::source_item;
-use serde_json::Value;
+use json::Value;
 use sql_dialect::{Combinator, Dialect, DuplicateRule};
 use sql_leaf::JoinKind;
 use sql_schema::SqlList;
@@ -25,8 +26,8 @@ use std::alloc::Global;
 
 #[cycle(decode)]
 #[tactic(auto, unfolding(crate::specs::Queries::call_of))]
-pub(crate) fn call(alloc: Global, value: &Value, depth: u32) -> Result<Call, Refusal>
-    ensures { Gives call_tree result (call_of depth (view value.now)) }
+pub(crate) fn call(alloc: Global, value: &Value<'_>, depth: u32) -> Result<Call, Refusal>
+    ensures { Gives call_tree result (call_of depth (seen value.now)) }
 {
     if depth == 0 {
         return Err(Refusal::NotADocument);
@@ -37,10 +38,10 @@ pub(crate) fn call(alloc: Global, value: &Value, depth: u32) -> Result<Call, Ref
 
 #[cycle(decode)]
 #[tactic(auto, unfolding(crate::specs::Queries::named_call))]
-fn named_call(alloc: Global, name: &str, value: &Value, depth: u32) -> Result<Call, Refusal>
+fn named_call(alloc: Global, name: &str, value: &Value<'_>, depth: u32) -> Result<Call, Refusal>
     ensures { Gives call_tree result
         (named_call_of (expr_of depth) (source_of depth) (query_of depth) name.now
-        (view value.now)) }
+        (seen value.now)) }
 {
     match plain_call(name) {
         Some(call) => plain(call, value),
@@ -58,20 +59,20 @@ fn named_call(alloc: Global, name: &str, value: &Value, depth: u32) -> Result<Ca
 }
 
 #[tactic(auto, unfolding(crate::specs::Queries::plain_call), using(sql_syntax::proofs::Trees::opens_call))]
-fn plain(call: PlainCall, value: &Value) -> Result<Call, Refusal>
-    ensures { Gives call_tree result (plain_call_of call (view value.now)) }
+fn plain(call: PlainCall, value: &Value<'_>) -> Result<Call, Refusal>
+    ensures { Gives call_tree result (plain_call_of call (seen value.now)) }
 {
-    if value.get(1usize).is_some() {
+    if at(value, 1).is_some() {
         return Err(Refusal::NotADocument);
     }
     Ok(Call::Plain(call))
 }
 
 #[cycle(decode)]
-fn clause(alloc: Global, call: ClauseCall, value: &Value, depth: u32) -> Result<Call, Refusal>
+fn clause(alloc: Global, call: ClauseCall, value: &Value<'_>, depth: u32) -> Result<Call, Refusal>
     ensures { Gives call_tree result
         (option_and_then (λ a. option_map (tree.clause call) (expr_of depth a))
-        (argument_of (view value.now))) }
+        (argument_of (seen value.now))) }
 {
     let inner = argument(value).ok_or(Refusal::NotADocument)?;
     Ok(Call::Clause(call, expr(alloc, inner, depth)?))
@@ -79,13 +80,13 @@ fn clause(alloc: Global, call: ClauseCall, value: &Value, depth: u32) -> Result<
 
 #[cycle(decode)]
 #[tactic(auto, unfolding(crate::specs::Queries::join_call), using(sql_syntax::proofs::Trees::opens_call))]
-fn join_call(alloc: Global, kind: JoinKind, value: &Value, depth: u32) -> Result<Call, Refusal>
+fn join_call(alloc: Global, kind: JoinKind, value: &Value<'_>, depth: u32) -> Result<Call, Refusal>
     ensures { Gives call_tree result
-        (join_call_of (expr_of depth) (source_of depth) kind (view value.now)) }
+        (join_call_of (expr_of depth) (source_of depth) kind (seen value.now)) }
 {
     let source = source_item(alloc, value, 1, depth)?;
-    let on = condition(alloc, value.get(2usize), depth)?;
-    if value.get(3usize).is_some() {
+    let on = condition(alloc, at(value, 2), depth)?;
+    if at(value, 3).is_some() {
         return Err(Refusal::NotADocument);
     }
     Ok(Call::Join(kind, source, on))
@@ -96,20 +97,20 @@ fn combined(
     alloc: Global,
     combinator: Combinator,
     rule: DuplicateRule,
-    value: &Value,
+    value: &Value<'_>,
     depth: u32,
 ) -> Result<Call, Refusal>
     ensures { Gives call_tree result
         (option_and_then (λ a. option_map (tree.combine combinator rule) (query_of depth a))
-        (argument_of (view value.now))) }
+        (argument_of (seen value.now))) }
 {
     let inner = argument(value).ok_or(Refusal::NotADocument)?;
     Ok(Call::Combine(combinator, rule, query(alloc, inner, depth)?))
 }
 
 #[cycle(decode)]
-fn last_calls(alloc: Global, name: &str, value: &Value, depth: u32) -> Result<Call, Refusal>
-    ensures { Gives call_tree result (last_call_of (expr_of depth) name.now (view value.now)) }
+fn last_calls(alloc: Global, name: &str, value: &Value<'_>, depth: u32) -> Result<Call, Refusal>
+    ensures { Gives call_tree result (last_call_of (expr_of depth) name.now (seen value.now)) }
 {
     if name == "into_boxed" {
         return boxed(value);
@@ -118,21 +119,21 @@ fn last_calls(alloc: Global, name: &str, value: &Value, depth: u32) -> Result<Ca
     argument_call(alloc, name, inner, depth)
 }
 
-fn dialect_if_any(value: Option<&Value>) -> Option<Option<Dialect>>
-    ensures { result ≡ if_any dialect_named (option_map (λ v. view v.now) value.entry) }
+fn dialect_if_any(value: Option<&Value<'_>>) -> Option<Option<Dialect>>
+    ensures { result ≡ if_any dialect_named (option_map (λ v. seen v.now) value.entry) }
 {
     match value {
         None => Some(None),
-        Some(value) => Some(Some(dialect(value.as_str()?)?)),
+        Some(value) => Some(Some(dialect(as_str(value)?)?)),
     }
 }
 
 #[tactic(auto, unfolding(crate::specs::Queries::boxed_call), using(sql_syntax::proofs::Trees::opens_call))]
-fn boxed(value: &Value) -> Result<Call, Refusal>
-    ensures { Gives call_tree result (boxed_call_of (view value.now)) }
+fn boxed(value: &Value<'_>) -> Result<Call, Refusal>
+    ensures { Gives call_tree result (boxed_call_of (seen value.now)) }
 {
-    let dialect = dialect_if_any(value.get(1usize)).ok_or(Refusal::NotADocument)?;
-    if value.get(2usize).is_some() {
+    let dialect = dialect_if_any(at(value, 1)).ok_or(Refusal::NotADocument)?;
+    if at(value, 2).is_some() {
         return Err(Refusal::NotADocument);
     }
     Ok(Call::IntoBoxed(dialect))
@@ -140,14 +141,14 @@ fn boxed(value: &Value) -> Result<Call, Refusal>
 
 #[cycle(decode)]
 #[tactic(auto, unfolding(crate::specs::Queries::argument_call), using(sql_syntax::proofs::Trees::opens_call))]
-fn argument_call(alloc: Global, name: &str, value: &Value, depth: u32) -> Result<Call, Refusal>
-    ensures { Gives call_tree result (argument_call_of (expr_of depth) name.now (view value.now)) }
+fn argument_call(alloc: Global, name: &str, value: &Value<'_>, depth: u32) -> Result<Call, Refusal>
+    ensures { Gives call_tree result (argument_call_of (expr_of depth) name.now (seen value.now)) }
 {
     match name {
-        "limit" => Ok(Call::Limit(value.as_i64().ok_or(Refusal::NotADocument)?)),
-        "offset" => Ok(Call::Offset(value.as_i64().ok_or(Refusal::NotADocument)?)),
+        "limit" => Ok(Call::Limit(as_i64(value).ok_or(Refusal::NotADocument)?)),
+        "offset" => Ok(Call::Offset(as_i64(value).ok_or(Refusal::NotADocument)?)),
         name => {
-            let inner = value.as_array().ok_or(Refusal::NotADocument)?;
+            let inner = as_array(value).ok_or(Refusal::NotADocument)?;
             list_call(alloc, name, inner, depth)
         }
     }
@@ -155,9 +156,9 @@ fn argument_call(alloc: Global, name: &str, value: &Value, depth: u32) -> Result
 
 #[cycle(decode)]
 #[tactic(auto, unfolding(crate::specs::Queries::list_call), using(sql_syntax::proofs::Trees::opens_call))]
-fn list_call(alloc: Global, name: &str, list: &Vec<Value>, depth: u32) -> Result<Call, Refusal>
+fn list_call(alloc: Global, name: &str, list: &Vec<Value<'_>>, depth: u32) -> Result<Call, Refusal>
     ensures { Gives call_tree result
-        (list_call_of (expr_of depth) name.now (items_view list.now.items)) }
+        (list_call_of (expr_of depth) name.now (items_seen list.now.items)) }
 {
     match name {
         "find" => Ok(Call::Find(SqlList::from(exprs(alloc, list, depth)?))),

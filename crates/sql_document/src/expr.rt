@@ -1,29 +1,30 @@
 #![tactic(auto, using(sql_syntax::proofs::Trees::opens_expr, sql_syntax::proofs::Trees::opens_membership))]
 
 ghost use Rattle.std.specs.Prelude.{◌≡◌, map, option_map, option_and_then};
-ghost use Rattle.serde_json.specs.View.{view, items_view, members_view};
+ghost use Rattle.sql_document.specs.inside.Seen.{seen, items_seen, members_seen};
 ghost use Rattle.sql_document.specs.Members.{if_any, each, single};
 ghost use Rattle.sql_document.specs.Giving.{Gives};
 ghost use Rattle.sql_document.specs.Queries.{count_star_of, column_name_of, field_name_of, bind_of, values_of, membership_of, binary_expr, quantified_expr, operation as operation_of, member_expr, expr_of, query_of};
 ghost use Rattle.sql_syntax.specs.View.{expr_tree, membership_tree};
 
+use crate::look::{as_array, as_str, at, get};
 use crate::member::{has, only_entry, text_item, two};
 use crate::names::{binary_operator, quantified_operator, sql_type, unary_operator};
 use crate::query::query;
 use crate::refusal::Refusal;
 use crate::value::{each_value, value};
-use serde_json::{Map, Value};
+use json::Value;
 use sql_schema::{SqlList, SqlText};
 use sql_syntax::{BinaryOperator, ColumnName, Expr, FieldName, Membership, Quantified};
 use std::alloc::Global;
 
 #[tactic(auto, unfolding(crate::specs::Queries::column_name_of))]
-fn column_name(alloc: Global, names: &Value) -> Result<ColumnName, Refusal>
-    ensures { Gives (λ c. c) result (column_name_of (view names.now)) }
+fn column_name(alloc: Global, names: &Value<'_>) -> Result<ColumnName, Refusal>
+    ensures { Gives (λ c. c) result (column_name_of (seen names.now)) }
 {
     let (table, column) = two(names).ok_or(Refusal::NotADocument)?;
-    let table = table.as_str().ok_or(Refusal::NotADocument)?;
-    let column = column.as_str().ok_or(Refusal::NotADocument)?;
+    let table = as_str(table).ok_or(Refusal::NotADocument)?;
+    let column = as_str(column).ok_or(Refusal::NotADocument)?;
     Ok(ColumnName {
         table: SqlText::from(String::from_str(alloc, table)?),
         column: SqlText::from(String::from_str(alloc, column)?),
@@ -31,13 +32,13 @@ fn column_name(alloc: Global, names: &Value) -> Result<ColumnName, Refusal>
 }
 
 #[tactic(auto, unfolding(crate::specs::Queries::field_name_of))]
-fn field_name(alloc: Global, names: &Value) -> Result<FieldName, Refusal>
-    ensures { Gives (λ f. f) result (field_name_of (view names.now)) }
+fn field_name(alloc: Global, names: &Value<'_>) -> Result<FieldName, Refusal>
+    ensures { Gives (λ f. f) result (field_name_of (seen names.now)) }
 {
     let alias = text_item(names, 0).ok_or(Refusal::NotADocument)?;
     let table = text_item(names, 1).ok_or(Refusal::NotADocument)?;
     let column = text_item(names, 2).ok_or(Refusal::NotADocument)?;
-    if names.get(3usize).is_some() {
+    if at(names, 3).is_some() {
         return Err(Refusal::NotADocument);
     }
     Ok(FieldName {
@@ -49,11 +50,11 @@ fn field_name(alloc: Global, names: &Value) -> Result<FieldName, Refusal>
 
 /// A bound value: `["Integer",1]`.
 #[tactic(auto, unfolding(crate::specs::Queries::bind_of), using(sql_syntax::proofs::Trees::opens_expr))]
-fn bind(alloc: Global, json: &Value) -> Result<Expr, Refusal>
-    ensures { Gives expr_tree result (bind_of (view json.now)) }
+fn bind(alloc: Global, json: &Value<'_>) -> Result<Expr, Refusal>
+    ensures { Gives expr_tree result (bind_of (seen json.now)) }
 {
     let (type_name, json) = two(json).ok_or(Refusal::NotADocument)?;
-    let type_name = type_name.as_str().ok_or(Refusal::NotADocument)?;
+    let type_name = as_str(type_name).ok_or(Refusal::NotADocument)?;
     let ty = sql_type(type_name).ok_or(Refusal::NotADocument)?;
     let value = value(alloc, ty.base, json)?;
     Ok(Expr::Bind(ty, value))
@@ -61,13 +62,13 @@ fn bind(alloc: Global, json: &Value) -> Result<Expr, Refusal>
 
 /// Values of one type: `["Integer",[1,2]]`.
 #[tactic(auto, unfolding(crate::specs::Queries::values_of), using(sql_syntax::proofs::Trees::opens_membership))]
-fn values(alloc: Global, json: &Value) -> Result<Membership, Refusal>
-    ensures { Gives membership_tree result (values_of (view json.now)) }
+fn values(alloc: Global, json: &Value<'_>) -> Result<Membership, Refusal>
+    ensures { Gives membership_tree result (values_of (seen json.now)) }
 {
     let (type_name, items) = two(json).ok_or(Refusal::NotADocument)?;
-    let type_name = type_name.as_str().ok_or(Refusal::NotADocument)?;
+    let type_name = as_str(type_name).ok_or(Refusal::NotADocument)?;
     let ty = sql_type(type_name).ok_or(Refusal::NotADocument)?;
-    let items = items.as_array().ok_or(Refusal::NotADocument)?;
+    let items = as_array(items).ok_or(Refusal::NotADocument)?;
     let values = each_value(alloc, ty.base, items)?;
     Ok(Membership::Values(ty, SqlList::from(values)))
 }
@@ -84,14 +85,14 @@ fn count_star(name: &str) -> Result<Expr, Refusal>
 
 #[cycle(decode)]
 #[tactic(auto, unfolding(crate::specs::Queries::expr_of), using(sql_syntax::proofs::Trees::opens_expr))]
-pub(crate) fn expr(alloc: Global, value: &Value, depth: u32) -> Result<Expr, Refusal>
-    ensures { Gives expr_tree result (expr_of depth (view value.now)) }
+pub(crate) fn expr(alloc: Global, value: &Value<'_>, depth: u32) -> Result<Expr, Refusal>
+    ensures { Gives expr_tree result (expr_of depth (seen value.now)) }
 {
     if depth == 0 {
         return Err(Refusal::NotADocument);
     }
     match value {
-        Value::String(name) => count_star(name.as_str()),
+        Value::String(name) => count_star(*name),
         Value::Array(items) => Ok(Expr::List(SqlList::from(exprs(alloc, items, depth - 1)?))),
         Value::Object(members) => member(alloc, members, depth - 1),
         _ => Err(Refusal::NotADocument),
@@ -99,9 +100,9 @@ pub(crate) fn expr(alloc: Global, value: &Value, depth: u32) -> Result<Expr, Ref
 }
 
 #[cycle(decode)]
-pub(crate) fn exprs(alloc: Global, items: &Vec<Value>, depth: u32) -> Result<Vec<Expr>, Refusal>
+pub(crate) fn exprs(alloc: Global, items: &Vec<Value<'_>>, depth: u32) -> Result<Vec<Expr>, Refusal>
     ensures { Gives (λ v. map expr_tree v.items) result
-        (each (expr_of depth) (items_view items.now.items)) }
+        (each (expr_of depth) (items_seen items.now.items)) }
 {
     let mut all = Vec::new(alloc);
     for item in items {
@@ -112,13 +113,17 @@ pub(crate) fn exprs(alloc: Global, items: &Vec<Value>, depth: u32) -> Result<Vec
 
 #[cycle(decode)]
 #[tactic(auto, unfolding(crate::specs::Queries::member_expr), using(sql_syntax::proofs::Trees::opens_expr))]
-fn member(alloc: Global, members: &Map<String, Value>, depth: u32) -> Result<Expr, Refusal>
+fn member<'a>(
+    alloc: Global,
+    members: &Vec<(&'a str, Value<'a>)>,
+    depth: u32,
+) -> Result<Expr, Refusal>
     ensures { Gives expr_tree result
         (option_and_then (member_expr (expr_of depth) (query_of depth))
-        (single (members_view members.now.entries))) }
+        (single (members_seen members.now.items))) }
 {
     let (name, value) = only_entry(members).ok_or(Refusal::NotADocument)?;
-    match name.as_str() {
+    match name {
         "col" => Ok(Expr::Column(column_name(alloc, value)?)),
         "field" => Ok(Expr::Field(field_name(alloc, value)?)),
         "bind" => bind(alloc, value),
@@ -136,9 +141,9 @@ fn member(alloc: Global, members: &Map<String, Value>, depth: u32) -> Result<Exp
 
 #[cycle(decode)]
 #[tactic(auto, unfolding(crate::specs::Queries::operation), using(sql_syntax::proofs::Trees::opens_expr))]
-fn operation(alloc: Global, name: &str, value: &Value, depth: u32) -> Result<Expr, Refusal>
+fn operation(alloc: Global, name: &str, value: &Value<'_>, depth: u32) -> Result<Expr, Refusal>
     ensures { Gives expr_tree result
-        (operation_of (expr_of depth) (query_of depth) name.now (view value.now)) }
+        (operation_of (expr_of depth) (query_of depth) name.now (seen value.now)) }
 {
     match unary_operator(name) {
         Some(operator) => {
@@ -160,10 +165,10 @@ fn operation(alloc: Global, name: &str, value: &Value, depth: u32) -> Result<Exp
 fn binary(
     alloc: Global,
     operator: BinaryOperator,
-    value: &Value,
+    value: &Value<'_>,
     depth: u32,
 ) -> Result<Expr, Refusal>
-    ensures { Gives expr_tree result (binary_expr (expr_of depth) operator (view value.now)) }
+    ensures { Gives expr_tree result (binary_expr (expr_of depth) operator (seen value.now)) }
 {
     let (first, second) = two(value).ok_or(Refusal::NotADocument)?;
     let left = expr(alloc, first, depth)?;
@@ -176,11 +181,11 @@ fn binary(
 fn quantified(
     alloc: Global,
     operator: Quantified,
-    value: &Value,
+    value: &Value<'_>,
     depth: u32,
 ) -> Result<Expr, Refusal>
     ensures { Gives expr_tree result
-        (quantified_expr (expr_of depth) (query_of depth) operator (view value.now)) }
+        (quantified_expr (expr_of depth) (query_of depth) operator (seen value.now)) }
 {
     let (first, second) = two(value).ok_or(Refusal::NotADocument)?;
     let left = expr(alloc, first, depth)?;
@@ -190,10 +195,10 @@ fn quantified(
 
 #[cycle(decode)]
 #[tactic(auto, unfolding(crate::specs::Queries::membership_of), using(sql_syntax::proofs::Trees::opens_membership))]
-fn membership(alloc: Global, value: &Value, depth: u32) -> Result<Membership, Refusal>
-    ensures { Gives membership_tree result (membership_of (query_of depth) (view value.now)) }
+fn membership(alloc: Global, value: &Value<'_>, depth: u32) -> Result<Membership, Refusal>
+    ensures { Gives membership_tree result (membership_of (query_of depth) (seen value.now)) }
 {
-    match value.get("list") {
+    match get(value, "list") {
         Some(list) => {
             if has(value, "from") || has(value, "select") {
                 return Err(Refusal::NotADocument);
@@ -211,11 +216,11 @@ fn membership(alloc: Global, value: &Value, depth: u32) -> Result<Membership, Re
 #[cycle(decode)]
 pub(crate) fn condition(
     alloc: Global,
-    value: Option<&Value>,
+    value: Option<&Value<'_>>,
     depth: u32,
 ) -> Result<Option<Expr>, Refusal>
     ensures { Gives (λ o. option_map expr_tree o) result
-        (if_any (expr_of depth) (option_map (λ v. view v.now) value.entry)) }
+        (if_any (expr_of depth) (option_map (λ v. seen v.now) value.entry)) }
 {
     match value {
         None => Ok(None),

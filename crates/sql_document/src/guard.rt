@@ -1,14 +1,16 @@
 ghost use Rattle.std.specs.Prelude.{◌≡◌};
-ghost use Rattle.serde_json.specs.View.{view};
+ghost use Rattle.sql_document.specs.inside.Seen.{seen};
 ghost use Rattle.sql_document.specs.Guards.{guard_of, guarded_of, guarded};
 ghost use Rattle.sql_document.specs.Giving.{Gives};
 ghost use Rattle.sql_document.specs.Trees.{guard_tree, guarded_tree};
 
-use crate::document::{Document, json, whole};
+use crate::document::{Document, whole};
+use crate::look::get;
 use crate::member::text;
 use crate::query::whole_expr;
+use crate::reading::json;
 use crate::refusal::Refusal;
-use serde_json::Value;
+use json::{Scratch, Value};
 use sql_schema::SqlText;
 use sql_syntax::Expr;
 use std::alloc::Global;
@@ -28,21 +30,21 @@ pub struct Guarded {
 }
 
 #[tactic(auto, unfolding(crate::specs::Guards::guard_of))]
-fn guard_in(alloc: Global, value: &Value) -> Result<Guard, Refusal>
-    ensures { Gives guard_tree result (guard_of (view value.now)) }
+fn guard_in(alloc: Global, value: &Value<'_>) -> Result<Guard, Refusal>
+    ensures { Gives guard_tree result (guard_of (seen value.now)) }
 {
     let name = text(value, "table").ok_or(Refusal::NotADocument)?;
-    let asked = value.get("predicate").ok_or(Refusal::NotADocument)?;
+    let asked = get(value, "predicate").ok_or(Refusal::NotADocument)?;
     let predicate = whole_expr(alloc, asked)?;
     let table = SqlText::from(String::from_str(alloc, name)?);
     Ok(Guard { table, predicate })
 }
 
 #[tactic(auto, unfolding(crate::specs::Guards::guarded_of))]
-fn whole_guarded(alloc: Global, value: Value) -> Result<Guarded, Refusal>
-    ensures { Gives guarded_tree result (guarded_of (view value)) }
+fn whole_guarded(alloc: Global, value: &Value<'_>) -> Result<Guarded, Refusal>
+    ensures { Gives guarded_tree result (guarded_of (seen value.now)) }
 {
-    let asked = value.get("guard").ok_or(Refusal::NotADocument)?;
+    let asked = get(value, "guard").ok_or(Refusal::NotADocument)?;
     let guard = guard_in(alloc, asked)?;
     let document = whole(alloc, value)?;
     Ok(Guarded { document, guard })
@@ -53,6 +55,7 @@ fn whole_guarded(alloc: Global, value: Value) -> Result<Guarded, Refusal>
 pub fn read_guarded(alloc: Global, bytes: &[u8]) -> Result<Guarded, Refusal>
     ensures { Gives guarded_tree result (guarded bytes.now) }
 {
-    let value = json(alloc, bytes)?;
-    whole_guarded(alloc, value)
+    let mut scratch = Scratch::new(alloc);
+    let value = json(alloc, bytes, &mut scratch)?;
+    whole_guarded(alloc, &value)
 }

@@ -1,7 +1,7 @@
 #![tactic(auto, using(sql_syntax::proofs::Trees::opens_order_item))]
 
 ghost use Rattle.std.specs.Prelude.{◌≡◌, map, option_map, option_and_then};
-ghost use Rattle.serde_json.specs.View.{view, items_view};
+ghost use Rattle.sql_document.specs.inside.Seen.{seen, items_seen};
 ghost use Rattle.sql_document.specs.Members.{each, only_member};
 ghost use Rattle.sql_document.specs.Giving.{Gives};
 ghost use Rattle.sql_document.specs.Queries.{directed, item_of, place_of, expr_of};
@@ -13,15 +13,15 @@ use crate::member::only_member;
 use crate::names::direction;
 use crate::refusal::Refusal;
 use crate::value::place_number;
-use serde_json::Value;
+use json::Value;
 use sql_leaf::{Direction, OrderColumn, PositionalItem};
 use sql_syntax::OrderItem;
 use std::alloc::Global;
 
 /// What follows a name that says the direction: `{"asc":X}`.
-fn behind_direction(value: &Value) -> Option<(Direction, &Value)>
-    ensures { option_map (λ p. (p.0, view p.1.now)) result
-        ≡ option_and_then directed (only_member (view value.now)) }
+fn after_direction<'v, 'a>(value: &'v Value<'a>) -> Option<(Direction, &'v Value<'a>)>
+    ensures { option_map (λ p. (p.0, seen p.1.now)) result
+        ≡ option_and_then directed (only_member (seen value.now)) }
 {
     let (name, inner) = only_member(value)?;
     Some((direction(name)?, inner))
@@ -29,10 +29,10 @@ fn behind_direction(value: &Value) -> Option<(Direction, &Value)>
 
 #[cycle(decode)]
 #[tactic(auto, unfolding(crate::specs::Queries::item_of), using(sql_syntax::proofs::Trees::opens_order_item))]
-fn item(alloc: Global, value: &Value, depth: u32) -> Result<OrderItem, Refusal>
-    ensures { Gives order_item_tree result (item_of (expr_of depth) (view value.now)) }
+fn item(alloc: Global, value: &Value<'_>, depth: u32) -> Result<OrderItem, Refusal>
+    ensures { Gives order_item_tree result (item_of (expr_of depth) (seen value.now)) }
 {
-    match behind_direction(value) {
+    match after_direction(value) {
         Some((direction, inner)) => {
             let expr = expr(alloc, inner, depth)?;
             Ok(OrderItem { expr, direction })
@@ -50,11 +50,11 @@ fn item(alloc: Global, value: &Value, depth: u32) -> Result<OrderItem, Refusal>
 #[cycle(decode)]
 pub(crate) fn items(
     alloc: Global,
-    items: &Vec<Value>,
+    items: &Vec<Value<'_>>,
     depth: u32,
 ) -> Result<Vec<OrderItem>, Refusal>
     ensures { Gives (λ v. map order_item_tree v.items) result
-        (each (item_of (expr_of depth)) (items_view items.now.items)) }
+        (each (item_of (expr_of depth)) (items_seen items.now.items)) }
 {
     let mut all = Vec::new(alloc);
     for one in items {
@@ -64,10 +64,10 @@ pub(crate) fn items(
 }
 
 #[tactic(auto, unfolding(crate::specs::Queries::place_of))]
-fn place(value: &Value) -> Option<PositionalItem>
-    ensures { result ≡ place_of (view value.now) }
+fn place(value: &Value<'_>) -> Option<PositionalItem>
+    ensures { result ≡ place_of (seen value.now) }
 {
-    match behind_direction(value) {
+    match after_direction(value) {
         Some((direction, inner)) => Some(PositionalItem {
             column: OrderColumn(place_number(inner)?),
             direction,
@@ -82,7 +82,7 @@ fn place(value: &Value) -> Option<PositionalItem>
 impl Decode for PositionalItem {
     ghost form = { place_of };
 
-    fn decode(_alloc: Global, value: &Value) -> Result<PositionalItem, Refusal> {
+    fn decode(_alloc: Global, value: &Value<'_>) -> Result<PositionalItem, Refusal> {
         Ok(place(value).ok_or(Refusal::NotADocument)?)
     }
 }

@@ -2,7 +2,7 @@
 
 ghost use Rattle.std.specs.Prelude.{◌≡◌, ◌<◌, ℕ, map, option_map};
 ghost use Rattle.serde_json.specs.Data.{Data, depth as nesting};
-ghost use Rattle.serde_json.specs.View.{view, items_view};
+ghost use Rattle.sql_document.specs.inside.Seen.{seen, items_seen};
 ghost use Rattle.sql_document.specs.Members.{each, each_if_any};
 ghost use Rattle.sql_document.specs.Giving.{Gives};
 ghost use Rattle.sql_document.specs.Queries.{start_of, query_from, expr_of, source_of, query_of, call_of, nesting_bound};
@@ -10,9 +10,10 @@ ghost use Rattle.sql_syntax.specs.View.{expr_tree, query_tree, query_start_tree,
 
 use crate::call::call;
 use crate::expr::expr;
+use crate::look::{as_array, get};
 use crate::refusal::Refusal;
 use crate::source::source;
-use serde_json::Value;
+use json::Value;
 use sql_schema::SqlList;
 use sql_syntax::{Call, Expr, Query, QueryStart, all_stand};
 use std::alloc::Global;
@@ -22,14 +23,14 @@ const NESTING_BOUND: u32 = 128;
 
 #[cycle(decode)]
 #[tactic(auto, unfolding(crate::specs::Queries::query_of), using(sql_syntax::proofs::Trees::opens_query))]
-pub(crate) fn query(alloc: Global, value: &Value, depth: u32) -> Result<Query, Refusal>
-    ensures { Gives query_tree result (query_of depth (view value.now)) }
+pub(crate) fn query(alloc: Global, value: &Value<'_>, depth: u32) -> Result<Query, Refusal>
+    ensures { Gives query_tree result (query_of depth (seen value.now)) }
 {
     if depth == 0 {
         return Err(Refusal::NotADocument);
     }
-    let start = start(alloc, value.get("from"), value.get("select"), depth - 1)?;
-    let calls = calls(alloc, value.get("calls"), depth - 1)?;
+    let start = start(alloc, get(value, "from"), get(value, "select"), depth - 1)?;
+    let calls = calls(alloc, get(value, "calls"), depth - 1)?;
     checked(start, calls)
 }
 
@@ -52,13 +53,13 @@ fn checked(start: QueryStart, calls: Vec<Call>) -> Result<Query, Refusal>
 #[tactic(auto, using(sql_syntax::proofs::Trees::opens_query_start))]
 fn start(
     alloc: Global,
-    from: Option<&Value>,
-    select: Option<&Value>,
+    from: Option<&Value<'_>>,
+    select: Option<&Value<'_>>,
     depth: u32,
 ) -> Result<QueryStart, Refusal>
     ensures { Gives query_start_tree result
-        (start_of (expr_of depth) (source_of depth) (option_map (λ v. view v.now) from.entry)
-        (option_map (λ v. view v.now) select.entry)) }
+        (start_of (expr_of depth) (source_of depth) (option_map (λ v. seen v.now) from.entry)
+        (option_map (λ v. seen v.now) select.entry)) }
 {
     match (from, select) {
         (Some(from), None) => Ok(QueryStart::From(source(alloc, from, depth)?)),
@@ -68,23 +69,23 @@ fn start(
 }
 
 #[cycle(decode)]
-fn calls(alloc: Global, value: Option<&Value>, depth: u32) -> Result<Vec<Call>, Refusal>
+fn calls(alloc: Global, value: Option<&Value<'_>>, depth: u32) -> Result<Vec<Call>, Refusal>
     ensures { Gives (λ v. map call_tree v.items) result
-        (each_if_any (call_of depth) (option_map (λ v. view v.now) value.entry)) }
+        (each_if_any (call_of depth) (option_map (λ v. seen v.now) value.entry)) }
 {
     match value {
         None => Ok(Vec::new(alloc)),
         Some(value) => {
-            let items = value.as_array().ok_or(Refusal::NotADocument)?;
+            let items = as_array(value).ok_or(Refusal::NotADocument)?;
             each_call(alloc, items, depth)
         }
     }
 }
 
 #[cycle(decode)]
-fn each_call(alloc: Global, items: &Vec<Value>, depth: u32) -> Result<Vec<Call>, Refusal>
+fn each_call(alloc: Global, items: &Vec<Value<'_>>, depth: u32) -> Result<Vec<Call>, Refusal>
     ensures { Gives (λ v. map call_tree v.items) result
-        (each (call_of depth) (items_view items.now.items)) }
+        (each (call_of depth) (items_seen items.now.items)) }
 {
     let mut all = Vec::new(alloc);
     for item in items {
@@ -94,15 +95,15 @@ fn each_call(alloc: Global, items: &Vec<Value>, depth: u32) -> Result<Vec<Call>,
 }
 
 /// The query that a JSON value is.
-pub(crate) fn whole_query(alloc: Global, value: &Value) -> Result<Query, Refusal>
-    ensures { Gives query_tree result (query_of nesting_bound (view value.now)) }
+pub(crate) fn whole_query(alloc: Global, value: &Value<'_>) -> Result<Query, Refusal>
+    ensures { Gives query_tree result (query_of nesting_bound (seen value.now)) }
 {
     query(alloc, value, NESTING_BOUND)
 }
 
 /// The expression that a JSON value is.
-pub(crate) fn whole_expr(alloc: Global, value: &Value) -> Result<Expr, Refusal>
-    ensures { Gives expr_tree result (expr_of nesting_bound (view value.now)) }
+pub(crate) fn whole_expr(alloc: Global, value: &Value<'_>) -> Result<Expr, Refusal>
+    ensures { Gives expr_tree result (expr_of nesting_bound (seen value.now)) }
 {
     expr(alloc, value, NESTING_BOUND)
 }

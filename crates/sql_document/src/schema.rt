@@ -1,15 +1,16 @@
 ghost use Rattle.std.specs.Prelude.{◌≡◌, ◌++◌, OnOk, IfOk, option_map};
 ghost use Rattle.serde_json.specs.Find.{as_str};
-ghost use Rattle.serde_json.specs.View.{view};
+ghost use Rattle.sql_document.specs.inside.Seen.{seen};
 ghost use Rattle.sql_document.specs.Members.{if_any};
 ghost use Rattle.sql_document.specs.Giving.{Gives};
 ghost use Rattle.sql_document.specs.Schemas.{key_of, column_of, table_of, joinable_of, names_of, sound, schema_of};
 
 use crate::each::{Decode, decode_each, decode_if_any};
+use crate::look::{as_array, get};
 use crate::member::{items, text, text_or_default, two};
 use crate::names::sql_type;
 use crate::refusal::Refusal;
-use serde_json::Value;
+use json::Value;
 use sql_schema::{
     ColumnDecl, JoinableDecl, Schema, SchemaBuilder, SchemaError, SqlList, SqlText, TableDecl,
 };
@@ -19,7 +20,7 @@ impl Decode for ColumnDecl {
     ghost form = { column_of };
 
     #[tactic(auto, unfolding(crate::specs::Schemas::column_of))]
-    fn decode(alloc: Global, value: &Value) -> Result<ColumnDecl, Refusal> {
+    fn decode(alloc: Global, value: &Value<'_>) -> Result<ColumnDecl, Refusal> {
         let name = text(value, "name").ok_or(Refusal::NotADocument)?;
         let sql_name = text_or_default(value, "sql_name", name).ok_or(Refusal::NotADocument)?;
         let type_name = text(value, "type").ok_or(Refusal::NotADocument)?;
@@ -34,8 +35,8 @@ impl Decode for ColumnDecl {
 }
 
 /// The name of the table's schema, where it has one.
-fn schema_name(alloc: Global, value: Option<&Value>) -> Result<Option<SqlText>, Refusal>
-    ensures { Gives (λ s. s) result (if_any as_str (option_map (λ v. view v.now) value.entry)) }
+fn schema_name(alloc: Global, value: Option<&Value<'_>>) -> Result<Option<SqlText>, Refusal>
+    ensures { Gives (λ s. s) result (if_any as_str (option_map (λ v. seen v.now) value.entry)) }
 {
     match value {
         None => Ok(None),
@@ -44,8 +45,8 @@ fn schema_name(alloc: Global, value: Option<&Value>) -> Result<Option<SqlText>, 
 }
 
 /// The names of the key's columns, by default the one column `id`.
-fn primary_key(alloc: Global, value: Option<&Value>) -> Result<Vec<SqlText>, Refusal>
-    ensures { Gives (λ k. k.items) result (key_of (option_map (λ v. view v.now) value.entry)) }
+fn primary_key(alloc: Global, value: Option<&Value<'_>>) -> Result<Vec<SqlText>, Refusal>
+    ensures { Gives (λ k. k.items) result (key_of (option_map (λ v. seen v.now) value.entry)) }
 {
     match value {
         None => {
@@ -54,7 +55,7 @@ fn primary_key(alloc: Global, value: Option<&Value>) -> Result<Vec<SqlText>, Ref
             Ok(key)
         }
         Some(value) => {
-            let names = value.as_array().ok_or(Refusal::NotADocument)?;
+            let names = as_array(value).ok_or(Refusal::NotADocument)?;
             decode_each(alloc, names)
         }
     }
@@ -64,11 +65,11 @@ impl Decode for TableDecl {
     ghost form = { table_of };
 
     #[tactic(auto, unfolding(crate::specs::Schemas::table_of))]
-    fn decode(alloc: Global, value: &Value) -> Result<TableDecl, Refusal> {
+    fn decode(alloc: Global, value: &Value<'_>) -> Result<TableDecl, Refusal> {
         let name = text(value, "name").ok_or(Refusal::NotADocument)?;
         let sql_name = text_or_default(value, "sql_name", name).ok_or(Refusal::NotADocument)?;
-        let schema = schema_name(alloc, value.get("schema"))?;
-        let key = primary_key(alloc, value.get("primary_key"))?;
+        let schema = schema_name(alloc, get(value, "schema"))?;
+        let key = primary_key(alloc, get(value, "primary_key"))?;
         let columns = items(value, "columns").ok_or(Refusal::NotADocument)?;
         let columns = decode_each(alloc, columns)?;
         Ok(TableDecl {
@@ -85,7 +86,7 @@ impl Decode for JoinableDecl {
     ghost form = { joinable_of };
 
     #[tactic(auto, unfolding(crate::specs::Schemas::joinable_of))]
-    fn decode(alloc: Global, value: &Value) -> Result<JoinableDecl, Refusal> {
+    fn decode(alloc: Global, value: &Value<'_>) -> Result<JoinableDecl, Refusal> {
         let child = text(value, "child").ok_or(Refusal::NotADocument)?;
         let key = text(value, "key").ok_or(Refusal::NotADocument)?;
         let parent = text(value, "parent").ok_or(Refusal::NotADocument)?;
@@ -102,7 +103,7 @@ impl Decode for (SqlText, SqlText) {
     ghost form = { names_of };
 
     #[tactic(auto, unfolding(crate::specs::Schemas::names_of))]
-    fn decode(alloc: Global, value: &Value) -> Result<(SqlText, SqlText), Refusal> {
+    fn decode(alloc: Global, value: &Value<'_>) -> Result<(SqlText, SqlText), Refusal> {
         let (a, b) = two(value).ok_or(Refusal::NotADocument)?;
         let a = SqlText::decode(alloc, a)?;
         let b = SqlText::decode(alloc, b)?;
@@ -178,13 +179,13 @@ fn build(builder: SchemaBuilder) -> Result<Schema, Refusal>
 }
 
 #[tactic(auto, unfolding(crate::specs::Schemas::schema_of))]
-pub(crate) fn schema(alloc: Global, value: &Value) -> Result<Schema, Refusal>
-    ensures { Gives (λ s. s) result (schema_of (view value.now)) }
+pub(crate) fn schema(alloc: Global, value: &Value<'_>) -> Result<Schema, Refusal>
+    ensures { Gives (λ s. s) result (schema_of (seen value.now)) }
 {
     let tables = items(value, "tables").ok_or(Refusal::NotADocument)?;
     let tables = decode_each(alloc, tables)?;
-    let joinables: Vec<JoinableDecl> = decode_if_any(alloc, value.get("joinable"))?;
-    let together: Vec<(SqlText, SqlText)> = decode_if_any(alloc, value.get("together"))?;
+    let joinables: Vec<JoinableDecl> = decode_if_any(alloc, get(value, "joinable"))?;
+    let together: Vec<(SqlText, SqlText)> = decode_if_any(alloc, get(value, "together"))?;
     let builder = declared(alloc, tables, &joinables, &together)?;
     build(builder)
 }

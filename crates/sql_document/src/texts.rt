@@ -1,15 +1,16 @@
 ghost use Rattle.std.specs.Prelude.{◌≡◌};
-ghost use Rattle.serde_json.specs.View.{view};
+ghost use Rattle.sql_document.specs.inside.Seen.{seen};
 ghost use Rattle.sql_document.specs.Texts.{texts_of, texts_in};
 ghost use Rattle.sql_document.specs.Giving.{Gives};
 ghost use Rattle.sql_document.specs.Trees.{texts_tree};
 
-use crate::document::json;
 use crate::each::decode_each;
+use crate::look::get;
 use crate::member::items;
+use crate::reading::json;
 use crate::refusal::Refusal;
 use crate::schema::schema;
-use serde_json::Value;
+use json::{Scratch, Value};
 use sql_schema::{Schema, SqlList, SqlText};
 use std::alloc::Global;
 
@@ -21,10 +22,10 @@ pub struct Texts {
 }
 
 #[tactic(auto, unfolding(crate::specs::Texts::texts_of))]
-fn whole_texts(alloc: Global, value: &Value) -> Result<Texts, Refusal>
-    ensures { Gives texts_tree result (texts_of (view value.now)) }
+fn whole_texts(alloc: Global, value: &Value<'_>) -> Result<Texts, Refusal>
+    ensures { Gives texts_tree result (texts_of (seen value.now)) }
 {
-    let declarations = value.get("schema").ok_or(Refusal::NotADocument)?;
+    let declarations = get(value, "schema").ok_or(Refusal::NotADocument)?;
     let schema = schema(alloc, declarations)?;
     let items = items(value, "texts").ok_or(Refusal::NotADocument)?;
     let texts: Vec<SqlText> = decode_each(alloc, items)?;
@@ -39,6 +40,7 @@ fn whole_texts(alloc: Global, value: &Value) -> Result<Texts, Refusal>
 pub fn read_texts(alloc: Global, bytes: &[u8]) -> Result<Texts, Refusal>
     ensures { Gives texts_tree result (texts_in bytes.now) }
 {
-    let value = json(alloc, bytes)?;
+    let mut scratch = Scratch::new(alloc);
+    let value = json(alloc, bytes, &mut scratch)?;
     whole_texts(alloc, &value)
 }

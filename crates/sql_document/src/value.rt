@@ -1,21 +1,22 @@
 ghost use Rattle.std.specs.Prelude.{◌≡◌};
 ghost use Rattle.std.specs.List.{list_any};
-ghost use Rattle.serde_json.specs.View.{view, items_view};
+ghost use Rattle.sql_document.specs.inside.Seen.{seen, items_seen};
 ghost use Rattle.sql_document.specs.Members.{each};
 ghost use Rattle.sql_document.specs.Giving.{Gives};
 ghost use Rattle.sql_document.specs.Scalar.{small_of, medium_of, place_number_of, is_upper_case, bytes_of, of_base, value_of};
 
+use crate::look::{as_bool, as_i64, as_str, as_u64, is_null};
 use crate::refusal::Refusal;
 use hex::FromHexError;
-use serde_json::Value as Json;
+use json::Value as Json;
 use sql_pass::Value;
 use sql_schema::{Base, SqlBytes, SqlText};
 use std::alloc::Global;
 
-pub(crate) fn small(value: &Json) -> Option<i16>
-    ensures { result ≡ small_of (view value.now) }
+pub(crate) fn small(value: &Json<'_>) -> Option<i16>
+    ensures { result ≡ small_of (seen value.now) }
 {
-    let number = value.as_i64()?;
+    let number = as_i64(value)?;
     if number >= -32768 && number < 32768 {
         Some(number as i16)
     } else {
@@ -23,10 +24,10 @@ pub(crate) fn small(value: &Json) -> Option<i16>
     }
 }
 
-pub(crate) fn medium(value: &Json) -> Option<i32>
-    ensures { result ≡ medium_of (view value.now) }
+pub(crate) fn medium(value: &Json<'_>) -> Option<i32>
+    ensures { result ≡ medium_of (seen value.now) }
 {
-    let number = value.as_i64()?;
+    let number = as_i64(value)?;
     if number >= -2147483648 && number < 2147483648 {
         Some(number as i32)
     } else {
@@ -35,10 +36,10 @@ pub(crate) fn medium(value: &Json) -> Option<i32>
 }
 
 /// A place in an order.
-pub(crate) fn place_number(value: &Json) -> Option<u32>
-    ensures { result ≡ place_number_of (view value.now) }
+pub(crate) fn place_number(value: &Json<'_>) -> Option<u32>
+    ensures { result ≡ place_number_of (seen value.now) }
 {
-    let number = value.as_u64()?;
+    let number = as_u64(value)?;
     if number < 4294967296 {
         Some(number as u32)
     } else {
@@ -67,31 +68,31 @@ fn bytes(alloc: Global, text: &str) -> Result<Vec<u8>, Refusal>
     }
 }
 
-fn of_base_or_refused(alloc: Global, base: Base, value: &Json) -> Result<Value, Refusal>
-    ensures { Gives (λ v. v) result (of_base base (view value.now)) }
+fn of_base_or_refused(alloc: Global, base: Base, value: &Json<'_>) -> Result<Value, Refusal>
+    ensures { Gives (λ v. v) result (of_base base (seen value.now)) }
 {
     match base {
         Base::SmallInt => Ok(Value::SmallInt(small(value).ok_or(Refusal::NotADocument)?)),
         Base::Integer => Ok(Value::Integer(medium(value).ok_or(Refusal::NotADocument)?)),
-        Base::BigInt => Ok(Value::BigInt(value.as_i64().ok_or(Refusal::NotADocument)?)),
+        Base::BigInt => Ok(Value::BigInt(as_i64(value).ok_or(Refusal::NotADocument)?)),
         Base::Text => {
-            let text = value.as_str().ok_or(Refusal::NotADocument)?;
+            let text = as_str(value).ok_or(Refusal::NotADocument)?;
             Ok(Value::Text(SqlText::from(String::from_str(alloc, text)?)))
         }
         Base::Binary => {
-            let text = value.as_str().ok_or(Refusal::NotADocument)?;
+            let text = as_str(value).ok_or(Refusal::NotADocument)?;
             Ok(Value::Binary(SqlBytes::from(bytes(alloc, text)?)))
         }
-        Base::Bool => Ok(Value::Bool(value.as_bool().ok_or(Refusal::NotADocument)?)),
+        Base::Bool => Ok(Value::Bool(as_bool(value).ok_or(Refusal::NotADocument)?)),
     }
 }
 
 /// A bound value: null, or a number, a text, hexadecimal digits or a truth value, by the base of its type.
 #[tactic(auto, unfolding(crate::specs::Scalar::value_of))]
-pub(crate) fn value(alloc: Global, base: Base, value: &Json) -> Result<Value, Refusal>
-    ensures { Gives (λ v. v) result (value_of base (view value.now)) }
+pub(crate) fn value(alloc: Global, base: Base, value: &Json<'_>) -> Result<Value, Refusal>
+    ensures { Gives (λ v. v) result (value_of base (seen value.now)) }
 {
-    if value.is_null() {
+    if is_null(value) {
         return Ok(Value::Null);
     }
     of_base_or_refused(alloc, base, value)
@@ -101,9 +102,9 @@ pub(crate) fn value(alloc: Global, base: Base, value: &Json) -> Result<Value, Re
 pub(crate) fn each_value(
     alloc: Global,
     base: Base,
-    items: &Vec<Json>,
+    items: &Vec<Json<'_>>,
 ) -> Result<Vec<Value>, Refusal>
-    ensures { Gives (λ v. v.items) result (each (value_of base) (items_view items.now.items)) }
+    ensures { Gives (λ v. v.items) result (each (value_of base) (items_seen items.now.items)) }
 {
     let mut all = Vec::new(alloc);
     for item in items {

@@ -1,7 +1,7 @@
 use Rattle.std.proofs.Common.{◌≡◌, ◌++◌, ◌∷◌, [], map}
 use Rattle.std.proofs.lemmas.Result.{err_from_is_err_and}
 use Rattle.std.proofs.lemmas.List.{map_push}
-use Rattle.serde_json.specs.View.{items_view}
+use Rattle.sql_document.specs.inside.Seen.{items_seen}
 use Rattle.sql_syntax.specs.View.{expr_tree, call_tree, order_item_tree}
 use Rattle.sql_document.specs.Members.{each}
 use Rattle.sql_document.specs.Queries.{expr_of, call_of, item_of}
@@ -15,7 +15,7 @@ expr::exprs-returns-in_err-expr t c =
     let p = err_from_is_err_and c.from_residual.result c.from_residual.ensures.1 in
     let at_end =
     ends c.in_err-expr.field-0.0 form (map expr_tree c.loop-item.all.items) xs c.loop-item.item-index
-    c.item-item.result (each form (items_view xs)) c.loop-item-test.true c.item-item.is c.in_err-expr.ensures
+    c.item-item.result (each form (items_seen xs)) c.loop-item-test.true c.item-item.is c.in_err-expr.ensures
     c.loop-item.invariant in
     rw (p.1, p.2, ← c.deref-item-items.ensures.value) at_end
 
@@ -28,14 +28,14 @@ expr::exprs-loop-item-preserved t c =
     rw c.in_ok-push.ensures.items (map_push _ c.loop-item.all.items y) in
     rw e
     (goes_on form (map expr_tree c.loop-item.all.items) xs c.loop-item.item-index c.item-item.result (expr_tree y)
-    (each form (items_view xs)) c.loop-item-test.true c.item-item.is c.in_ok-expr.ensures c.loop-item.invariant)
+    (each form (items_seen xs)) c.loop-item-test.true c.item-item.is c.in_ok-expr.ensures c.loop-item.invariant)
 
 pub expr::exprs-returns : goal.expr::exprs-returns
 expr::exprs-returns t c =
     let xs = c.deref-item-items.result.now in
     let form = expr_of c.args.depth in
     rw (← c.deref-item-items.ensures.value)
-    (is_done form (map expr_tree c.loop-item.all.items) xs c.loop-item.item-index (each form (items_view xs))
+    (is_done form (map expr_tree c.loop-item.all.items) xs c.loop-item.item-index (each form (items_seen xs))
     c.loop-item-test.false c.loop-item.invariant)
 
 pub query::each_call-returns-in_err-call : goal.query::each_call-returns-in_err-call
@@ -45,7 +45,7 @@ query::each_call-returns-in_err-call t c =
     let p = err_from_is_err_and c.from_residual.result c.from_residual.ensures.1 in
     let at_end =
     ends c.in_err-call.field-0.0 form (map call_tree c.loop-item.all.items) xs c.loop-item.item-index
-    c.item-item.result (each form (items_view xs)) c.loop-item-test.true c.item-item.is c.in_err-call.ensures
+    c.item-item.result (each form (items_seen xs)) c.loop-item-test.true c.item-item.is c.in_err-call.ensures
     c.loop-item.invariant in
     rw (p.1, p.2, ← c.deref-item-items.ensures.value) at_end
 
@@ -58,14 +58,14 @@ query::each_call-loop-item-preserved t c =
     rw c.in_ok-push.ensures.items (map_push _ c.loop-item.all.items y) in
     rw e
     (goes_on form (map call_tree c.loop-item.all.items) xs c.loop-item.item-index c.item-item.result (call_tree y)
-    (each form (items_view xs)) c.loop-item-test.true c.item-item.is c.in_ok-call.ensures c.loop-item.invariant)
+    (each form (items_seen xs)) c.loop-item-test.true c.item-item.is c.in_ok-call.ensures c.loop-item.invariant)
 
 pub query::each_call-returns : goal.query::each_call-returns
 query::each_call-returns t c =
     let xs = c.deref-item-items.result.now in
     let form = call_of c.args.depth in
     rw (← c.deref-item-items.ensures.value)
-    (is_done form (map call_tree c.loop-item.all.items) xs c.loop-item.item-index (each form (items_view xs))
+    (is_done form (map call_tree c.loop-item.all.items) xs c.loop-item.item-index (each form (items_seen xs))
     c.loop-item-test.false c.loop-item.invariant)
 
 pub order::items-returns-in_err-item : goal.order::items-returns-in_err-item
@@ -75,7 +75,7 @@ order::items-returns-in_err-item t c =
     let p = err_from_is_err_and c.from_residual.result c.from_residual.ensures.1 in
     let at_end =
     ends c.in_err-item.field-0.0 form (map order_item_tree c.loop-one.all.items) xs c.loop-one.one-index
-    c.one-item.result (each form (items_view xs)) c.loop-one-test.true c.one-item.is c.in_err-item.ensures
+    c.one-item.result (each form (items_seen xs)) c.loop-one-test.true c.one-item.is c.in_err-item.ensures
     c.loop-one.invariant in
     rw (p.1, p.2, ← c.deref-one-items.ensures.value) at_end
 
@@ -89,7 +89,7 @@ order::items-loop-one-preserved t c =
     rw c.in_ok-push.ensures.items (map_push _ c.loop-one.all.items y) in
     rw e
     (goes_on form (map order_item_tree c.loop-one.all.items) xs c.loop-one.one-index c.one-item.result
-    (order_item_tree y) (each form (items_view xs)) c.loop-one-test.true c.one-item.is c.in_ok-item.ensures
+    (order_item_tree y) (each form (items_seen xs)) c.loop-one-test.true c.one-item.is c.in_ok-item.ensures
     c.loop-one.invariant)
 
 pub order::items-returns : goal.order::items-returns
@@ -97,5 +97,5 @@ order::items-returns t c =
     let xs = c.deref-one-items.result.now in
     let form = item_of (expr_of c.args.depth) in
     rw (← c.deref-one-items.ensures.value)
-    (is_done form (map order_item_tree c.loop-one.all.items) xs c.loop-one.one-index (each form (items_view xs))
+    (is_done form (map order_item_tree c.loop-one.all.items) xs c.loop-one.one-index (each form (items_seen xs))
     c.loop-one-test.false c.loop-one.invariant)

@@ -1,5 +1,5 @@
-use Rattle.std.proofs.Common.{◌≡◌, ◌+◌, ◌*◌, drop, map}
-use Rattle.serde_json.specs.View.{items_view}
+use Rattle.std.proofs.Common.{◌≡◌, ◌+◌, ◌*◌, map}
+use Rattle.sql_document.specs.inside.Seen.{items_seen}
 use Rattle.sql_syntax.specs.View.{expr_tree, call_tree, order_item_tree}
 use Rattle.sql_document.specs.Members.{each}
 use Rattle.sql_document.specs.Queries.{expr_of, call_of, item_of}
@@ -84,14 +84,14 @@ decreases-order::item l = 8 * l.depth + 1
 abbrev pub invariant-expr::exprs-loop-item : goal.invariant-expr::exprs-loop-item
 invariant-expr::exprs-loop-item l =
     with_front (map expr_tree l.all.items) (each (expr_of l.depth) (rest_of l.item-items l.item-index))
-    ≡ each (expr_of l.depth) (items_view l.item-items)
+    ≡ each (expr_of l.depth) (items_seen l.item-items)
 
 abbrev pub invariant-query::each_call-loop-item : goal.invariant-query::each_call-loop-item
 invariant-query::each_call-loop-item l =
     with_front (map call_tree l.all.items) (each (call_of l.depth) (rest_of l.item-items l.item-index))
-    ≡ each (call_of l.depth) (items_view l.item-items)
+    ≡ each (call_of l.depth) (items_seen l.item-items)
 
 abbrev pub invariant-order::items-loop-one : goal.invariant-order::items-loop-one
 invariant-order::items-loop-one l =
     with_front (map order_item_tree l.all.items) (each (item_of (expr_of l.depth)) (rest_of l.one-items l.one-index))
-    ≡ each (item_of (expr_of l.depth)) (items_view l.one-items)
+    ≡ each (item_of (expr_of l.depth)) (items_seen l.one-items)

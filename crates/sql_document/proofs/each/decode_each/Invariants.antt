@@ -1,5 +1,5 @@
 use Rattle.std.proofs.Common.{◌≡◌}
-use Rattle.serde_json.specs.View.{items_view}
+use Rattle.sql_document.specs.inside.Seen.{items_seen}
 use Rattle.sql_document.specs.Members.{each}
 use Rattle.sql_document.proofs.EachItem.{with_front, rest_of}
 use Rattle.sql_document.proofs.each.decode_each.Given as goal
@@ -7,4 +7,4 @@ use Rattle.sql_document.proofs.each.decode_each.Given as goal
 abbrev pub invariant-loop-item : goal.invariant-loop-item
 invariant-loop-item g l =
     with_front l.all.items (each g.T.Decode.form (rest_of l.item-items l.item-index))
-    ≡ each g.T.Decode.form (items_view l.item-items)
+    ≡ each g.T.Decode.form (items_seen l.item-items)

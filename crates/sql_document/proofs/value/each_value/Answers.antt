@@ -1,5 +1,5 @@
 use Rattle.std.proofs.lemmas.Result.{err_from_is_err_and}
-use Rattle.serde_json.specs.View.{items_view}
+use Rattle.sql_document.specs.inside.Seen.{items_seen}
 use Rattle.sql_document.specs.Members.{each}
 use Rattle.sql_document.specs.Scalar.{value_of}
 use Rattle.sql_document.proofs.EachItem.{goes_on, ends, is_done}
@@ -12,7 +12,7 @@ returns-in_err-value c =
     let p = err_from_is_err_and c.from_residual.result c.from_residual.ensures.1 in
     let at_end =
     ends c.in_err-value.field-0.0 form c.loop-item.all.items xs c.loop-item.item-index c.item-item.result
-    (each form (items_view xs)) c.loop-item-test.true c.item-item.is c.in_err-value.ensures
+    (each form (items_seen xs)) c.loop-item-test.true c.item-item.is c.in_err-value.ensures
     c.loop-item.invariant in
     rw (p.1, p.2, ← c.deref-item-items.ensures.value) at_end
 
@@ -22,7 +22,7 @@ loop-item-preserved c =
     let form = value_of c.args.base in
     rw c.in_ok-push.ensures.items
     (goes_on form c.loop-item.all.items xs c.loop-item.item-index c.item-item.result c.in_ok-value.field-0
-    (each form (items_view xs)) c.loop-item-test.true c.item-item.is c.in_ok-value.ensures
+    (each form (items_seen xs)) c.loop-item-test.true c.item-item.is c.in_ok-value.ensures
     c.loop-item.invariant)
 
 pub returns : goal.returns
@@ -30,5 +30,5 @@ returns c =
     let xs = c.deref-item-items.result.now in
     let form = value_of c.args.base in
     rw (← c.deref-item-items.ensures.value)
-    (is_done form c.loop-item.all.items xs c.loop-item.item-index (each form (items_view xs)) c.loop-item-test.false
+    (is_done form c.loop-item.all.items xs c.loop-item.item-index (each form (items_seen xs)) c.loop-item-test.false
     c.loop-item.invariant)
