@@ -78,15 +78,14 @@ pub use sql_key::{
 // The rules, `compile`, and whether values fit.
 pub use sql_check::{
     Built, CompileError, FusedAnswer, Names, RULES, Rule, Steps, boxing_takes_the_id_alone, broken,
-    compile, compile_by, fused, values_fit,
+    compile, compile_by, compile_flat_by, fused, values_fit,
 };
 
 // `compile` with column types that are right for NULL, a cache of its answers, and what statements answer.
 pub use sql_rows::{
-    RequestKey, StatementCache, answered_pairs_stand_in_front, calls_are_answered_alone,
-    compile_sound, compile_sound_by, first_is_any, last_writer_is_an_answer,
-    left_join_has_two_answers, needs_nullable_is_needed, one_answer, operators_work,
-    the_example_is_accepted, types_are_sound,
+    RequestKey, StatementCache, answered_pairs_come_first, calls_are_answered_alone, compile_sound,
+    compile_sound_by, first_is_any, last_writer_is_an_answer, left_join_has_two_answers,
+    needs_nullable_is_needed, one_answer, operators_work, the_example_is_accepted, types_are_sound,
 };
 
 // The tenant guard.

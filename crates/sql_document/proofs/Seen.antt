@@ -13,7 +13,7 @@ use Rattle.json.specs.Value.{value_view}
 use Rattle.json.specs.declared.value.Value.{Value}
 use Rattle.serde_json.proofs.Views.{get_member-put, get_member-put_other}
 use Rattle.serde_json.specs.Data.{Num, float, Data, number, array, object, Items, item, Members, no_members, member, put}
-use Rattle.serde_json.specs.Find.{get, get_member, at, get_item, as_str, as_bool, as_number, as_array, is_float}
+use Rattle.serde_json.specs.Find.{get, get_member, at, get_item, is_float}
 use Rattle.serde_json.specs.Read.{number_from, number_of, of_json, of_items, of_members}
 use Rattle.serde_json.specs.Written.{has_float, items_have_float, members_have_float}
 use Rattle.sql_document.specs.inside.Seen.{num_from, num_of, data_of, data_items, data_members, is_whole, items_are_whole, members_are_whole, alone, seen}
@@ -78,38 +78,6 @@ at-seen i (json.number s) = refl
 at-seen i (json.string s) = refl
 at-seen i (json.array js) = item-seen i js
 at-seen i (json.object ms) = refl
-
-pub str-seen : (j : json.Json) → as_str (data_of j) ≡ json_find.as_str j
-str-seen json.null = refl
-str-seen (json.boolean b) = refl
-str-seen (json.number s) = refl
-str-seen (json.string s) = refl
-str-seen (json.array js) = refl
-str-seen (json.object ms) = refl
-
-pub bool-seen : (j : json.Json) → as_bool (data_of j) ≡ json_find.as_bool j
-bool-seen json.null = refl
-bool-seen (json.boolean b) = refl
-bool-seen (json.number s) = refl
-bool-seen (json.string s) = refl
-bool-seen (json.array js) = refl
-bool-seen (json.object ms) = refl
-
-pub number-seen : (j : json.Json) → as_number (data_of j) ≡ option_map num_of (json_find.as_number j)
-number-seen json.null = refl
-number-seen (json.boolean b) = refl
-number-seen (json.number s) = refl
-number-seen (json.string s) = refl
-number-seen (json.array js) = refl
-number-seen (json.object ms) = refl
-
-pub array-seen : (j : json.Json) → as_array (data_of j) ≡ option_map data_items (json_find.as_array j)
-array-seen json.null = refl
-array-seen (json.boolean b) = refl
-array-seen (json.number s) = refl
-array-seen (json.string s) = refl
-array-seen (json.array js) = refl
-array-seen (json.object ms) = refl
 
 -- ---- where serde_json reads the tree, it reads this data
 

@@ -212,7 +212,7 @@ fn membership(alloc: Global, value: &Value<'_>, depth: u32) -> Result<Membership
     }
 }
 
-/// The condition of a join, where it stands.
+/// The condition of a join, where it has one.
 #[cycle(decode)]
 pub(crate) fn condition(
     alloc: Global,

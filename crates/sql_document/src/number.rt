@@ -1,7 +1,6 @@
-ghost use Rattle.std.specs.Prelude.{◌≡◌, ◌<◌, ◌==◌, None, Some, IsTrue, if◌then◌else◌};
-ghost use Rattle.std.specs.Prelude.{length, option_map, slice_index, true, false};
-ghost use Rattle.serde_json.specs.Find.{is_float};
-ghost use Rattle.sql_document.specs.inside.Seen.{num_from, num_of, num_of_whole};
+ghost use Rattle.std.specs.Prelude.{◌≡◌, ◌<◌, ◌==◌, IsTrue, length, option_map};
+ghost use Rattle.std.specs.Prelude.{slice_index, true, false};
+ghost use Rattle.sql_document.specs.inside.Seen.{if_whole, num_from, num_of, num_of_whole};
 
 use fast_float::Numeral;
 
@@ -17,8 +16,7 @@ pub(crate) enum Whole {
 /// The whole number of 64 bits that a JSON number's text writes, where it is one.
 /// `-0`, `1.0` and `1e2` are none.
 pub(crate) fn whole_number(text: &str) -> Option<Whole>
-    ensures { option_map num_of_whole result
-        ≡ (if is_float (num_of text.now) then None else Some (num_of text.now)) }
+    ensures { option_map num_of_whole result ≡ if_whole (num_of text.now) }
 {
     let bytes = text.as_bytes();
     if has_minus(bytes) {
@@ -38,18 +36,14 @@ fn has_minus(bytes: &[u8]) -> bool
 
 /// The number that a numeral with no sign writes, where it is whole and of 64 bits.
 fn natural(numeral: &Numeral<'_>) -> Option<Whole>
-    ensures { option_map num_of_whole result
-        ≡ (if is_float (num_from false numeral.now) then None
-        else Some (num_from false numeral.now)) }
+    ensures { option_map num_of_whole result ≡ if_whole (num_from false numeral.now) }
 {
     Some(Whole::Natural(numeral.to_u64()?))
 }
 
 /// The number that a numeral writes after a minus sign, where it is whole, of 64 bits and not 0.
 fn negative(numeral: &Numeral<'_>) -> Option<Whole>
-    ensures { option_map num_of_whole result
-        ≡ (if is_float (num_from true numeral.now) then None
-        else Some (num_from true numeral.now)) }
+    ensures { option_map num_of_whole result ≡ if_whole (num_from true numeral.now) }
 {
     let n = numeral.to_i64(true)?;
     if n < 0 {

@@ -34,7 +34,7 @@ pub(crate) fn query(alloc: Global, value: &Value<'_>, depth: u32) -> Result<Quer
     checked(start, calls)
 }
 
-/// A query whose calls stand, each on the form that the calls before it give.
+/// The query, where each of its calls is one of the form that the calls before it give.
 #[tactic(auto, unfolding(crate::specs::Queries::query_from), using(sql_syntax::proofs::Trees::opens_query))]
 fn checked(start: QueryStart, calls: Vec<Call>) -> Result<Query, Refusal>
     ensures { Gives query_tree result

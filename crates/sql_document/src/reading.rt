@@ -1,6 +1,6 @@
 //! From bytes to a JSON value whose texts are borrowed.
 
-ghost use Rattle.std.specs.Prelude.{◌≡◌, Err, IfOk, None, option_map};
+ghost use Rattle.std.specs.Prelude.{◌≡◌, ◌≢◌, Err, IfOk, None, option_map};
 ghost use Rattle.json.specs.Value.{value_view};
 ghost use Rattle.serde_json.specs.Read.{of_json, read};
 ghost use Rattle.sql_document.specs.Documents.{value_in};
@@ -25,6 +25,8 @@ pub(crate) fn parsed<'a>(
 ) -> Result<Value<'a>, Error>
     ensures ok { IfOk result (λ v. read text.now ≡ of_json (value_view v)) }
     ensures invalid { result ≡ Err Error.Invalid → read text.now ≡ None }
+    ensures never_too_long { result ≢ Err Error.TooLong }
+    ensures never_duplicate { result ≢ Err Error.DuplicateKey }
 {
     let mut reader = Reader::new(text, scratch)?;
     let value = Value::read(alloc, &mut reader, MAX_DEPTH)?;
@@ -64,7 +66,8 @@ pub(crate) fn json<'a>(
     let value = match parsed(alloc, text, scratch) {
         Ok(value) => value,
         Err(Error::Invalid) => return Err(Refusal::NotADocument),
-        Err(_) => return Err(Refusal::NoMemory),
+        Err(Error::OutOfMemory) => return Err(Refusal::NoMemory),
+        Err(Error::TooLong | Error::DuplicateKey) => unreachable!(),
     };
     if is_whole(&value) {
         return Ok(value);

@@ -8,7 +8,7 @@ use std::alloc::{AllocError, AllocFailed};
 pub enum Refusal {
     /// Out of memory, whatever the bytes are.
     NoMemory,
-    /// The bytes are no JSON, no JSON of a document's form, or their declarations can't stand together.
+    /// The bytes are no JSON, no JSON of a document's form, or no schema can have its declarations.
     NotADocument,
 }
 

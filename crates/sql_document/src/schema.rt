@@ -98,7 +98,7 @@ impl Decode for JoinableDecl {
     }
 }
 
-/// The names of two tables that may stand in one statement.
+/// The names of two tables that may be used in one statement.
 impl Decode for (SqlText, SqlText) {
     ghost form = { names_of };
 

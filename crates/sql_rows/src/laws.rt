@@ -37,7 +37,7 @@ pub fn one_answer()
 {}
 
 /// After each answer that is Ok, of a statement that has an id, its pair is the first.
-pub fn answered_pairs_stand_in_front()
+pub fn answered_pairs_come_first()
     ensures { (before after : Entries) (d : Dialect) (s : Statement) (b : Built) (k : List FlatNode)
         → id_of s ≡ Some k
         → IsCall before (record { dialect = d; statement = s; answer = Ok b }) after

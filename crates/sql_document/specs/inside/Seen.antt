@@ -22,6 +22,10 @@ num_from true p =
 unfoldable pub num_of : List ℕ → Num
 num_of s = if slice_index s 0 == minus then num_from true (scan (drop 1 s)) else num_from false (scan s)
 
+-- the number, where it is no float
+abbrev pub if_whole : Num → Option Num
+if_whole n = if is_float n then None else Some n
+
 abbrev pub num_of_whole : Whole → Num
 num_of_whole (Natural n) = unsigned n
 num_of_whole (Negative z) = negative z
