@@ -1,16 +1,7 @@
 use Rattle.std.proofs.Common.{◌++◌, sym, ap, ◌∙◌, append_assoc, append-nil}
-use Rattle.std.specs.Prelude.{Result, Ok, Err, OnOk, OnErr}
-use Rattle.std.proofs.lemmas.Result.{err_from_is_err_and}
+use Rattle.std.proofs.lemmas.Result.{err_from_is_err_and, on_err_weaker, on_ok_weaker}
 use Rattle.std.proofs.KnownBytes.{Appends-trans}
 use Rattle.sql_stream.proofs.writing.write_pending.Goals as goal
-
-on_ok : {A E P Q : Type 0} (r : Result A E) → (P → Q) → OnOk r P → OnOk r Q
-on_ok (Ok a) f h = f h
-on_ok (Err e) f h = tt
-
-on_err : {A E P Q : Type 0} (r : Result A E) → (P → Q) → OnErr r P → OnErr r Q
-on_err (Ok a) f h = tt
-on_err (Err e) f h = f h
 
 pub returns-in_err-write_all-clause-prefix : goal.returns-in_err-write_all-clause-prefix
 returns-in_err-write_all-clause-prefix g c =
@@ -28,7 +19,7 @@ pub returns-clause-all : goal.returns-clause-all
 returns-clause-all g c =
     let text = c.args.text.now in
     let first = c.as_slice.result.now in
-    on_ok c.write_all-2.result
+    on_ok_weaker c.write_all-2.result
     (λ more. (
       first ++ text,
       ap (λ u. u ++ text) (sym c.if-is_added.ensures ∙ sym c.as_slice.ensures.value) ∙ sym (append-nil (first ++ text))
@@ -41,7 +32,7 @@ pub returns-clause-prefix : goal.returns-clause-prefix
 returns-clause-prefix g c =
     let text = c.args.text.now in
     let first = c.as_slice.result.now in
-    on_err c.write_all-2.result
+    on_err_weaker c.write_all-2.result
     (λ failed.
     let (done, rest, split, more) = failed in (
       first ++ done,
