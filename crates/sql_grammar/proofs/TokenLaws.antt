@@ -1,5 +1,5 @@
 -- Texts that are put together have the tokens of their parts.
-use Rattle.std.proofs.Common.{◌≡◌, ℕ, ◌+◌, ◌-◌, ◌*◌, ◌%◌, ◌^◌, ◌<◌, List, [], ◌∷◌, ◌++◌, length, Option, Some, None, Bool, true, false, nat_eq, ◌&&◌, get_or, refl, sym, ap, ◌∙◌, arith}
+use Rattle.std.proofs.Common.{◌≡◌, ℕ, ◌+◌, ◌-◌, ◌*◌, ◌%◌, ◌^◌, ◌<◌, ◌≤◌, List, [], ◌∷◌, ◌++◌, length, Option, Some, None, Bool, true, false, nat_eq, ◌&&◌, get_or, refl, sym, ap, ◌∙◌, arith}
 use Rattle.std.proofs.lemmas.List.{append_assoc, append-nil, length-append}
 use Rattle.std.proofs.lemmas.Fmt.{decimal_by_steps, first_decimal}
 use Rattle.std.proofs.lemmas.Bool.{eqb-true}
@@ -364,18 +364,18 @@ decimal-numeral n h = decimal_by_steps Numeral
     ))
     n h
 
-place-first : (ds : List ℕ) → 48 < get_or ds 0 0 → spell.value_of ds < 4294967296 → is_placeholder_number ds ≡ true
+place-first : (ds : List ℕ) → 48 < get_or ds 0 0 → spell.value_of ds ≤ 4294967295 → is_placeholder_number ds ≡ true
 unfolding spell.is_placeholder_number
 place-first [] first small = absurd (omega (arith, first))
 place-first (c ∷ cs) first small = grind (arith, nat_tests)
 
-is_placeholder_number-decimal : (n : ℕ) → 0 < n → n < 4294967296 → is_placeholder_number (decimal n) ≡ true
+is_placeholder_number-decimal : (n : ℕ) → 0 < n → n ≤ 4294967295 → is_placeholder_number (decimal n) ≡ true
 is_placeholder_number-decimal n low high =
     let e = decimal-numeral n (omega arith) in
     let v = e.1 in
     place-first (decimal n) (first_decimal n low (omega arith)) (omega (arith, v))
 
-place-digits : (d : Dialect) (n : ℕ) (rest : List ℕ) (ts : List Token) → 0 < n → n < 4294967296
+place-digits : (d : Dialect) (n : ℕ) (rest : List ℕ) (ts : List Token) → 0 < n → n ≤ 4294967295
     → Stops d (InPlaceholder (decimal n)) rest → Has d rest ts
     → tokens_from d (InPlaceholder (decimal n)) rest ≡ Some (Mark (Some n) ∷ ts)
 place-digits d n rest ts low h stop g =
@@ -383,14 +383,14 @@ place-digits d n rest ts low h stop g =
     place-ends d (decimal n) rest ts (is_placeholder_number-decimal n low h) stop g
     ∙ ap (λ v. Some (Mark (Some v) ∷ ts)) e.1
 
-pub mark-digits : (n : ℕ) (rest : List ℕ) (ts : List Token) → 0 < n → n < 4294967296
+pub mark-digits : (n : ℕ) (rest : List ℕ) (ts : List Token) → 0 < n → n ≤ 4294967295
     → Stops Pg (InPlaceholder (decimal n)) rest → Has Pg rest ts
     → Has Pg (36 ∷ (decimal n ++ rest)) (Mark (Some n) ∷ ts)
 mark-digits n rest ts low h stop g =
     let e = decimal-numeral n (omega arith) in
     dollar-run (decimal n) rest e.0 e.2 ∙ place-digits Pg n rest ts low h stop g
 
-pub at-digits : (n : ℕ) (rest : List ℕ) (ts : List Token) → 0 < n → n < 4294967296
+pub at-digits : (n : ℕ) (rest : List ℕ) (ts : List Token) → 0 < n → n ≤ 4294967295
     → Stops Bracket (InPlaceholder (decimal n)) rest → Has Bracket rest ts
     → Has Bracket (64 ∷ 112 ∷ (decimal n ++ rest)) (Mark (Some n) ∷ ts)
 at-digits n rest ts low h stop g =

@@ -1,9 +1,10 @@
 -- Which productions a dialect has, and what else a production asks of its parts: how many names a path has, which number a
 -- placeholder has. What a tree's tokens are is said without it, in Grammar.
-use Rattle.std.specs.Prelude.{◌≡◌, ℕ, ◌<◌, List, [], ◌∷◌, length, Option, Some, None, Bool, true, false}
+use Rattle.std.specs.Prelude.{◌≡◌, ℕ, ◌<◌, ◌≤◌, List, [], ◌∷◌, length, Option, Some, None, Bool, true, false}
 use Rattle.std.specs.Fmt.{decimal}
 use Rattle.sql_dialect.specs.declared.backend.Dialect.{Dialect}
 use Rattle.sql_dialect.specs.declared.backend.Dialect.TheVariants.{Pg, Mysql, Sqlite, Bracket}
+use Rattle.sql_dialect.specs.Written.{MAX_BINDS}
 use Rattle.sql_grammar.specs.MarkTree.{Mark, Name, SetOperator, Union, Intersect, Except, LockMode, ForUpdate, ForNoKeyUpdate, ForShare, ForKeyShare, Lock, Unlocked, Locks, Sample, Whole, Sampled, Page, PageBy, FetchBy, Places, OnlyPlace, MorePlace, MaybePlaces, NoPlaces, SomePlaces, Expression, Path, Placeholder, SingleValue, Exists, Compared, Connected, Not, NullTest, CountAll, Count, InList, InQuery, Constant, Expressions, OnlyExpression, MoreExpression, Items, OnlyItem, MoreItem, Source, Table, Alias, Join, MaybeExpression, NoExpression, SomeExpression, MaybeExpressions, NoExpressions, SomeExpressions, MaybeItems, NoItems, SomeItems, MaybeSource, NoSource, SomeSource, Distinctness, Every, Distinct, DistinctOn, Query, Select, Combined}
 
 -- ## Which dialect
@@ -41,16 +42,16 @@ HasLocks Bracket = ⊥
 
 -- ## Placeholders
 
--- A placeholder has a number on Pg and Bracket, from 1 to 4294967295.
+-- A placeholder has a number on Pg and Bracket, from 1 to the greatest that a dialect has.
 abbrev pub FitsMark : Dialect → Mark → Type 0
 FitsMark Pg None = ⊥
-FitsMark Pg (Some n) = (0 < n) × (n < 4294967296)
+FitsMark Pg (Some n) = (0 < n) × (n ≤ MAX_BINDS)
 FitsMark Mysql None = Unit {0}
 FitsMark Mysql (Some n) = ⊥
 FitsMark Sqlite None = Unit {0}
 FitsMark Sqlite (Some n) = ⊥
 FitsMark Bracket None = ⊥
-FitsMark Bracket (Some n) = (0 < n) × (n < 4294967296)
+FitsMark Bracket (Some n) = (0 < n) × (n ≤ MAX_BINDS)
 
 abbrev pub FitsMarks : Dialect → List Mark → Type 0
 FitsMarks d [] = Unit {0}

@@ -2,6 +2,7 @@
 use Rattle.std.specs.Prelude.{ℕ, ◌+◌, ◌*◌, ◌-◌, List, [], ◌∷◌, ◌++◌, Bool, true, false, nat_eq, nat_lt, nat_le, ◌&&◌, ◌||◌, if◌then◌else◌, codes}
 use Rattle.sql_dialect.specs.declared.backend.Dialect.{Dialect}
 use Rattle.sql_dialect.specs.declared.backend.Dialect.TheVariants.{Pg, Mysql, Sqlite, Bracket}
+use Rattle.sql_dialect.specs.Written.{MAX_BINDS}
 use Rattle.sql_grammar.specs.Token.{Keyword, SELECT, DISTINCT, ON, FROM, WHERE, GROUP, BY, HAVING, ORDER, ASC, DESC, LIMIT, OFFSET, FOR, UPDATE, SHARE, NO, KEY, SKIP, LOCKED, NOWAIT, UNION, INTERSECT, EXCEPT, ALL, AS, ONLY, TABLESAMPLE, BERNOULLI, SYSTEM, REPEATABLE, INNER, LEFT, OUTER, JOIN, EXISTS, AND, OR, NOT, IS, NULL, COUNT, ANY, IN, ROWS, FETCH, NEXT, Comparison, Equal, NotEqual, Less, LessOrEqual, Greater, GreaterOrEqual, Token, Word, Unknown}
 
 -- ## Words
@@ -102,10 +103,10 @@ value_after n (c ∷ cs) = value_after (10 * n + (c - 48)) cs
 abbrev pub value_of : List ℕ → ℕ
 value_of digits = value_after 0 digits
 
--- Digits number a placeholder where the first isn't `0` and the number is at most 4294967295.
+-- Digits number a placeholder where the first isn't `0` and the number is at most MAX_BINDS.
 unfoldable pub is_placeholder_number : List ℕ → Bool
 is_placeholder_number [] = false
-is_placeholder_number (c ∷ cs) = nat_lt 48 c && nat_lt (value_of (c ∷ cs)) 4294967296
+is_placeholder_number (c ∷ cs) = nat_lt 48 c && nat_le (value_of (c ∷ cs)) MAX_BINDS
 
 -- ## Signs
 

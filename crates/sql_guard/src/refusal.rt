@@ -4,9 +4,10 @@
 ghost use Rattle.std.specs.Prelude.{◌≡◌, IfOk, map};
 ghost use Rattle.std.specs.Bool.{Decides};
 ghost use Rattle.std.specs.List.{list_any};
+ghost use Rattle.sql_schema.specs.Equality.{same_column};
 ghost use Rattle.sql_node.specs.View.{expr_tree, from_clause_tree, join_on_tree, source_tree};
 ghost use Rattle.sql_source.specs.Borrowed.{origin_of};
-ghost use Rattle.sql_source.specs.Origins.{a_table, column_origin, same_column};
+ghost use Rattle.sql_source.specs.Origins.{a_table, column_origin};
 ghost use Rattle.sql_rules.specs.Lists.{AnyOf};
 ghost use Rattle.sql_rules.specs.Rules.{FromLacksOn, IsBool, IsColumn, LacksOn};
 ghost use Rattle.sql_rules.specs.Scope.{a_select, nodes as nodes_in};

@@ -5,10 +5,11 @@ use Rattle.std.specs.Str.{bytes_eq}
 use Rattle.std.proofs.lemmas.Bool.{true≢false, false≢true}
 use Rattle.std.proofs.lemmas.Bool.Decides.{Decides-and, Decides-or, Decides-not}
 use Rattle.std.proofs.lemmas.Slice.Eq.{bytes_eq-Decides}
+use Rattle.sql_schema.specs.Equality.{same_table}
 use Rattle.sql_schema.specs.declared.declaration.TableDecl.{TableDecl}
 use Rattle.sql_node.specs.Tree.{Origin}
 use Rattle.sql_source.proofs.OriginLaws.{origin-decides, table-decides}
-use Rattle.sql_source.specs.Origins.{same_table, same_origin, table_path, path_under, exposed_path}
+use Rattle.sql_source.specs.Origins.{same_origin, table_path, path_under, exposed_path}
 use Rattle.sql_rules.specs.Lists.{IsSuffix}
 use Rattle.sql_schema.specs.Declarations.{Declarations}
 use Rattle.sql_schema.specs.Together.{may_stand_together}

@@ -4,6 +4,7 @@ use Rattle.std.specs.Bool.{Decides, one_answer}
 use Rattle.std.specs.List.{list_any}
 use Rattle.std.proofs.lemmas.Bool.{false≢true, false_from_ne_true}
 use Rattle.std.proofs.lemmas.List.Folds.{list_any-append}
+use Rattle.sql_schema.specs.Equality.{same_column}
 use Rattle.sql_schema.specs.Declarations.{Declarations}
 use Rattle.sql_schema.specs.Refusals.{any_two, tables_clash}
 use Rattle.sql_schema.specs.declared.declaration.TableDecl.{TableDecl}
@@ -12,7 +13,7 @@ use Rattle.sql_rose.specs.Rose.{Rose, node, Roses, none, more}
 use Rattle.sql_loops.specs.Folds.{gathered, sites, sites_of}
 use Rattle.sql_node.specs.Tree.{Origin, Statement}
 use Rattle.sql_source.proofs.OriginLaws.{origin-decides}
-use Rattle.sql_source.specs.Origins.{same_column, same_origin}
+use Rattle.sql_source.specs.Origins.{same_origin}
 use Rattle.sql_rules.specs.Lists.{Each}
 use Rattle.sql_rules.specs.Rules.{Broken, IsTable}
 use Rattle.sql_rules.specs.Scope.{View}

@@ -4,11 +4,11 @@ use Rattle.std.specs.Bool.{Decides}
 use Rattle.std.specs.List.{list_any}
 use Rattle.std.proofs.lemmas.Bool.{false≢true}
 use Rattle.std.proofs.lemmas.Bool.Decides.{Decides-and, Decides-not}
+use Rattle.sql_schema.specs.Equality.{same_column}
 use Rattle.sql_schema.specs.Declarations.{Declarations}
 use Rattle.sql_dialect.specs.declared.backend.Dialect.{Dialect}
 use Rattle.sql_rose.specs.Rose.{Roses}
 use Rattle.sql_node.specs.Tree.{Origin, Expr, column, Source, of_table, of_alias, join, From, no_source, from, Statement}
-use Rattle.sql_source.specs.Origins.{same_column}
 use Rattle.sql_rules.specs.Lists.{AnyOf}
 use Rattle.sql_rules.specs.Rules.{Broken, IsColumn, IsTable, IsUnknownColumn, PartBreaks}
 use Rattle.sql_rules.specs.Scope.{View, Part, a_select, a_combination, origins, origins_of, parts}

@@ -3,8 +3,8 @@
 
 ghost use Rattle.std.specs.Prelude.{◌≡◌, false};
 ghost use Rattle.std.specs.Bool.{Decides};
+ghost use Rattle.sql_schema.specs.Equality.{same_table};
 ghost use Rattle.sql_schema.specs.Refusals.{any_two, tables_clash};
-ghost use Rattle.sql_source.specs.Origins.{same_table};
 ghost use Rattle.sql_rules.specs.Rules.{IsColumn, IsTable};
 
 use sql_schema::{Column, Schema, Table};

@@ -3,6 +3,7 @@
 use Rattle.std.proofs.Common.{◌≡◌, Bool, false, true, List, [], ◌∷◌, ◌++◌, map, Option, Some, refl, sym, ap, ◌∙◌, inl, inr, subst, not}
 use Rattle.std.specs.Cmp.Lexicographic.{pointwise}
 use Rattle.std.specs.Option.{option_eq}
+use Rattle.sql_schema.specs.Equality.{same_type}
 use Rattle.sql_schema.specs.Declarations.{Declarations}
 use Rattle.sql_schema.specs.declared.types.SqlType.{SqlType}
 use Rattle.sql_schema.proofs.Exact.{exact-list, exact-option}
@@ -17,7 +18,7 @@ use Rattle.sql_source.specs.Leaves.{Leaf}
 use Rattle.sql_rules.specs.Lists.{AnyOf, Each}
 use Rattle.sql_rules.specs.Rules.{Accepted, bare, bare_of}
 use Rattle.sql_rules.specs.Scope.{View, Select, parts, in_expr, in_exprs, in_distinct, in_maybe, in_from, in_order, nodes, nodes_of, leaves_of, origins_of, widest}
-use Rattle.sql_rules.specs.Types.{given, given_each, element_types, only_type, columns, compared_type, joined_type, not_type, if_typed, among_type, as_nullable, single_type, bool_type, same_type}
+use Rattle.sql_rules.specs.Types.{given, given_each, element_types, only_type, columns, compared_type, joined_type, not_type, if_typed, among_type, as_nullable, single_type, bool_type}
 use Rattle.sql_rules.specs.declared.rule.Rule.TheVariants as R
 use Rattle.sql_rules.proofs.Lists.{any_left, any_right}
 use Rattle.sql_rules.proofs.SameTypes.{types-differ}

@@ -4,6 +4,7 @@ use Rattle.std.proofs.Common.{◌≡◌, suc, Bool, true, false, List, [], ◌�
 use Rattle.std.specs.List.{AllZip}
 use Rattle.std.proofs.lemmas.Bool.{true≢false}
 use Rattle.std.proofs.lemmas.Bool.Decides.{Decides-ltb}
+use Rattle.sql_schema.specs.Equality.{same_column}
 use Rattle.sql_schema.specs.Declarations.{Declarations}
 use Rattle.sql_schema.specs.declared.declaration.ColumnDecl.{ColumnDecl}
 use Rattle.sql_schema.specs.declared.declaration.TableDecl.{TableDecl}
@@ -13,7 +14,7 @@ use Rattle.sql_leaf.specs.declared.table_source.JoinKind.{JoinKind}
 use Rattle.sql_leaf.specs.declared.table_source.JoinKind.TheVariants.{Inner, LeftOuter}
 use Rattle.sql_node.specs.Tree.{Origin, Source, of_table, of_alias, join, From, no_source, from}
 use Rattle.sql_source.specs.Leaves.{Leaf, leaves, in_right_side, is_padded}
-use Rattle.sql_source.specs.Origins.{a_table, an_alias, same_column, same_origin}
+use Rattle.sql_source.specs.Origins.{a_table, an_alias, same_origin}
 use Rattle.sql_rules.specs.Lists.{AnyOf, Each}
 use Rattle.sql_rules.specs.Rules.{IsTable, IsColumn, IsSeen}
 use Rattle.sql_rules.specs.Scope.{leaves_of}

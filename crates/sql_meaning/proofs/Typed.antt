@@ -1,10 +1,11 @@
 -- What the type of an expression says of its operands' types.
 use Rattle.std.proofs.Common.{◌≡◌, Bool, true, false, ◌&&◌, ◌||◌, List, [], ◌∷◌, ◌++◌, map, Option, Some, None, refl, sym, ap, subst, if◌then◌else◌}
+use Rattle.sql_schema.specs.Equality.{same_type}
 use Rattle.sql_schema.specs.declared.types.Base.TheVariants as base
 use Rattle.sql_schema.specs.declared.types.SqlType.{SqlType}
 use Rattle.sql_schema.proofs.ExactTypes.{exact-base, exact-type}
 use Rattle.sql_pass.specs.declared.value.Value.{Value}
-use Rattle.sql_rules.specs.Types.{Given, one, many, same_type, is_bool, all_fit, only_type, element_types, bool_type, as_nullable, not_type, if_typed, compared_type, joined_type, single_type, among_type}
+use Rattle.sql_rules.specs.Types.{Given, one, many, is_bool, all_fit, only_type, element_types, bool_type, as_nullable, not_type, if_typed, compared_type, joined_type, single_type, among_type}
 use Rattle.sql_meaning.proofs.Facts.{nulled, truth}
 
 pub some_same : {A : Type 0} (a b : A) → Some a ≡ Some b → a ≡ b

@@ -1,6 +1,7 @@
 -- An example. The users (1, 'a') and (2, 'b'), the post (5, 1, 't'), and the statement
 -- `SELECT users.id, posts.title FROM users LEFT OUTER JOIN posts ON posts.user_id = users.id`, its title under nullable.
 use Rattle.std.specs.Prelude.{◌≡◌, ℕ, pos, false, List, [], ◌∷◌, None, if◌then◌else◌, codes, ◌⊎◌, ◌↔◌}
+use Rattle.sql_schema.specs.Equality.{same_table}
 use Rattle.sql_schema.specs.Declarations.{Declarations}
 use Rattle.sql_schema.specs.declared.declaration.ColumnDecl.{ColumnDecl}
 use Rattle.sql_schema.specs.declared.declaration.TableDecl.{TableDecl}
@@ -12,7 +13,7 @@ use Rattle.sql_leaf.specs.Marking.{unmarked}
 use Rattle.sql_leaf.specs.declared.table_source.JoinKind.TheVariants.{LeftOuter}
 use Rattle.sql_node.specs.Tree.{unboxed, Expr, column, list, nullable, compared, no_exprs, more_exprs, no_expr, an_expr, of_table, join, from, every, no_order, Statement, select}
 use Rattle.sql_node.specs.Words.{Eq}
-use Rattle.sql_source.specs.Origins.{a_table, same_table}
+use Rattle.sql_source.specs.Origins.{a_table}
 use Rattle.sql_meaning.specs.Answers.{Answers}
 use Rattle.sql_meaning.specs.Frames.{Database}
 use Rattle.sql_meaning.specs.Rows.{Row}

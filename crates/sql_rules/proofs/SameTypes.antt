@@ -5,11 +5,11 @@ use Rattle.std.specs.Cmp.Lexicographic.{pointwise}
 use Rattle.std.specs.Option.{option_eq}
 use Rattle.std.proofs.lemmas.Bool.Decides.{Decides-at, Decides-not}
 use Rattle.std.proofs.lemmas.Slice.Eq.{slice_eq-Decides}
+use Rattle.sql_schema.specs.Equality.{same_type}
 use Rattle.sql_schema.proofs.Exact.{exact-option}
 use Rattle.sql_schema.proofs.ExactTypes.{exact-type}
 use Rattle.sql_schema.specs.contracts.types.SqlTypeEq.TheImpl.Laws.{laws-law}
 use Rattle.sql_schema.specs.declared.types.SqlType.{SqlType}
-use Rattle.sql_rules.specs.Types.{same_type}
 
 itself : (t : Option SqlType) → option_eq same_type t t ≡ true
 itself None = refl

@@ -3,11 +3,12 @@ use Rattle.std.proofs.Common.{◌≡◌, Bool, ◌&&◌, List, [], ◌∷◌, in
 use Rattle.std.specs.Bool.{Decides}
 use Rattle.std.specs.List.{list_any}
 use Rattle.std.proofs.lemmas.Bool.Decides.{Decides-at, Decides-and, Decides-like}
+use Rattle.sql_schema.specs.Equality.{same_table, same_column}
 use Rattle.sql_schema.specs.declared.declaration.ColumnDecl.{ColumnDecl}
 use Rattle.sql_schema.specs.declared.declaration.TableDecl.{TableDecl}
 use Rattle.sql_node.specs.Tree.{Origin}
 use Rattle.sql_source.proofs.OriginLaws.{table-decides, origin-decides, column-decides}
-use Rattle.sql_source.specs.Origins.{same_table, same_column, same_origin}
+use Rattle.sql_source.specs.Origins.{same_origin}
 use Rattle.sql_rules.specs.Lists.{AnyOf}
 use Rattle.sql_rules.proofs.Loops.{any-decides}
 

@@ -2,16 +2,13 @@
 -- (PostgreSQL, Value Expressions; Comparison Functions and Operators; Logical Operators; diesel, `Expression::SqlType`).
 use Rattle.std.specs.Prelude.{List, [], ◌∷◌, ◌++◌, map, Option, None, Some, Bool, true, false, ◌&&◌, ◌||◌, if◌then◌else◌}
 use Rattle.std.specs.List.{list_all}
+use Rattle.sql_schema.specs.Equality.{same_type}
 use Rattle.sql_schema.specs.Refusals.{same_base}
 use Rattle.sql_schema.specs.declared.types.Base.TheVariants as base
 use Rattle.sql_schema.specs.declared.types.SqlType.{SqlType}
-use Rattle.sql_schema.specs.contracts.types.SqlTypePartialEq.TheImpl as type_eq
 use Rattle.sql_pass.specs.declared.value.Value.{Value}
 use Rattle.sql_pass.specs.declared.value.Value.TheVariants as V
 use Rattle.sql_node.specs.Tree.{Form, unboxed, boxed, Expr, column, value, list, count_star, nullable, not_of, null_test, count, compared, joined, exists, single, among_values, among_rows, Exprs, no_exprs, more_exprs, Statement, select, combination}
-
-abbrev pub same_type : SqlType → SqlType → Bool
-same_type = (type_eq.ghosts).eq
 
 abbrev pub is_bool : SqlType → Bool
 is_bool t = same_base t.base base.Bool

@@ -1,6 +1,7 @@
 -- Joins, and the ON that a declared relation gives them (PostgreSQL, SELECT, FROM Clause; diesel, `joinable!`, `JoinTo`).
 use Rattle.std.specs.Prelude.{ℕ, List, Bool, false, ◌&&◌, Option, None, Some, option_map, if◌then◌else◌}
 use Rattle.std.specs.Str.{bytes_eq}
+use Rattle.sql_schema.specs.Equality.{same_table}
 use Rattle.sql_schema.specs.Columns.{DeclaredColumn, column_in, column_of, table_named}
 use Rattle.sql_schema.specs.Declarations.{Declarations}
 use Rattle.sql_schema.specs.Refusals.{single_column}
@@ -14,7 +15,7 @@ use Rattle.sql_node.specs.Tree.{Origin, Expr, nullable, compared, Source, of_tab
 use Rattle.sql_node.specs.View.{Sides, maybe_of}
 use Rattle.sql_expr.specs.Joining.{Side}
 use Rattle.sql_source.specs.Leaves.{leaves, leftmost}
-use Rattle.sql_source.specs.Origins.{column_under, same_table}
+use Rattle.sql_source.specs.Origins.{column_under}
 
 -- the same source with each join an inner one
 abbrev pub all_inner : Source → Source

@@ -3,8 +3,7 @@ use Rattle.std.specs.Prelude.{ℕ, List, [], ◌∷◌, Bool, ◌&&◌, Option, 
 use Rattle.std.specs.Option.{option_eq}
 use Rattle.std.specs.Str.{bytes_eq}
 use Rattle.sql_schema.specs.Columns.{DeclaredColumn}
-use Rattle.sql_schema.specs.contracts.declaration.ColumnDeclPartialEq.TheImpl as column_eq
-use Rattle.sql_schema.specs.contracts.declaration.TableDeclPartialEq.TheImpl as table_eq
+use Rattle.sql_schema.specs.Equality.{same_table}
 use Rattle.sql_schema.specs.declared.declaration.ColumnDecl.{ColumnDecl}
 use Rattle.sql_schema.specs.declared.declaration.TableDecl.{TableDecl}
 use Rattle.sql_leaf.specs.declared.alias.AliasedField.{AliasedField}
@@ -26,13 +25,6 @@ field_origin f = an_alias f.alias f.column.table
 -- a column of a table, or under its alias
 abbrev pub column_under : Option (List ℕ) → DeclaredColumn → Expr
 column_under alias c = column (record { alias = alias; table = c.table }) c.decl
-
--- whether two declarations are one
-abbrev pub same_table : TableDecl → TableDecl → Bool
-same_table = (table_eq.ghosts).eq
-
-abbrev pub same_column : ColumnDecl → ColumnDecl → Bool
-same_column = (column_eq.ghosts).eq
 
 abbrev pub same_origin : Origin → Origin → Bool
 same_origin a b = option_eq bytes_eq a.alias b.alias && same_table a.table b.table

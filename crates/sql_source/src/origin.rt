@@ -1,9 +1,10 @@
 #![tactic(auto, using(sql_node::proofs::Trees::opens_expr))]
 
 ghost use Rattle.std.specs.Prelude.{◌≡◌, IfOk};
+ghost use Rattle.sql_schema.specs.Equality.{same_table as one_table};
 ghost use Rattle.sql_node.specs.View.{expr_tree};
 ghost use Rattle.sql_source.specs.Borrowed.{origin_of};
-ghost use Rattle.sql_source.specs.Origins.{a_table, an_alias, column_under, field_origin, same_origin, same_table as one_table};
+ghost use Rattle.sql_source.specs.Origins.{a_table, an_alias, column_under, field_origin, same_origin};
 
 use sql_leaf::{Alias, AliasedField};
 use sql_node::Expr;

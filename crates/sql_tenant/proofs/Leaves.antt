@@ -1,6 +1,7 @@
 -- Which leaf's row a predicate reads.
 use Rattle.std.proofs.Common.{◌≡◌, Bool, true, false, ◌&&◌, ◌||◌, List, [], ◌∷◌, ◌++◌, map, None, refl, sym, ap, ap₂, ◌∙◌, subst, inl, inr, ◌⊎◌, arith, if◌then◌else◌}
 use Rattle.std.proofs.lemmas.List.{map-append}
+use Rattle.sql_schema.specs.Equality.{same_table}
 use Rattle.sql_schema.specs.declared.declaration.TableDecl.{TableDecl}
 use Rattle.sql_pass.specs.declared.value.Value.{Value}
 use Rattle.sql_pass.specs.declared.value.Value.TheVariants as V
@@ -9,8 +10,9 @@ use Rattle.sql_leaf.specs.declared.table_source.JoinKind.TheVariants.{Inner, Lef
 use Rattle.sql_node.specs.Tree.{Origin, Expr, joined, MaybeExpr, no_expr, an_expr, Source, of_table, of_alias, join}
 use Rattle.sql_node.specs.Words.{And}
 use Rattle.sql_source.specs.Leaves.{Leaf, leaves, in_right_side}
-use Rattle.sql_source.specs.Origins.{a_table, an_alias, same_table, same_origin}
-use Rattle.sql_source.proofs.OriginLaws.{exact-table, same-origin_itself}
+use Rattle.sql_source.specs.Origins.{a_table, an_alias, same_origin}
+use Rattle.sql_schema.proofs.EqualityLaws.{exact-table}
+use Rattle.sql_source.proofs.OriginLaws.{same-origin_itself}
 use Rattle.sql_rules.specs.Lists.{Each}
 use Rattle.sql_rules.specs.Scope.{nodes}
 use Rattle.sql_rules.specs.Types.{bool_type, joined_type}

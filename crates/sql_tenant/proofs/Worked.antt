@@ -3,14 +3,15 @@ use Rattle.std.proofs.Common.{◌≡◌, ℕ, pos, Bool, true, false, List, [], 
 use Rattle.std.specs.List.{AllZip}
 use Rattle.std.proofs.lemmas.Bool.{true≢false, false_from_ne_true}
 use Rattle.std.proofs.lemmas.List.Sorted.{IsPermutation-refl, IsPermutation-keeps}
+use Rattle.sql_schema.specs.Equality.{same_table}
 use Rattle.sql_dialect.specs.declared.backend.Dialect.TheVariants.{Pg}
 use Rattle.sql_pass.specs.declared.value.Value.{Value}
 use Rattle.sql_pass.specs.declared.value.Value.TheVariants as V
 use Rattle.sql_leaf.specs.declared.table_source.JoinKind.TheVariants.{LeftOuter}
 use Rattle.sql_node.specs.Tree.{an_expr}
 use Rattle.sql_node.specs.Words.{Eq}
-use Rattle.sql_source.specs.Origins.{a_table, same_table}
-use Rattle.sql_source.proofs.OriginLaws.{exact-table}
+use Rattle.sql_source.specs.Origins.{a_table}
+use Rattle.sql_schema.proofs.EqualityLaws.{exact-table}
 use Rattle.sql_rules.specs.Lists.{AnyOf, Each}
 use Rattle.sql_rules.specs.Scope.{parts}
 use Rattle.sql_meaning.specs.Answers.{Gives, Holds, Answers, Line, no_rows, a_row}

@@ -1,13 +1,14 @@
 -- A statement restricted to the rows of a table for which a predicate is true: the predicate stands beside each leaf of that table
 -- (PostgreSQL, Row Security Policies: a policy's expression is one more condition on the rows of its table).
 use Rattle.std.specs.Prelude.{ℕ, List, [], ◌∷◌, ◌++◌, map, Option, None, Some, if◌then◌else◌}
+use Rattle.sql_schema.specs.Equality.{same_table}
 use Rattle.sql_schema.specs.declared.declaration.TableDecl.{TableDecl}
 use Rattle.sql_leaf.specs.declared.table_source.JoinKind.{JoinKind}
 use Rattle.sql_leaf.specs.declared.table_source.JoinKind.TheVariants.{Inner, LeftOuter}
 use Rattle.sql_node.specs.Tree.{Origin, Expr, joined, MaybeExpr, no_expr, an_expr, Source, of_table, of_alias, join, From, no_source, from, Statement, select, combination}
 use Rattle.sql_node.specs.Words.{And}
 use Rattle.sql_source.specs.Fields.{fields_in}
-use Rattle.sql_source.specs.Origins.{a_table, an_alias, same_table}
+use Rattle.sql_source.specs.Origins.{a_table, an_alias}
 
 -- the predicate on the rows of the table, or of an alias of it, whose fields stand in place of the table's columns
 abbrev pub predicate_under : Expr → Option (List ℕ) → TableDecl → Expr

@@ -1,11 +1,12 @@
 -- Tests of two leaves: whether the one can be named as the other, and whether their tables may stand in one statement.
 use Rattle.std.specs.Prelude.{ℕ, List, Bool, false, not, ◌&&◌, ◌||◌, Option, None, Some}
 use Rattle.std.specs.Str.{bytes_eq}
+use Rattle.sql_schema.specs.Equality.{same_table}
 use Rattle.sql_schema.specs.Declarations.{Declarations}
 use Rattle.sql_schema.specs.Together.{may_stand_together}
 use Rattle.sql_schema.specs.declared.declaration.TableDecl.{TableDecl}
 use Rattle.sql_node.specs.Tree.{Origin}
-use Rattle.sql_source.specs.Origins.{same_origin, same_table}
+use Rattle.sql_source.specs.Origins.{same_origin}
 
 -- whether a path of one name or two is the end of another
 abbrev pub path_ends : Option (List ℕ) → List ℕ → Option (List ℕ) → List ℕ → Bool

@@ -1,11 +1,12 @@
 -- Tests of nodes, by what is known around them and within them.
 use Rattle.std.specs.Prelude.{Bool, true, false, not, ◌||◌, ◌&&◌, [], ◌∷◌}
 use Rattle.std.specs.List.{list_any}
+use Rattle.sql_schema.specs.Equality.{same_column, same_table}
 use Rattle.sql_schema.specs.Declarations.{Declarations}
 use Rattle.sql_schema.specs.declared.declaration.TableDecl.{TableDecl}
 use Rattle.sql_loops.specs.Folds.{Site}
 use Rattle.sql_node.specs.Tree.{Origin}
-use Rattle.sql_source.specs.Origins.{same_column, same_origin, same_table}
+use Rattle.sql_source.specs.Origins.{same_origin}
 use Rattle.sql_rules.specs.Scope.{View}
 use Rattle.sql_flat.specs.declared.kind.FlatKind.{FlatKind}
 use Rattle.sql_flat.specs.declared.kind.FlatKind.TheVariants as K

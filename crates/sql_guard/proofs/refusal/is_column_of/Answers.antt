@@ -1,6 +1,6 @@
 use Rattle.std.proofs.Common.{ap, ◌∙◌}
 use Rattle.std.specs.List.{list_any}
-use Rattle.sql_source.specs.Origins.{same_column}
+use Rattle.sql_schema.specs.Equality.{same_column}
 use Rattle.sql_rules.proofs.Tests.{column-any-test}
 use Rattle.sql_guard.proofs.refusal.is_column_of.Goals as goal
 
