@@ -1,11 +1,11 @@
 #!/bin/sh
 # Checks that the pages are true where a program can tell: the files that they name, the clauses and the code that they show, the commands
-# with their output, the queries of docs/RULES.md, how many must-fail edits there are. Needs python3 and the built program. Ends with
-# 'N passed, M failed'.
+# with their output, the queries of docs/RULES.md, how many must-fail edits there are, what docs/TRUST.md counts. Needs python3 and the
+# built program. Ends with 'N passed, M failed'.
 command -v python3 >/dev/null || { echo "skipped: no python3"; exit 0; }
 top=$(cd "$(dirname "$0")/.." && pwd) || exit 1
 [ -x "$top/crates/sql_tool/out/sql_tool" ] || { echo "the program is not built: run ./sql_tool build < examples/filter.json first"; exit 1; }
-export PYTHONUTF8=1
+export PYTHONUTF8=1 PYTHONDONTWRITEBYTECODE=1
 exec python3 - "$top" <<'END'
 import json, pathlib, re, subprocess, sys
 
@@ -100,6 +100,12 @@ expect(rules, "a query that breaks each rule but the last, and one that mends it
 edits = len(list(top.glob("crates/*/must-fail/*.edit")))
 for page, pattern in ((top / "CONTRIBUTING.md", r"so there are (\d+), those"), (top / "docs/DECISIONS.md", r"There are\s+(\d+)\. The wrong bodies")):
     expect(page, f"there are {edits} must-fail edits", [int(each) for each in re.findall(pattern, page.read_text())] == [edits])
+sys.path.insert(0, str(top / "tests"))
+import trust
+
+faults = list(trust.faults())
+for fault in faults or [""]:
+    expect(trust.PAGE, fault, not fault)
 for crate in CRATES:
     expect(top / "docs/ARCHITECTURE.md", f"nothing of {crate}", f"`{crate}`" in (top / "docs/ARCHITECTURE.md").read_text())
 print(f"{passed} passed, {failed} failed")
