@@ -78,6 +78,19 @@ line = subprocess.run([top / "sql_tool", "build"], input=(top / "examples/filter
 folded = "".join(each.lstrip() for each in fences(top / "README.md", "json")[0].split("\n"))
 expect(top / "README.md", f"examples/filter.json gives {line}", folded == line.rstrip("\n"))
 
+# ---- grants: SQL names, quoted, and a table whose rows are only counted
+
+sys.path[:0] = [str(top / "examples"), str(top / "tests")]
+import grants, trust
+
+declared = {"tables": [
+    {"name": "t", "sql_name": 'a"b.c', "schema": "s d", "columns": [{"name": "x", "sql_name": 'y"; --'}, {"name": "z"}]},
+    {"name": "u", "primary_key": ["k"], "columns": [{"name": "k", "sql_name": "K"}, {"name": "l"}]},
+    {"name": "v", "columns": [{"name": "id"}]}]}
+written = grants.grants(declared, [{"tables": ["t", "u"], "columns": [["t", "x"]]}, {"tables": ["t"], "columns": []}], 'r"o')
+expect(top / "docs/AUDIT.md", f"grants {written}", written == [
+    'GRANT USAGE ON SCHEMA "s d" TO "r""o";', 'GRANT SELECT ("y""; --") ON "s d"."a""b.c" TO "r""o";', 'GRANT SELECT ("K") ON "u" TO "r""o";'])
+
 # ---- rules: each query that breaks one is refused by its name, and each that mends it is not
 
 rules = top / "docs/RULES.md"
@@ -100,9 +113,6 @@ expect(rules, "a query that breaks each rule but the last, and one that mends it
 edits = len(list(top.glob("crates/*/must-fail/*.edit")))
 for page, pattern in ((top / "CONTRIBUTING.md", r"so there are (\d+), those"), (top / "docs/DECISIONS.md", r"There are\s+(\d+)\. The wrong bodies")):
     expect(page, f"there are {edits} must-fail edits", [int(each) for each in re.findall(pattern, page.read_text())] == [edits])
-sys.path.insert(0, str(top / "tests"))
-import trust
-
 faults = list(trust.faults())
 for fault in faults or [""]:
     expect(trust.PAGE, fault, not fault)

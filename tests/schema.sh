@@ -3,8 +3,9 @@
 # and what is none is not, but for what a schema cannot refuse. Needs python3 and its module jsonschema. Ends with 'N passed, M failed'.
 #   tests/schema.sh [crates/sql_tool/out/sql_tool]
 # Given the program, it also checks that the program takes the small documents below, and refuses what is none.
-# With ROWS=DIR in the environment it also checks the files NAME.in.json of that folder. NAME.status has the status of `build`,
-# by default 0, and NAME.out its output. A file whose NAME.args has other words than `build` is passed over.
+# With ROWS=DIR in the environment it also checks the files NAME.in.json of that folder. NAME.args has the words of the command, by
+# default `build`, NAME.status its status, by default 0, and NAME.out its output. A file of another command than `build`, `guard` and
+# `audit D` is passed over.
 command -v python3 >/dev/null || { echo "skipped: no python3"; exit 0; }
 python3 -c 'from jsonschema import Draft202012Validator' 2>/dev/null || { echo "skipped: no jsonschema of draft 2020-12"; exit 0; }
 top=$(cd "$(dirname "$0")/.." && pwd) || exit 1
@@ -25,13 +26,15 @@ def schema_of(name):
 
 is_document, is_answer = schema_of("document.schema.json"), schema_of("answer.schema.json")
 is_reading = schema_of("reading.schema.json")
-# what `guard` reads and writes
+# what `guard` and `audit` read and write
 is_guarded, is_guarded_answer = (each.evolve(schema=each.schema["$defs"]["GUARDED"]) for each in (is_document, is_answer))
+is_audited, is_audited_answer = (each.evolve(schema=each.schema["$defs"]["AUDITED"]) for each in (is_document, is_answer))
 
 
 def parsed(text):
+    """Whether a text, or the bytes of a file, are JSON in UTF-8, and the value."""
     try:
-        return True, json.loads(text)
+        return True, json.loads(text.decode() if isinstance(text, bytes) else text)
     except ValueError:
         return False, None
 
@@ -369,6 +372,47 @@ NO_GUARDS = [
     ("a guard of no document", '{"requests":[],"guard":{"table":"t","predicate":"count_star"}}'),
 ]
 
+
+
+def audited(texts):
+    return f'{{"schema":{{"tables":{TABLES}}},"texts":{texts}}}'
+
+
+AUDITS = [
+    ("no texts", audited("[]")),
+    ("texts of no statement", audited('["","x","SELECT \\u0000"]')),
+    ("a text over no table", '{"schema":{"tables":[]},"texts":["SELECT $1"]}'),
+    ("an audit with a member more", audited('["SELECT $1"],"requests":null,"x":[{"y":18446744073709551615}]')),
+    ("an audit over relations", f'{{"schema":{{"tables":{TABLES},"joinable":[{{"child":"u","key":"t_id","parent":"t"}}]}},"texts":[]}}'),
+]
+NO_AUDITS = [
+    ("an audit that is no JSON", '{"schema":{"tables":[]},"texts":['),
+    ("an audit that is an array", '[{"schema":{"tables":[]},"texts":[]}]'),
+    ("an audit without a schema", '{"texts":[]}'),
+    ("an audit without texts", '{"schema":{"tables":[]}}'),
+    ("an audit of requests", request(f'{{"dialect":"Pg","query":{T}}}')),
+    ("texts that are null", audited("null")),
+    ("texts that are a text", audited('"SELECT $1"')),
+    ("texts that are an object", audited("{}")),
+    ("a text that is null", audited('["SELECT $1",null]')),
+    ("a text that is a number", audited("[1]")),
+    ("a text that is a list", audited('[["SELECT $1"]]')),
+    ("an audit whose schema is null", '{"schema":null,"texts":[]}'),
+    ("an audit whose schema has no tables", '{"schema":{},"texts":[]}'),
+    ("an audit over a table without columns", '{"schema":{"tables":[{"name":"a","columns":[]}]},"texts":[]}'),
+    ("a fraction in an ignored member of an audit", audited('[],"x":[1.5]')),
+    ("a number past 64 bits in an ignored member of an audit", audited('[],"x":18446744073709551616')),
+]
+# No audit, and valid, as of documents.
+AUDITS_NOT_FOR_A_SCHEMA = [
+    ("an audit over two tables of one name", '{"schema":{"tables":[{"name":"a","columns":[{"name":"id","type":"Text"}]},'
+     '{"name":"a","sql_name":"b","columns":[{"name":"id","type":"Text"}]}]},"texts":[]}'),
+    ("an audit over a key that names no column",
+     '{"schema":{"tables":[{"name":"a","primary_key":["x"],"columns":[{"name":"id","type":"Text"}]}]},"texts":[]}'),
+    ("half of a surrogate pair in a text", audited('["\\ud800"]')),
+    ("a whole number with a fraction in an ignored member of an audit", audited('[],"x":1.0')),
+]
+
 for name, text in DOCUMENTS:
     expect(name, valid(is_document, text), True)
 for name, text in NO_DOCUMENTS:
@@ -379,7 +423,17 @@ for name, text in GUARDS:
     expect(name, valid(is_guarded, text), True)
 for name, text in NO_GUARDS:
     expect(name, valid(is_guarded, text), False)
+for name, text in [*AUDITS, *AUDITS_NOT_FOR_A_SCHEMA]:
+    expect(name, valid(is_audited, text), True)
+for name, text in NO_AUDITS:
+    expect(name, valid(is_audited, text), False)
 if program:
+    for status, table in ((0, AUDITS), (3, NO_AUDITS), (3, AUDITS_NOT_FOR_A_SCHEMA)):
+        for name, text in table:
+            run = subprocess.run([program, "audit", "Pg"], input=text.encode(), stdout=subprocess.PIPE, stderr=subprocess.DEVNULL)
+            expect(f"audit on {name}", run.returncode, status)
+            for line in run.stdout.decode().split("\n")[:-1]:
+                expect(f"the line {line} of audit on {name}", valid(is_audited_answer, line), True)
     for status, table in ((0, GUARDS), (3, NO_GUARDS)):
         for name, text in table:
             run = subprocess.run([program, "guard"], input=text.encode(), stdout=subprocess.DEVNULL, stderr=subprocess.DEVNULL)
@@ -423,19 +477,46 @@ for text in ANSWERS:
 for text in NO_ANSWERS:
     expect(text, valid(is_answer, text), False)
 
+# ---- small lines of audit
+
+
+def report(columns="", sources="", tables=""):
+    return f'{{"columns":[{columns}],"sources":[{sources}],"tables":[{tables}]}}'
+
+
+REPORTS = [
+    report(), report(tables='"t","t"'), report('["t","id"]', "0", '"t"'), report('["t","id"],["u",""]', "1,0", '"u","t"'),
+    *[f'{{"refused":"{name}"}}' for name in ("NotInGrammar", "UnknownTable", "NotInScope", "Ambiguous")],
+]
+NO_REPORTS = [
+    "null", "[]", "{}", '{"refused":null}', '{"refused":"NoMemory"}', '{"refused":"UnknownName"}', '{"refused":"NotInGrammar","tables":[]}',
+    *[json.dumps({name: value for name, value in json.loads(report()).items() if name != left_out})
+      for left_out in ("columns", "sources", "tables")],
+    report().replace('"tables"', '"x":1,"tables"'), report().replace("[]", "{}"), report().replace("[]", "null"),
+    report('"id"'), report('["id"]'), report('["s","t","id"]'), report('["t",1]'), report("[null,null]"),
+    report(sources="-1"), report(sources="1.5"), report(sources='"0"'), report(tables="1"), report(tables="null"), report(tables='["s","t"]'),
+    built(),
+]
+for text in REPORTS:
+    expect(text, valid(is_audited_answer, text), True)
+    expect(f"{text}, as an answer", valid(is_answer, text), json.loads(text).get("refused") in RULES.split())
+for text in NO_REPORTS:
+    expect(text, valid(is_audited_answer, text), False)
+
 # ---- what stands in files
 
 
-def expect_answers(path):
+def expect_answers(path, schema=is_answer):
     for number, line in enumerate(filter(None, path.read_text().split("\n")), 1):
-        expect(f"{path.name}, line {number}", valid(is_answer, line), True)
+        expect(f"{path.name}, line {number}", valid(schema, line), True)
 
 
 documents = [path for path in sorted((top / "examples").glob("*.json")) if path.name not in ("audit.json", "guard.json")]
-guarded = top / "examples/guard.json"
-expect(guarded.name, valid(is_guarded, guarded.read_text()), True)
-for number, line in enumerate(guarded.with_suffix(".jsonl").read_text().splitlines(), 1):
-    expect(f"{guarded.name}, line {number}", valid(is_guarded_answer, line), True)
+for name, form, line_form in (("guard", is_guarded, is_guarded_answer), ("audit", is_audited, is_audited_answer)):
+    example = top / "examples" / f"{name}.json"
+    expect(example.name, valid(form, example.read_bytes()), True)
+    expect_answers(example.with_suffix(".jsonl"), line_form)
+    expect(f"{example.name} of another command", valid(is_audited if name == "guard" else is_guarded, example.read_bytes()), False)
 for path in [*documents, top / "crates/sql_tool/stdin"]:
     expect(path.name, valid(is_document, path.read_text()), True)
 # an example's lines are answers to its document, or of the text that is read
@@ -455,20 +536,31 @@ def beside(path, ending, default):
     return path.read_text() if path.exists() else default
 
 
+# Of each command what it reads and writes.
+FORMS = {"build": (is_document, is_answer), "guard": (is_guarded, is_guarded_answer),
+         **{f"audit {dialect}": (is_audited, is_audited_answer) for dialect in DIALECTS}}
+
+
+def names_an_unknown_dialect(value):
+    return any(each["dialect"] not in DIALECTS for each in value.get("requests", []))
+
+
 for path in sorted(pathlib.Path(rows).glob("*.in.json")) if rows else []:
-    text = path.read_text()
+    data = path.read_bytes()
+    words = " ".join(beside(path, ".args", "build").split())
     status = int(beside(path, ".status", "0"))
-    is_json, value = parsed(text)
-    if beside(path, ".args", "build").split() != ["build"]:
-        print(f"passed over, not of build alone: {path.name}")
-    elif status == 0 and any(request["dialect"] not in DIALECTS for request in value["requests"]):
+    if words not in FORMS:
+        print(f"passed over, of another command: {path.name}")
+        continue
+    form, line_form = FORMS[words]
+    if status == 0 and names_an_unknown_dialect(parsed(data)[1]):
         print(f"passed over, of a dialect that the schema lacks: {path.name}")
-    elif status == 3 and valid(is_document, text):
+    elif status == 3 and valid(form, data):
         print(f"no document, and valid: {path.name}")
     else:
-        expect(path.name, valid(is_document, text), status == 0)
+        expect(path.name, valid(form, data), status == 0)
         if status == 0:
-            expect_answers(path.with_name(path.name.replace(".in.json", ".out")))
+            expect_answers(path.with_name(path.name.replace(".in.json", ".out")), line_form)
 
 print(f"{passed} passed, {failed} failed")
 sys.exit(failed != 0)
