@@ -108,6 +108,44 @@ for (name, what), answer in zip(names, answers):
     expect(rules, f"what {what} {name} gives {answer}", refused == (name if what == "breaks" else None))
 expect(rules, "a query that breaks each rule but the last, and one that mends it", len(names) == 26)
 
+# ---- what the pages say of nullable columns, of operands that are NOT, of tables that are declared twice, of names by case
+
+
+def lines_of(words, document):
+    run = subprocess.run([top / "sql_tool", *words], input=json.dumps(document).encode(), capture_output=True)
+    return [json.loads(line) for line in run.stdout.decode().split("\n")[:-1]]
+
+
+def table(name, columns, **more):
+    return {"name": name, "columns": [{"name": column, "type": kind} for column, kind in columns.items()], **more}
+
+
+def filtered(name, *conditions):
+    return {"dialect": "Pg", "query": {"from": {"table": name}, "calls": [["filter", each] for each in conditions]}}
+
+
+NAME, FIDO = {"col": ["animals", "name"]}, ["Text", "Fido"]
+compared = lines_of(["build"], {"schema": {"tables": [table("animals", {"id": "Integer", "name": "Text?"})]}, "requests": [
+    filtered("animals", {"eq": [NAME, {"bind": FIDO}]}), filtered("animals", {"eq": [NAME, {"bind": ["Text?", "Fido"]}]}),
+    filtered("animals", {"eq": [NAME, {"nullable": {"bind": FIDO}}]}), filtered("animals", {"eq_any": [NAME, {"list": ["Text?", ["Fido"]]}]})]})
+expect(rules, f"a nullable column gives {compared}", compared[0] == {"refused": "TypeMismatch"} and compared[1]["sql"] == compared[2]["sql"]
+       and "sql" in compared[3])
+
+POSTS = {"id": "Integer", "hidden": "Bool?"}
+guarded = lines_of(["guard"], {"schema": {"tables": [table("posts", POSTS), table("again", POSTS, schema="main", sql_name="posts")]},
+                               "requests": [filtered("posts"), filtered("again")],
+                               "guard": {"table": "posts", "predicate": {"is_not_null": {"not": {"col": ["posts", "hidden"]}}}}})
+expect(top / "docs/GUARD.md", f"the guard writes {guarded}", 'WHERE (NOT ("posts"."hidden") IS NOT NULL)' in guarded[0]["sql"]
+       and "WHERE" not in guarded[1]["sql"])
+
+IN_A_SUBSELECT = 'SELECT "%s"."id" FROM "t" AS "%s" WHERE EXISTS (SELECT "%s"."id" FROM "p" AS "%s" WHERE ("%s"."id" = "%s"."id"))'
+names = [("u", "U"), ("a" * 63 + "b", "a" * 63 + "c")]
+audited = lines_of(["audit", "Pg"], {"schema": {"tables": [table("t", {"id": "Integer"}), table("p", {"id": "Integer"})]}, "texts": [
+    *(IN_A_SUBSELECT % (one, one, other, other, one, other) for one, other in names), 'SELECT "t"."ID" FROM "t"', 'SELECT ""."id" FROM "t" AS ""',
+    '(SELECT "t"."id" FROM "t") UNION (SELECT "p"."id" FROM "p") ORDER BY 7', 'SELECT COUNT(*) FROM "t"']})
+expect(top / "docs/AUDIT.md", f"audit writes {audited}", [line.get("sources") for line in audited] == [[0, 1, 0, 1]] * 2 + [None, [0], [0, 1], []]
+       and audited[2] == {"refused": "NotInScope"} and audited[5]["tables"] == ["t"])
+
 # ---- numbers
 
 edits = len(list(top.glob("crates/*/must-fail/*.edit")))
