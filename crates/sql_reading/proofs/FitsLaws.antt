@@ -1,10 +1,10 @@
 -- The normal tree is one that the dialect has.
-use Rattle.std.proofs.Common.{◌≡◌, ℕ, ℤ, suc, ◌+◌, ◌<◌, ◌≤◌, List, [], ◌∷◌, ◌++◌, length, map, Bool, true, false, Option, Some, None, option_map, refl, sym, ap, ◌∙◌, subst, arith}
+use Rattle.std.proofs.Common.{◌≡◌, ℕ, ℤ, suc, ◌+◌, ◌≤◌, List, [], ◌∷◌, ◌++◌, length, map, Bool, true, false, Option, Some, None, option_map, refl, sym, ap, ◌∙◌, subst, arith}
 use Rattle.sql_schema.specs.declared.declaration.TableDecl.{TableDecl}
 use Rattle.sql_dialect.specs.Supports.{combines, is_all}
 use Rattle.sql_dialect.specs.declared.backend.Dialect.{Dialect}
 use Rattle.sql_dialect.specs.declared.backend.Dialect.TheVariants.{Pg, Mysql, Sqlite, Bracket}
-use Rattle.sql_dialect.specs.Written.{numbers}
+use Rattle.sql_dialect.specs.Written.{numbers, MAX_BINDS}
 use Rattle.sql_dialect.specs.declared.combination.Combinator.{Combinator}
 use Rattle.sql_dialect.specs.declared.combination.Combinator.TheVariants.{Union, Intersect, Except}
 use Rattle.sql_dialect.specs.declared.combination.DuplicateRule.{DuplicateRule}
@@ -32,7 +32,7 @@ use Rattle.sql_reading.proofs.TextLaws.{value-law}
 
 -- up to n, placeholders have numbers
 abbrev pub Room : Dialect → ℕ → Type 0
-Room d n = numbers d ≡ true → n < 4294967296
+Room d n = numbers d ≡ true → n ≤ MAX_BINDS
 
 mark-fits : (d : Dialect) (n : ℕ) → Room d (suc n) → fits.FitsMark d (mark_of d n)
 mark-fits Pg n r = (omega arith, r refl)
