@@ -1,13 +1,23 @@
 """The commands of Hardieflax, over bytes in memory, through ctypes and a shared library (docs/EMBEDDING.md).
 
-Nothing checks the declarations below against the library: they are written by hand after hardieflax.h.
+The declarations below are written by hand after hardieflax.h. `tests/wrappers.sh` tries them on a stand-in that is compiled with that
+header; nothing compares the header with the library.
 """
+
+from __future__ import annotations
 
 import ctypes
 import enum
+import os
+import threading
+import weakref
+from types import TracebackType
+from typing import Callable, NoReturn
 
 
 class Dialect(enum.IntEnum):
+    """The dialect of a text."""
+
     PG = 0
     MYSQL = 1
     SQLITE = 2
@@ -15,21 +25,43 @@ class Dialect(enum.IntEnum):
 
 
 class Status(enum.IntEnum):
+    """Why a call has no answer: the program's exit status."""
+
     USAGE = 2
     BAD_DOCUMENT = 3
     NO_MEMORY = 6
     TOO_LARGE = 7
 
 
-class Refused(Exception):
-    """A call that has no answer. `status` says why."""
+_MEANINGS = {
+    Status.USAGE: "no session is open",
+    Status.BAD_DOCUMENT: "the input is not what the call reads",
+    Status.NO_MEMORY: "out of memory, or a query or a text nests deeper than 1,000 levels",
+    Status.TOO_LARGE: "the input has more than 16777216 bytes",
+}
 
-    def __init__(self, status):
-        super().__init__(Status(status).name)
-        self.status = Status(status)
+
+class HardieflaxError(Exception):
+    """A call that has no answer. `status` says why: a `Status`, or a number that the header does not name.
+
+    A request that breaks a rule is no error: the answer has the line {"refused":RULE} for it.
+    """
+
+    status: int
+
+    def __init__(self, status: int) -> None:
+        super().__init__(status)
+        self.status = Status(status) if status in _MEANINGS else status
+
+    def __str__(self) -> str:
+        if isinstance(self.status, Status):
+            return f"{self.status.name}: {_MEANINGS[self.status]}"
+        return f"status {self.status}"
 
 
 class _Handle(ctypes.Structure):
+    """`hardieflax` of the header."""
+
     _fields_ = [
         ("bytes", ctypes.c_void_p),
         ("length", ctypes.c_size_t),
@@ -50,59 +82,79 @@ _CALLS = {
 
 
 class Hardieflax:
-    """Answers calls, one after the other, on one thread, and keeps at most one session.
+    """Answers calls, and keeps at most one session. It frees what it owns when it is closed, or when nothing refers to it any more.
+
+    Threads may share one: a call waits for the one that is running. Each may as well have its own. Call none from a signal handler, nor in
+    the forked child of a process with threads.
 
     with Hardieflax("./libhardieflax.so") as session:
         session.open(document)
         lines = session.next(b'{"schema":{"tables":[]},"requests":[..]}')
     """
 
-    def __init__(self, path):
-        self._library = ctypes.CDLL(path)
-        self._handle = _Handle()
+    def __init__(self, path: str | os.PathLike[str]) -> None:
+        """Loads the library. OSError: there is none at this path, or it is not a shared library."""
+        library = ctypes.CDLL(os.fspath(path))
+        self._calls: dict[str, Callable[..., int]] = {}
         for name, arguments in _CALLS.items():
-            function = getattr(self._library, "hardieflax_" + name)
+            function = library["hardieflax_" + name]
             function.argtypes = [ctypes.POINTER(_Handle), *arguments]
             function.restype = ctypes.c_uint32
-        self._library.hardieflax_free.argtypes = [ctypes.POINTER(_Handle)]
-        self._library.hardieflax_free.restype = None
+            self._calls[name] = function
+        self._free = library["hardieflax_free"]
+        self._free.argtypes = [ctypes.POINTER(_Handle)]
+        self._free.restype = None
+        self._handle = _Handle()
+        self._lock = threading.Lock()
+        # The end of the process frees its memory, so there is nothing to do then.
+        weakref.finalize(self, self._free, self._handle).atexit = False
 
-    def __enter__(self):
+    def __enter__(self) -> Hardieflax:
         return self
 
-    def __exit__(self, *_):
+    def __exit__(self, kind: type[BaseException] | None, error: BaseException | None, trace: TracebackType | None) -> None:
         self.close()
 
-    def close(self):
-        """Frees what the handle owns. It may be used again."""
-        self._library.hardieflax_free(self._handle)
+    def __reduce__(self) -> NoReturn:
+        raise TypeError("a Hardieflax is not copied or pickled: a handle has one owner")
 
-    def _call(self, name, *arguments):
-        status = getattr(self._library, "hardieflax_" + name)(self._handle, *arguments)
-        if status:
-            raise Refused(status)
-        return ctypes.string_at(self._handle.bytes, self._handle.length)
+    def close(self) -> None:
+        """Frees what the handle owns, a session too. It may be used again."""
+        with self._lock:
+            self._free(self._handle)
 
-    def build(self, document):
-        """A line for each request of the document, as bytes."""
-        return self._call("build", document, len(document))
+    def _call(self, name: str, data: bytes, *dialect: int) -> bytes:
+        if not isinstance(data, bytes):
+            raise TypeError(f"the input is bytes, and not {type(data).__name__}")
+        with self._lock:
+            status = self._calls[name](self._handle, *dialect, data, len(data))
+            if status != 0:
+                raise HardieflaxError(status)
+            return ctypes.string_at(self._handle.bytes, self._handle.length)
 
-    def guard(self, document):
+    def build(self, document: bytes) -> bytes:
+        """A line for each request of the document. HardieflaxError: there is no answer."""
+        return self._call("build", document)
+
+    def guard(self, document: bytes) -> bytes:
         """The same, each statement restricted to the rows of the document's tenant."""
-        return self._call("guard", document, len(document))
+        return self._call("guard", document)
 
-    def read(self, dialect, text):
-        """A line with the text, as the dialect's grammar reads it."""
-        return self._call("read", dialect, text, len(text))
+    def read(self, dialect: Dialect, text: bytes) -> bytes:
+        """A line with the text, as the dialect's grammar reads it. ValueError: no such dialect."""
+        return self._call("read", text, Dialect(dialect))
 
-    def audit(self, dialect, texts):
-        """A line for each text, with the tables and columns that it uses."""
-        return self._call("audit", dialect, texts, len(texts))
+    def audit(self, dialect: Dialect, texts: bytes) -> bytes:
+        """A line for each text, with the tables and columns that it uses. ValueError: no such dialect."""
+        return self._call("audit", texts, Dialect(dialect))
 
-    def open(self, document):
-        """Opens a session over the document's schema, and answers the document."""
-        return self._call("open", document, len(document))
+    def open(self, document: bytes) -> bytes:
+        """Opens a session over the document's schema, in place of an earlier one, and answers the document."""
+        return self._call("open", document)
 
-    def next(self, document):
-        """Answers the requests of a document that declares no table, over the session's schema."""
-        return self._call("next", document, len(document))
+    def next(self, document: bytes) -> bytes:
+        """Answers the requests of a document that declares no table, over the session's schema.
+
+        After NO_MEMORY the session may be gone: open it again. Other errors leave it as it was.
+        """
+        return self._call("next", document)

@@ -3,25 +3,31 @@
 python3 main.py LIBRARY FILE [DOCUMENT..]
 """
 
+from __future__ import annotations
+
+import os
 import sys
 
-from hardieflax import Hardieflax, Refused
+from hardieflax import Hardieflax, HardieflaxError, Status
 
 
-def main():
-    library, path, *more = sys.argv[1:]
+def main(arguments: list[str]) -> int:
+    if len(arguments) < 2:
+        print("usage: main.py LIBRARY FILE [DOCUMENT..]", file=sys.stderr)
+        return Status.USAGE
+    library, path, *more = arguments
     with open(path, "rb") as file:
         document = file.read()
     try:
         with Hardieflax(library) as session:
             sys.stdout.buffer.write(session.open(document))
             for text in more:
-                sys.stdout.buffer.write(session.next(text.encode()))
-    except Refused as refused:
-        print(refused, file=sys.stderr)
-        return int(refused.status)
+                sys.stdout.buffer.write(session.next(os.fsencode(text)))
+    except HardieflaxError as error:
+        print(error, file=sys.stderr)
+        return error.status
     return 0
 
 
 if __name__ == "__main__":
-    sys.exit(main())
+    sys.exit(main(sys.argv[1:]))
