@@ -1,6 +1,7 @@
 //! The commands of Hardieflax, over bytes in memory.
 //!
-//! Nothing checks the declarations of `raw` against the library: they are written by hand after `hardieflax.h`.
+//! The declarations of `raw` are written by hand after `hardieflax.h`. `tests/wrappers.sh` tries them on a stand-in that is compiled with
+//! that header; nothing compares the header with the library.
 
 use std::fmt;
 use std::marker::PhantomData;
@@ -26,6 +27,7 @@ mod raw {
     }
 }
 
+/// The dialect of a text.
 #[derive(Debug, Clone, Copy, PartialEq, Eq)]
 #[repr(u32)]
 pub enum Dialect {
@@ -35,7 +37,7 @@ pub enum Dialect {
     Bracket = 3,
 }
 
-/// Why there is no answer.
+/// Why there is no answer. A request that breaks a rule is no error: the answer has the line `{"refused":RULE}` for it.
 #[derive(Debug, Clone, Copy, PartialEq, Eq)]
 pub enum Error {
     /// The handle has no session.
@@ -44,19 +46,33 @@ pub enum Error {
     BadDocument,
     /// Out of memory, or a query or a text nests deeper than 1,000 levels.
     NoMemory,
-    /// The input has more than 16 MiB.
+    /// The input has more than 16777216 bytes.
     TooLarge,
     /// A status that the header does not name.
     Unknown(u32),
+}
+
+impl Error {
+    /// The status of the call, which is the program's exit status.
+    #[must_use]
+    pub fn status(&self) -> u32 {
+        match self {
+            Error::NoSession => 2,
+            Error::BadDocument => 3,
+            Error::NoMemory => 6,
+            Error::TooLarge => 7,
+            Error::Unknown(status) => *status,
+        }
+    }
 }
 
 impl fmt::Display for Error {
     fn fmt(&self, f: &mut fmt::Formatter<'_>) -> fmt::Result {
         match self {
             Error::NoSession => f.write_str("no session is open"),
-            Error::BadDocument => f.write_str("the input is no document"),
-            Error::NoMemory => f.write_str("out of memory, or too deep"),
-            Error::TooLarge => f.write_str("the input is too large"),
+            Error::BadDocument => f.write_str("the input is not what the call reads"),
+            Error::NoMemory => f.write_str("out of memory, or a query or a text nests deeper than 1,000 levels"),
+            Error::TooLarge => f.write_str("the input has more than 16777216 bytes"),
             Error::Unknown(status) => write!(f, "status {status}"),
         }
     }
@@ -120,7 +136,8 @@ impl Hardieflax {
         self.answer(status)
     }
 
-    /// Answers the requests of a document that declares no table, over the session's schema.
+    /// Answers the requests of a document that declares no table, over the session's schema. After [`Error::NoMemory`] the session may be
+    /// gone: open it again. Other errors leave it as it was.
     pub fn next(&mut self, document: &[u8]) -> Result<&str, Error> {
         // SAFETY: as above.
         let status = unsafe { raw::hardieflax_next(&mut self.handle, document.as_ptr(), document.len()) };

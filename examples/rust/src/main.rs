@@ -1,16 +1,29 @@
-//! Builds the statements of a document over a session, and then those of further documents, which declare no table.
+//! Builds the statements of a document over a session, and then those of further documents, which declare no table. Ends with the first
+//! status that is not 0.
 
-use std::{env, error::Error, fs};
+use std::io::Write;
+use std::process::ExitCode;
+use std::{env, error::Error, fs, io};
 
 use hardieflax::Hardieflax;
 
-fn main() -> Result<(), Box<dyn Error>> {
+fn main() -> ExitCode {
+    let Err(error) = run() else {
+        return ExitCode::SUCCESS;
+    };
+    eprintln!("{error}");
+    let status = error.downcast_ref::<hardieflax::Error>().map_or(1, hardieflax::Error::status);
+    ExitCode::from(u8::try_from(status).unwrap_or(1))
+}
+
+fn run() -> Result<(), Box<dyn Error>> {
     let mut arguments = env::args().skip(1);
     let path = arguments.next().ok_or("usage: main FILE [DOCUMENT..]")?;
     let mut session = Hardieflax::new();
-    print!("{}", session.open(&fs::read(path)?)?);
+    let mut output = io::stdout();
+    output.write_all(session.open(&fs::read(path)?)?.as_bytes())?;
     for document in arguments {
-        print!("{}", session.next(document.as_bytes())?);
+        output.write_all(session.next(document.as_bytes())?.as_bytes())?;
     }
     Ok(())
 }
