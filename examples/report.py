@@ -1,7 +1,17 @@
 #!/usr/bin/env python3
 """A small report: sql_tool writes its statements, and a database that this script fills runs them. Then the posts of each of two users
 are reported, as those of a tenant, by guarded statements over all posts: the same as plain ones find where there are no others."""
-import argparse, json, pathlib, shlex, sqlite3, subprocess, sys
+from __future__ import annotations
+
+import argparse
+import json
+import pathlib
+import re
+import shlex
+import sqlite3
+import subprocess
+import sys
+from typing import Any, Iterable
 
 SETUP = [
     "CREATE TEMP TABLE users (id integer, name text)",
@@ -44,77 +54,107 @@ GUARDED = {
 }
 
 
-def bound(kind, value):
+def bound(kind: str, value: Any) -> Any:
+    """A value as the driver binds it."""
     if isinstance(value, list):
         return [bound(kind, each) for each in value]
     return bytes.fromhex(value) if kind.startswith("Binary") and value is not None else value
 
 
-def shown(kind, value):
+def shown(kind: str, value: Any) -> str:
+    """A value of a row as the report shows it."""
     if value is None:
         return "NULL"
     if kind.startswith("Bool"):
         return str(bool(value)).lower()  # SQLite gives 0 or 1
-    return value.hex() if kind.startswith("Binary") else str(value)
+    return str(value.hex() if kind.startswith("Binary") else value)
 
 
-parser = argparse.ArgumentParser(description=__doc__)
-parser.add_argument("--postgres", metavar="URL", help="a PostgreSQL database, in place of SQLite in memory; needs psycopg 3.2")
-parser.add_argument("--program", metavar="WORDS", help="how to run the program, in place of ./sql_tool")
-given = parser.parse_args()
-program = shlex.split(given.program) if given.program else [pathlib.Path(__file__).resolve().parent.parent / "sql_tool"]
-dialect = "Pg" if given.postgres else "Sqlite"
+def for_psycopg(text: str) -> str:
+    """A text as psycopg takes it: %s for each placeholder, which are $1 to $n in this order, and %% for a percent sign. Names keep their $."""
+    return re.sub(r'("[^"]*")|\$[0-9]+|%', lambda part: part[1].replace("%", "%%") if part[1] else "%%" if part[0] == "%" else "%s", text)
 
 
-def answers(command, queries, **members):
+def answers(program: list[str], dialect: str, command: str, queries: Iterable[Any], **members: Any) -> list[Any]:
     """What the program writes for these queries, line by line."""
     document = {"schema": SCHEMA, "requests": [{"dialect": dialect, "query": query} for query in queries], **members}
-    run = subprocess.run([*program, command], input=json.dumps(document), stdout=subprocess.PIPE, encoding="utf-8")
+    run = subprocess.run([*program, command], input=json.dumps(document).encode(), stdout=subprocess.PIPE)
     if run.returncode != 0:
-        sys.exit(f"sql_tool ended with status {run.returncode}")
-    return [json.loads(line) for line in run.stdout.splitlines()]
+        sys.exit(f"{shlex.join(program)} ended with status {run.returncode}")
+    # A line ends with a newline. A text may hold other characters that end lines elsewhere, as U+2028.
+    return [json.loads(line) for line in run.stdout.split(b"\n")[:-1]]
 
 
-if given.postgres:
-    import psycopg
-    cursor = psycopg.connect(given.postgres, cursor_factory=psycopg.RawCursor).cursor()  # raw: it takes $1 to $n as they stand
-else:
-    cursor = sqlite3.connect(":memory:").cursor()
-for statement in SETUP:
-    cursor.execute(statement)
+class Report:
+    """Runs accepted requests on a database, and prints what they find."""
+
+    def __init__(self, cursor: Any, is_postgres: bool) -> None:
+        self.cursor = cursor
+        self.is_postgres = is_postgres
+        for statement in SETUP:
+            cursor.execute(statement)
+
+    def rows_of(self, answer: Any) -> list[list[str]]:
+        """The rows that the database has for an accepted request."""
+        text = for_psycopg(answer["sql"]) if self.is_postgres else answer["sql"]
+        self.cursor.execute(text, [bound(kind, value) for kind, value in answer["binds"]])
+        return [[shown(kind, value) for kind, value in zip(answer["columns"], row)] for row in self.cursor.fetchall()]
+
+    def show(self, heading: str, answer: Any) -> list[list[str]] | None:
+        """Prints a request's text, values and rows, and gives the rows."""
+        print(f"{heading}:")
+        if "refused" in answer:
+            print(f"    refused: {answer['refused']}")
+            return None
+        print(f"    {answer['sql']}\n    values: {json.dumps(answer['binds'])}")
+        rows = self.rows_of(answer)
+        table = [answer["columns"], *rows]
+        widths = [max(map(len, texts)) for texts in zip(*table)]
+        for row in table:
+            print("    | " + " | ".join(text.ljust(width) for text, width in zip(row, widths)) + " |")
+        return rows
+
+    def rows_without_others(self, answers: list[Any], tenant: int) -> list[list[list[str]]]:
+        """The rows of accepted requests where no user but this one has posts: the database of that tenant, as far as a table goes."""
+        self.cursor.execute("SAVEPOINT whole")
+        self.cursor.execute(f"DELETE FROM posts WHERE user_id <> {tenant}")
+        rows = [self.rows_of(answer) for answer in answers]
+        self.cursor.execute("ROLLBACK TO whole")
+        return rows
 
 
-def rows_of(answer):
-    """The rows that the database has for an accepted request."""
-    cursor.execute(answer["sql"], [bound(kind, value) for kind, value in answer["binds"]])
-    return [[shown(kind, value) for kind, value in zip(answer["columns"], row)] for row in cursor.fetchall()]
+def connected(url: str | None) -> Any:
+    """A connection to this PostgreSQL database, or else to SQLite in memory."""
+    if url is None:
+        return sqlite3.connect(":memory:")
+    try:
+        import psycopg
+    except ImportError:
+        sys.exit("--postgres needs psycopg 3 (Debian: python3-psycopg)")
+    return psycopg.connect(url)
 
 
-def report(heading, answer):
-    """Prints a request's text, values and rows, and gives the rows."""
-    print(f"{heading}:")
-    if "refused" in answer:
-        print(f"    refused: {answer['refused']}")
-        return None
-    print(f"    {answer['sql']}\n    values: {json.dumps(answer['binds'])}")
-    rows = rows_of(answer)
-    table = [answer["columns"], *rows]
-    widths = [max(map(len, texts)) for texts in zip(*table)]
-    for row in table:
-        print("    | " + " | ".join(text.ljust(width) for text, width in zip(row, widths)) + " |")
-    return rows
+def main() -> None:
+    own = pathlib.Path(__file__).resolve().parent.parent / "sql_tool"
+    parser = argparse.ArgumentParser(description=__doc__)
+    parser.add_argument("--postgres", metavar="URL", help="a PostgreSQL database, in place of SQLite in memory; needs psycopg 3")
+    parser.add_argument("--program", metavar="WORDS", default=shlex.join([str(own), "--no-build"]),
+                        help="how to run the program, as './sql_tool --try' to have it unproved; else ./sql_tool, which has to be built")
+    given = parser.parse_args()
+    program = shlex.split(given.program)
+    dialect = "Pg" if given.postgres else "Sqlite"
+    lines = answers(program, dialect, "build", REQUESTS.values())
+    report = Report(connected(given.postgres).cursor(), given.postgres is not None)
+    for heading, answer in zip(REQUESTS, lines):
+        report.show(heading, answer)
+    plain = answers(program, dialect, "build", GUARDED.values())
+    for tenant in TENANTS:
+        guard = {"table": "posts", "predicate": {"eq": [USER_ID, {"bind": ["Integer", tenant]}]}}
+        lines = answers(program, dialect, "guard", GUARDED.values(), guard=guard)
+        guarded = [report.show(f"{heading}, of user {tenant}'s posts", line) for heading, line in zip(GUARDED, lines)]
+        cut = report.rows_without_others(plain, tenant)
+        print(f"    {'the same' if guarded == cut else 'NOT THE SAME'} as over the posts of user {tenant} alone")
 
 
-for heading, answer in zip(REQUESTS, answers("build", REQUESTS.values())):
-    report(heading, answer)
-plain = answers("build", GUARDED.values())
-for tenant in TENANTS:
-    guard = {"table": "posts", "predicate": {"eq": [USER_ID, {"bind": ["Integer", tenant]}]}}
-    lines = answers("guard", GUARDED.values(), guard=guard)
-    guarded = [report(f"{heading}, of user {tenant}'s posts", line) for heading, line in zip(GUARDED, lines)]
-    # The database of that tenant, as far as a table goes: it has no post of anyone else.
-    cursor.execute("SAVEPOINT whole")
-    cursor.execute(f"DELETE FROM posts WHERE user_id <> {tenant}")
-    cut = [rows_of(answer) for answer in plain]
-    cursor.execute("ROLLBACK TO whole")
-    print(f"    {'the same' if guarded == cut else 'NOT THE SAME'} as over the posts of user {tenant} alone")
+if __name__ == "__main__":
+    main()

@@ -1,13 +1,34 @@
 #!/bin/sh
 # Calls the static library from C, Rust and Python: compares what the examples print with the stored lines, and runs the wrappers' tests.
-# The library is proved and built first where it is not. Says what it skipped where a compiler is missing. Ends with 'N passed, M failed'.
-# LIBRARY, where it is set, is the static library to link; else it is that of crates/hardieflax_c.
+#   tests/embed.sh             tests the library of crates/hardieflax_c, and ends with 1 where it is not built or a source is newer
+#   tests/embed.sh --build     proves and builds it first where it has to be: about an hour from a clean checkout
+#   LIBRARY=FILE tests/embed.sh      tests this static library
+# Says what it skipped where a compiler is missing. Ends with 'N passed, M failed'.
 top=$(cd "$(dirname "$0")/.." && pwd) || exit 1
 work=$(mktemp -d) || exit 1
 trap 'rm -r "$work"' EXIT
 . "$top/tests/checks.sh"
 library=${LIBRARY:-$top/crates/hardieflax_c/out/libhardieflax_c.a}
-heap=$(dirname "$(rt doc)")/c/liblibc_c.a
+case $#$1 in
+0 | 1--build) ;;
+*) echo 'usage: [LIBRARY=FILE] tests/embed.sh [--build]' >&2; exit 2 ;;
+esac
+page=$(rt doc) || { echo "embed.sh: rt, Rattle's toolchain, is not on the path: its C library is linked" >&2; exit 1; }
+heap=$(dirname "$page")/c/liblibc_c.a
+
+# is_current: whether the library is there, and is what was given or no source is newer
+is_current() {
+    [ -e "$library" ] || return
+    [ -n "$LIBRARY" ] || [ -z "$(find "$top/crates" "$top/crates.txt" -name out -prune -o -type f -newer "$library" -print | head -n 1)" ]
+}
+
+# build: proves and builds the library
+build() {
+    echo 'embed.sh: proving and building the library first: about an hour from a clean checkout' >&2
+    touch "$work/began"
+    (cd "$top/crates/hardieflax_c" && rt lib >"$work/log" 2>&1) || { tail -n 20 "$work/log" >&2; return 1; }
+    touch -r "$work/began" "$library"
+}
 
 # prints FILE COMMAND..: the command succeeds and prints the file
 prints() {
@@ -29,8 +50,18 @@ ends() {
     return 1
 }
 
-if [ ! -e "$library" ]; then
-    (cd "$top/crates/hardieflax_c" && rt lib >"$work/log" 2>&1) || { tail -n 20 "$work/log"; exit 1; }
+# is_without_thread_storage: no member of the library has storage by thread
+is_without_thread_storage() {
+    command -v objdump >/dev/null || return 0
+    objdump -h "$library" >"$work/sections" && grep -q '\.text' "$work/sections" && ! grep -E '\.t(bss|data)' "$work/sections"
+}
+
+if ! is_current; then
+    case $1$LIBRARY in
+    --build) build || exit 1 ;;
+    '') echo 'embed.sh: the library is not built, or a source is newer: tests/embed.sh --build proves and builds it (about an hour)' >&2; exit 1 ;;
+    *) echo "embed.sh: no file $LIBRARY" >&2; exit 1 ;;
+    esac
 fi
 
 # The requests of filter.json twice over its session: the second call goes on with the first one's id.
@@ -47,11 +78,13 @@ if [ -n "$c" ]; then
             */guard.json) word=guard ;;
             *) word=build ;;
             esac
-            check "C, ${document##*/}" prints "${document%.json}.jsonl" "$work/main" $word "$document"
+            check "C, ${document##*/}" prints "${document%.json}.jsonl" "$work/main" "$word" "$document"
         done
         check 'C, a session' prints "$work/twice" "$work/main" session "$top/examples/filter.json" "$again"
         check 'C, no document' ends 3 "$work/main" build "$work/bad.json"
     fi
+    # So a handle may pass from thread to thread.
+    check 'the library keeps nothing by thread' is_without_thread_storage
     shared=$work/libhardieflax.so
     check 'the shared library links' "$c" -shared -o "$shared" -Wl,--whole-archive "$library" -Wl,--no-whole-archive "$heap"
 else
@@ -65,14 +98,19 @@ if command -v cargo >/dev/null; then
     export HARDIEFLAX_LIB RATTLE_C CARGO_TARGET_DIR
     (cd "$top/examples/rust" && cargo test --offline --quiet) >"$work/log" 2>&1
     check 'the tests of the Rust wrapper' [ $? = 0 ] || cat "$work/log"
-    check 'Rust, a session' prints "$work/twice" cargo run --offline --quiet --manifest-path "$top/examples/rust/Cargo.toml" -- "$top/examples/filter.json" "$again"
+    rust() { cargo run --offline --quiet --manifest-path "$top/examples/rust/Cargo.toml" -- "$@"; }
+    check 'Rust, a session' prints "$work/twice" rust "$top/examples/filter.json" "$again"
+    check 'Rust, no document' ends 3 rust "$work/bad.json"
 else
     echo 'skipped Rust: no cargo'
 fi
 
 if command -v python3 >/dev/null && [ -e "$shared" ]; then
-    check 'Python, a session' prints "$work/twice" env PYTHONDONTWRITEBYTECODE=1 python3 "$top/examples/python/main.py" "$shared" "$top/examples/filter.json" "$again"
-    check 'Python, no document' ends 3 env PYTHONDONTWRITEBYTECODE=1 python3 "$top/examples/python/main.py" "$shared" "$work/bad.json"
+    PYTHONDONTWRITEBYTECODE=1
+    export PYTHONDONTWRITEBYTECODE
+    check 'Python, a session' prints "$work/twice" python3 "$top/examples/python/main.py" "$shared" "$top/examples/filter.json" "$again"
+    check 'Python, no document' ends 3 python3 "$top/examples/python/main.py" "$shared" "$work/bad.json"
+    check 'Python, threads' python3 "$top/tests/wrappers/threads.py" "$shared"
 else
     echo 'skipped Python: no python3, or no shared library'
 fi

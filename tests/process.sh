@@ -42,6 +42,16 @@ done
 if command -v python3 >/dev/null; then
     python3 "$top/examples/report.py" >"$work/report" 2>&1
     check report.py cmp "$work/report" "$top/examples/report.txt"
+    check 'the parts of report.py' env PYTHONDONTWRITEBYTECODE=1 python3 - "$top" <<'PY'
+import sys
+sys.path.insert(0, sys.argv[1] + "/examples")
+import report
+text = "a\u2028b\x85c\vd\r\n$1 %"
+[line, same] = report.answers([sys.argv[1] + "/sql_tool", "--no-build"], "Pg", "build", [{"select": [{"bind": ["Text", text]}]}] * 2)
+assert line["binds"] == same["binds"] == [["Text", text]], line
+given = 'SELECT "a$1""%"."$2", $1 FROM "x" WHERE ("x"."%s" = $12)'
+assert report.for_psycopg(given) == 'SELECT "a$1""%%"."$2", %s FROM "x" WHERE ("x"."%%s" = %s)', report.for_psycopg(given)
+PY
 else
     echo 'skipped report.py: no python3'
 fi
@@ -171,11 +181,31 @@ for words in '' 'Build' 'build x' 'guard x' 'generate' 'generate 007' 'generate 
     run $words </dev/null
     check "words '$words'" is_empty 2 Usage
 done
-# The script answers --help itself; to the program it is no command.
+# The script answers these itself; to the program they are no commands. tests/tool.sh has the rest of the script.
 run --help </dev/null
 check 'the page of --help' grep -q '^usage: ./sql_tool COMMAND' "$work/out"
-"$top/crates/sql_tool/out/sql_tool" --help </dev/null >"$work/out" 2>"$work/err"
-got=$?
-check 'the program on --help' is_empty 2 Usage
+# The script says Usage, and then how to call it, of exactly the words of which the program says Usage.
+alike() {
+    "$top/crates/sql_tool/out/sql_tool" "$@" </dev/null >"$work/out" 2>"$work/err"
+    wanted=$?
+    run "$@" </dev/null
+    [ "$got" = "$wanted" ] && [ "$(wc -l <"$work/err")" -gt 2 ] && [ "$got" = 2 ] && return
+    [ "$got" = "$wanted" ] && [ "$got" != 2 ] && [ "$(wc -l <"$work/err")" -lt 2 ] && return
+    echo "status $got, wanted $wanted"
+    return 1
+}
+for words in '--help' '-h' 'help' '--version' '--try' '--no-build'; do
+    "$top/crates/sql_tool/out/sql_tool" "$words" </dev/null >"$work/out" 2>"$work/err"
+    got=$?
+    check "the program on $words" is_empty 2 Usage
+done
+for words in 'build' 'guard' 'read Pg' 'read Mysql' 'read Sqlite' 'read Bracket' 'read PG' 'audit Pg' 'audit Bracket' 'audit' 'generate 0' \
+    'generate 9' 'generate 10' 'generate 99' 'generate 00' 'generate 0x1' 'generate 1.0' 'generate -0' 'generate 100001' 'biuld'; do
+    # shellcheck disable=SC2086
+    check "the script and the program on '$words'" alike $words
+done
+check 'the script and the program on two words in one' alike 'read Pg'
+check 'the script and the program on a word with a newline' alike generate '1
+'
 echo "$passed passed, $failed failed"
 [ "$failed" = 0 ]
