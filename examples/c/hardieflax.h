@@ -2,6 +2,7 @@
  * hardieflax.h: the commands of the program, over bytes in memory.
  *
  * Link libhardieflax_c.a and liblibc_c.a (docs/EMBEDDING.md). This header is written by hand, and nothing checks it against the library.
+ * tests/wrappers.sh tries the wrappers in Rust and Python on a stand-in that is compiled with it.
  *
  * A handle holds the answer of the last call, and at most one session. It begins as HARDIEFLAX_INIT, which owns nothing:
  *
@@ -17,8 +18,8 @@
  * Input. A pointer and a length in bytes. The bytes stay as they are for as long as the call runs. The pointer is not NULL, even where
  * the length is 0.
  *
- * Threads. A handle has one call at a time, and stays on the thread that first used it. Handles share nothing, so each thread may have
- * its own.
+ * Threads. A handle has one call at a time. Threads that share one take turns under a lock, as in examples/python/hardieflax.py. Handles
+ * share nothing, so each thread may have its own.
  *
  * Memory. The library calls malloc, realloc and free. Where memory runs out a call returns HARDIEFLAX_NO_MEMORY, and the handle may be
  * used on. A call takes up to 2 MB of stack, for input that nests as deep as it may (bench/README.md).
