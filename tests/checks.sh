@@ -1,3 +1,4 @@
+# shellcheck shell=sh
 # Counts checks; a script of tests sources it.
 passed=0
 failed=0

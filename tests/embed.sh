@@ -11,7 +11,10 @@ trap 'rm -r "$work"' EXIT
 library=${LIBRARY:-$top/crates/hardieflax_c/out/libhardieflax_c.a}
 case $#$1 in
 0 | 1--build) ;;
-*) echo 'usage: [LIBRARY=FILE] tests/embed.sh [--build]' >&2; exit 2 ;;
+*)
+    echo 'usage: [LIBRARY=FILE] tests/embed.sh [--build]' >&2
+    exit 2
+    ;;
 esac
 page=$(rt doc) || { echo "embed.sh: rt, Rattle's toolchain, is not on the path: its C library is linked" >&2; exit 1; }
 heap=$(dirname "$page")/c/liblibc_c.a
@@ -59,8 +62,15 @@ is_without_thread_storage() {
 if ! is_current; then
     case $1$LIBRARY in
     --build) build || exit 1 ;;
-    '') echo 'embed.sh: the library is not built, or a source is newer: tests/embed.sh --build proves and builds it (about an hour)' >&2; exit 1 ;;
-    *) echo "embed.sh: no file $LIBRARY" >&2; exit 1 ;;
+    '')
+        echo 'embed.sh: the library is not built, or a source is newer' >&2
+        echo 'embed.sh: tests/embed.sh --build proves and builds it (about an hour)' >&2
+        exit 1
+        ;;
+    *)
+        echo "embed.sh: no file $LIBRARY" >&2
+        exit 1
+        ;;
     esac
 fi
 

@@ -1,6 +1,7 @@
 #!/bin/sh
 # Runs the program as a process: standard input to standard output, outputs and inputs that fail, words that are no command, requests
 # that nest deep, the examples. The program is built first where it is not. Ends with 'N passed, M failed'.
+# shellcheck disable=SC2162 # `run read` runs a command of the program
 top=$(cd "$(dirname "$0")/.." && pwd) || exit 1
 work=$(mktemp -d) || exit 1
 trap 'rm -r "$work"' EXIT

@@ -49,8 +49,18 @@ if check 'the C example compiles' compile -o "$work/main" "$top/examples/c/main.
     check 'C, a status' ends 3 "$work/main" build "$work/bad"
 fi
 if command -v c++ >/dev/null; then
-    printf '#include "hardieflax.h"\nint main() { hardieflax h = HARDIEFLAX_INIT; hardieflax_free(&h); return hardieflax_next(&h, (const uint8_t *)"", 0); }\n' >"$work/main.cc"
-    check 'C++ compiles the header' quiet c++ -Wall -Wextra -Werror -pedantic -I"$top/examples/c" -o "$work/cc" "$work/main.cc" "$work/stand_in.o" &&
+    cat >"$work/main.cc" <<'TXT'
+#include "hardieflax.h"
+int main() {
+    hardieflax handle = HARDIEFLAX_INIT;
+    hardieflax_free(&handle);
+    uint32_t status = hardieflax_next(&handle, reinterpret_cast<const uint8_t *>(""), 0);
+    hardieflax_free(&handle);
+    return static_cast<int>(status);
+}
+TXT
+    set -- -Wall -Wextra -Werror -pedantic -I"$top/examples/c"
+    check 'C++ compiles the header' quiet c++ "$@" -o "$work/cc" "$work/main.cc" "$work/stand_in.o" &&
         check 'C++, no session' ends 2 "$work/cc"
 else
     echo 'skipped C++: no c++'
