@@ -46,6 +46,7 @@ if check 'the C example compiles' compile -o "$work/main" "$top/examples/c/main.
     check 'C, build' prints 'build - first' "$work/main" build "$work/first"
     check 'C, guard' prints 'guard - first' "$work/main" guard "$work/first"
     check 'C, a session' prints 'open - firstnext - secondnext - third' "$work/main" session "$work/first" second third
+    check 'C, a word that it does not know' ends 2 "$work/main" biuld "$work/first"
     check 'C, a status' ends 3 "$work/main" build "$work/bad"
 fi
 if command -v c++ >/dev/null; then

@@ -34,6 +34,17 @@ static uint8_t *whole(const char *path, size_t *length) {
     return bytes;
 }
 
+/* What a word of the command line calls. */
+typedef uint32_t (*call)(hardieflax *handle, const uint8_t *document, size_t length);
+
+static call call_of(const char *word) {
+    if (strcmp(word, "build") == 0)
+        return hardieflax_build;
+    if (strcmp(word, "guard") == 0)
+        return hardieflax_guard;
+    return strcmp(word, "session") == 0 ? hardieflax_open : NULL;
+}
+
 static uint32_t show(uint32_t status, const hardieflax *handle) {
     if (status == HARDIEFLAX_DONE)
         fwrite(handle->bytes, 1, handle->length, stdout);
@@ -49,21 +60,15 @@ int main(int argc, char **argv) {
     size_t length;
     int argument;
 
-    if (argc < 3) {
+    if (argc < 3 || call_of(argv[1]) == NULL) {
         fputs("usage: main build|guard|session FILE [DOCUMENT..]\n", stderr);
         return HARDIEFLAX_USAGE;
     }
     input = whole(argv[2], &length);
     if (input == NULL)
         return EXIT_FAILURE;
-    if (strcmp(argv[1], "guard") == 0)
-        status = hardieflax_guard(&handle, input, length);
-    else if (strcmp(argv[1], "session") == 0)
-        status = hardieflax_open(&handle, input, length);
-    else
-        status = hardieflax_build(&handle, input, length);
+    status = show(call_of(argv[1])(&handle, input, length), &handle);
     free(input);
-    status = show(status, &handle);
 
     /* Each further argument is a document that declares no table, for the session. */
     for (argument = 3; status == HARDIEFLAX_DONE && argument < argc; argument++) {
@@ -71,5 +76,7 @@ int main(int argc, char **argv) {
         status = show(hardieflax_next(&handle, (const uint8_t *)document, strlen(document)), &handle);
     }
     hardieflax_free(&handle);
+    if (fflush(stdout) != 0 && status == HARDIEFLAX_DONE)
+        return EXIT_FAILURE;
     return (int)status;
 }
