@@ -11,7 +11,7 @@ tab=$(printf '\t')
 while IFS="$tab" read -r is_one query; do
     case $is_one in '#'*) continue ;; esac
     printf '%s%s}]}' "$head" "$query" >"$work/document"
-    "$top/sql_tool" build <"$work/document" >"$work/out" 2>"$work/err"
+    "$top/sql_tool" --no-build build <"$work/document" >"$work/out" 2>"$work/err"
     case $?,$(wc -l <"$work/out") in
         0,1) found=yes ;;
         3,0) found=no ;;

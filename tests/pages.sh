@@ -4,7 +4,7 @@
 # built program. Ends with 'N passed, M failed'.
 command -v python3 >/dev/null || { echo "skipped: no python3"; exit 0; }
 top=$(cd "$(dirname "$0")/.." && pwd) || exit 1
-[ -x "$top/crates/sql_tool/out/sql_tool" ] || { echo "the program is not built: run ./sql_tool build < examples/filter.json first"; exit 1; }
+"$top/sql_tool" --no-build build <"$top/examples/filter.json" >/dev/null || exit 1
 export PYTHONUTF8=1 PYTHONDONTWRITEBYTECODE=1
 exec python3 - "$top" <<'END'
 import json, pathlib, re, subprocess, sys
@@ -74,7 +74,7 @@ for page in PAGES:
         for command, shown in re.findall(r"^\$ (.*)\n((?:[^$].*\n)*)", block, re.M):
             run = subprocess.run(["sh", "-c", command], cwd=top, capture_output=True, text=True, stdin=subprocess.DEVNULL)
             expect(page, f"{command} prints {run.stdout!r}", run.stdout == shown)
-line = subprocess.run([top / "sql_tool", "build"], input=(top / "examples/filter.json").read_bytes(), capture_output=True).stdout.decode()
+line = subprocess.run([top / "sql_tool", "--no-build", "build"], input=(top / "examples/filter.json").read_bytes(), capture_output=True).stdout.decode()
 folded = "".join(each.lstrip() for each in fences(top / "README.md", "json")[0].split("\n"))
 expect(top / "README.md", f"examples/filter.json gives {line}", folded == line.rstrip("\n"))
 
@@ -101,7 +101,7 @@ for name, section in re.findall(r"^## \d+\. (\w+)\n(.*?)(?=^## |\Z)", rules.read
         names.append((name, what))
         requests.append({"dialect": dialect or "Pg", "query": json.loads(query)})
 document = json.dumps({"schema": schema, "requests": requests})
-answers = subprocess.run([top / "sql_tool", "build"], input=document.encode(), capture_output=True).stdout.decode().split("\n")[:-1]
+answers = subprocess.run([top / "sql_tool", "--no-build", "build"], input=document.encode(), capture_output=True).stdout.decode().split("\n")[:-1]
 expect(rules, "as many answers as queries", len(answers) == len(names))
 for (name, what), answer in zip(names, answers):
     refused = json.loads(answer).get("refused")
@@ -112,7 +112,7 @@ expect(rules, "a query that breaks each rule but the last, and one that mends it
 
 
 def lines_of(words, document):
-    run = subprocess.run([top / "sql_tool", *words], input=json.dumps(document).encode(), capture_output=True)
+    run = subprocess.run([top / "sql_tool", "--no-build", *words], input=json.dumps(document).encode(), capture_output=True)
     return [json.loads(line) for line in run.stdout.decode().split("\n")[:-1]]
 
 
