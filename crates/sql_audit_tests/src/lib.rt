@@ -4,6 +4,8 @@
 #![tactic(auto)]
 
 #[cfg(test)]
+mod every_call;
+#[cfg(test)]
 mod long;
 #[cfg(test)]
 mod reports;

@@ -5,6 +5,7 @@ mod builders;
 mod declarations;
 mod leaves;
 mod raw;
+mod walked;
 
 use std::test::Fail;
 
@@ -13,6 +14,7 @@ fn every_call_once(rt: HostRuntime) -> Result<(), Fail> {
     let alloc = rt.alloc();
     declarations::every_call(alloc)?;
     builders::every_call(alloc)?;
+    walked::every_call(alloc)?;
     raw::every_call(alloc)?;
     leaves::every_call(alloc)
 }

@@ -1,10 +1,10 @@
 //! Query builders, collectors, values and the parts of `sql_pass`.
 
 use sql_dialect::{Backend, Bracket, Dialect, Mysql, Pg, QueryBuilder, Sqlite, quote_name};
-use sql_fixture::{INTEGER, column, is, reads, table, text, text_in, writes};
+use sql_fixture::{INTEGER, column, is, reads, table, text, writes};
 use sql_pass::{
-    AstPass, BindCollector, Bound, BoundRef, Identifier, InfixNode, OnKeyword, ParenthesisWrapper,
-    QueryFragment, RawBytesBindCollector, ToSql, Value, debug_binds, push_dotted, push_side_open,
+    BindCollector, Bound, BoundRef, Identifier, InfixNode, OnKeyword, ParenthesisWrapper,
+    QueryFragment, RawBytesBindCollector, ToSql, Value, debug_binds,
 };
 use std::alloc::Global;
 use std::test::Fail;
@@ -15,7 +15,6 @@ pub fn every_call(alloc: Global) -> Result<(), Fail> {
     pushes(alloc, &Sqlite, "a `b`??")?;
     pushes(alloc, &Bracket, "a [b]@p1@p3")?;
     reads(quote_name(alloc, Dialect::Bracket, "a]b")?, "[a]]b]")?;
-    walked(alloc)?;
     numbers(alloc)?;
     texts(alloc)?;
     values(alloc)?;
@@ -32,19 +31,6 @@ fn pushes<DB: Backend>(alloc: Global, backend: &DB, wanted: &str) -> Result<(), 
     builder.push_bind_param_value_only()?;
     builder.push_bind_param()?;
     reads(builder.finish(), wanted)
-}
-
-fn walked(alloc: Global) -> Result<(), Fail> {
-    let mut pass = AstPass::to_sql(Pg.query_builder(alloc), Pg);
-    let value = Value::Integer(1);
-    push_side_open(&mut pass)?;
-    pass.push_sql("a ")?;
-    pass.push_identifier("b")?;
-    push_dotted("c", &mut pass)?;
-    pass.push_sql(" ")?;
-    pass.push_bind_param(BoundRef::Value(INTEGER, &value))?;
-    pass.push_bind_param_value_only(BoundRef::Value(INTEGER, &value))?;
-    reads(text_in(pass)?, "(a \"b\".\"c\" $1")
 }
 
 fn numbers(alloc: Global) -> Result<(), Fail> {

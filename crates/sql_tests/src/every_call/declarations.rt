@@ -1,7 +1,9 @@
 //! Declarations, schemas, tables, columns and thin types.
 
 use sql_fixture::{column, column_decl, is, schema, table, table_decl, text};
-use sql_schema::{SchemaBuilder, SqlBytes};
+use sql_schema::{
+    Column, ColumnDecl, JoinableDecl, SchemaBuilder, SqlBytes, SqlText, Table, TableDecl,
+};
 use std::alloc::Global;
 use std::test::Fail;
 
@@ -13,28 +15,24 @@ pub fn every_call(alloc: Global) -> Result<(), Fail> {
 }
 
 fn thin_types(alloc: Global) -> Result<(), Fail> {
-    is(
-        text(alloc, "a")?.try_clone(alloc)?.as_str() == "a",
-        "a text's copy",
-    )?;
+    let copy = SqlText::try_clone(&text(alloc, "a")?, alloc)?;
+    is(copy.as_str() == "a", "a text's copy")?;
     let bytes = SqlBytes::from(vec![in alloc; 7u8]?);
-    is(bytes.try_clone(alloc)? == bytes, "bytes' copy")
+    is(SqlBytes::try_clone(&bytes, alloc)? == bytes, "bytes' copy")
 }
 
 fn copies(alloc: Global) -> Result<(), Fail> {
-    let id = column_decl(alloc, "id")?.try_clone(alloc)?;
+    let id = ColumnDecl::try_clone(&column_decl(alloc, "id")?, alloc)?;
     is(id.name.as_str() == "id", "a declared column's copy")?;
-    let users = table_decl(alloc, "users", "name")?.try_clone(alloc)?;
+    let users = TableDecl::try_clone(&table_decl(alloc, "users", "name")?, alloc)?;
     is(
         users.columns.as_slice().len() == 2,
         "a declared table's copy",
     )?;
     let schema = schema(alloc)?;
     let relation = schema.joinables().first().ok_or("no relation")?;
-    is(
-        relation.try_clone(alloc)?.key.as_str() == "user_id",
-        "a relation's copy",
-    )
+    let relation = JoinableDecl::try_clone(relation, alloc)?;
+    is(relation.key.as_str() == "user_id", "a relation's copy")
 }
 
 fn built(alloc: Global) -> Result<(), Fail> {
@@ -52,9 +50,12 @@ fn built(alloc: Global) -> Result<(), Fail> {
 
 fn columns(alloc: Global) -> Result<(), Fail> {
     let users = table(alloc, "users")?;
-    is(users.try_clone(alloc)?.name() == "users", "a table's copy")?;
+    is(
+        Table::try_clone(&users, alloc)?.name() == "users",
+        "a table's copy",
+    )?;
     is(users.all_columns(alloc)?.len() == 2, "all columns")?;
     is(users.column(alloc, "none")?.is_none(), "no column")?;
-    let name = column(alloc, "users", "name")?;
-    is(name.try_clone(alloc)?.name() == "name", "a column's copy")
+    let name = Column::try_clone(&column(alloc, "users", "name")?, alloc)?;
+    is(name.name() == "name", "a column's copy")
 }

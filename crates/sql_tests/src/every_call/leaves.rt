@@ -1,6 +1,6 @@
 //! The nodes that hold no expression.
 
-use sql_fixture::{column, is, table, text, writes};
+use sql_fixture::{column, copies, is, table, text, writes};
 use sql_leaf::{
     Alias, AliasedField, BoxedLimitOffset, Direction, JoinKind, LimitOffsetClause, LockMode,
     LockingClause, Marks, Modifier, OrderColumn, PositionalItem, TableSource, Tablesample,
@@ -22,12 +22,12 @@ fn aliases(alloc: Global) -> Result<(), Fail> {
         name: text(alloc, "u")?,
         table: table(alloc, "users")?,
     };
-    writes(alloc, alias.try_clone(alloc)?, "\"users\" AS \"u\"")?;
+    copies(alloc, alias, Alias::try_clone, "\"users\" AS \"u\"")?;
     let field = AliasedField {
         alias: text(alloc, "u")?,
         column: column(alloc, "users", "id")?,
     };
-    writes(alloc, field.try_clone(alloc)?, "\"u\".\"id\"")
+    copies(alloc, field, AliasedField::try_clone, "\"u\".\"id\"")
 }
 
 fn rows(alloc: Global) -> Result<(), Fail> {
@@ -35,27 +35,41 @@ fn rows(alloc: Global) -> Result<(), Fail> {
         limit_clause: Some(1),
         offset_clause: Some(2),
     };
-    writes(alloc, rows.try_clone(alloc)?, " LIMIT $1 OFFSET $2")?;
-    let boxed = BoxedLimitOffset(rows);
-    writes(alloc, boxed.try_clone(alloc)?, " LIMIT $1 OFFSET $2")
+    copies(
+        alloc,
+        rows,
+        LimitOffsetClause::try_clone,
+        " LIMIT $1 OFFSET $2",
+    )?;
+    copies(
+        alloc,
+        BoxedLimitOffset(rows),
+        BoxedLimitOffset::try_clone,
+        " LIMIT $1 OFFSET $2",
+    )
 }
 
 fn locks(alloc: Global) -> Result<(), Fail> {
-    writes(alloc, LockMode::ForShare.try_clone(alloc)?, " FOR SHARE")?;
-    writes(alloc, Modifier::NoWait.try_clone(alloc)?, " NOWAIT")?;
+    copies(alloc, LockMode::ForShare, LockMode::try_clone, " FOR SHARE")?;
+    copies(alloc, Modifier::NoWait, Modifier::try_clone, " NOWAIT")?;
     let lock = LockingClause::LockingClause(LockMode::ForShare, Modifier::SkipLocked);
-    writes(alloc, lock.try_clone(alloc)?, " FOR SHARE SKIP LOCKED")?;
-    writes(alloc, Marks::none().try_clone(alloc)?, "")
+    copies(
+        alloc,
+        lock,
+        LockingClause::try_clone,
+        " FOR SHARE SKIP LOCKED",
+    )?;
+    copies(alloc, Marks::none(), Marks::try_clone, "")
 }
 
 fn places(alloc: Global) -> Result<(), Fail> {
-    writes(alloc, Direction::Desc.try_clone(alloc)?, " DESC")?;
-    writes(alloc, OrderColumn(2).try_clone(alloc)?, "2")?;
+    copies(alloc, Direction::Desc, Direction::try_clone, " DESC")?;
+    copies(alloc, OrderColumn(2), OrderColumn::try_clone, "2")?;
     let item = PositionalItem {
         column: OrderColumn(2),
         direction: Direction::Asc,
     };
-    writes(alloc, item.try_clone(alloc)?, "2 ASC")
+    copies(alloc, item, PositionalItem::try_clone, "2 ASC")
 }
 
 fn tables(alloc: Global) -> Result<(), Fail> {
@@ -64,19 +78,20 @@ fn tables(alloc: Global) -> Result<(), Fail> {
         portion: 10,
         seed: Some(3),
     };
-    writes(
+    copies(
         alloc,
-        sample.try_clone(alloc)?,
+        sample,
+        Tablesample::try_clone,
         " TABLESAMPLE SYSTEM($1) REPEATABLE($2)",
     )?;
-    let method = sample.method.try_clone(alloc)?;
+    let method = TablesampleMethod::try_clone(&sample.method, alloc)?;
     is(method == TablesampleMethod::SystemMethod, "the method")?;
-    writes(alloc, JoinKind::Inner.try_clone(alloc)?, " INNER")?;
+    copies(alloc, JoinKind::Inner, JoinKind::try_clone, " INNER")?;
     writes(alloc, JoinKind::LeftOuter, " LEFT OUTER")?;
     let source = TableSource {
         table: table(alloc, "users")?,
         only: true,
         sample: None,
     };
-    writes(alloc, source.try_clone(alloc)?, " ONLY \"users\"")
+    copies(alloc, source, TableSource::try_clone, " ONLY \"users\"")
 }

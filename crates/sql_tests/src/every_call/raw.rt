@@ -3,16 +3,17 @@
 use sql_dialect::{Backend, Pg, QueryBuilder};
 use sql_fixture::{reads, writes};
 use sql_pass::ToSql;
-use sql_raw::{Empty, SqlQuery, debug_query, sql_query};
+use sql_raw::{BoxedSqlQuery, Empty, SqlQuery, debug_query, sql_query};
 use std::alloc::{AllocError, Global};
 use std::test::Fail;
 
 pub fn every_call(alloc: Global) -> Result<(), Fail> {
     writes(alloc, Empty, "")?;
-    writes(alloc, raw(alloc)?.sql(" + 1")?, "SELECT $1 + 1")?;
+    writes(alloc, SqlQuery::sql(raw(alloc)?, " + 1")?, "SELECT $1 + 1")?;
     writes(alloc, raw(alloc)?.bind(1i32.bound(alloc)?), "SELECT $1")?;
-    let boxed = raw(alloc)?.into_boxed::<Pg>(alloc).sql(" + 1")?;
-    writes(alloc, boxed.bind(1i32.bound(alloc)?)?, "SELECT $1 + 1")?;
+    let boxed = BoxedSqlQuery::sql(raw(alloc)?.into_boxed::<Pg>(alloc), " + 1")?;
+    let boxed = BoxedSqlQuery::bind(boxed, 1i32.bound(alloc)?)?;
+    writes(alloc, boxed, "SELECT $1 + 1")?;
     shown(alloc)
 }
 
