@@ -75,6 +75,17 @@ TXT
 "$top/sql_tool" generate 24 <&- >"$work/out" 2>"$work/err"
 got=$?
 check 'generated requests' writes "$work/line"
+# The same 24 statements come again and again, with other numbers: 100000 requests are 4166 times these 24 and then the first 16, of which
+# 13 are accepted, with 11 values and 1120 bytes, the last with 58 bytes and one value, and three need nullable. No more are taken.
+while read -r many line; do
+    echo "$line" >"$work/line"
+    run generate "$many" </dev/null
+    check "$many generated requests" writes "$work/line"
+done <<'TXT'
+0 {"accepted":0,"binds":0,"bytes":0,"ids":0,"refused":{},"requests":0}
+99999 {"accepted":79166,"binds":54168,"bytes":7720660,"ids":13,"refused":{"NeedsNullable":12501,"Unsupported":8332},"requests":99999}
+100000 {"accepted":79167,"binds":54169,"bytes":7720718,"ids":13,"refused":{"NeedsNullable":12501,"Unsupported":8332},"requests":100000}
+TXT
 "$top/sql_tool" generate 24 </dev/null >&- 2>"$work/err"
 got=$?
 check 'generated requests, closed output' ended 5 WriteFault
@@ -110,6 +121,37 @@ awk 'BEGIN {
         print "{\"binds\":[],\"columns\":[\"Integer\"],\"id\":1,\"safe\":true,\"sql\":\"SELECT \\\"foo\\\".\\\"id\\\" FROM \\\"foo\\\"\"}" }' >"$work/line"
 run build <"$work/many"
 check '2000 requests' writes "$work/line"
+# A table of 70 columns, more than are looked up in the cache, which keeps 256 answers: the whole table; 300 shapes, each twice, with other
+# values; then all that again. An id is the number of the first request of the shape.
+awk 'BEGIN {
+    printf "{\"schema\":{\"tables\":[{\"name\":\"wide\",\"primary_key\":[\"c0\"],\"columns\":["
+    for (i = 0; i < 70; i++) printf "%s{\"name\":\"c%d\",\"type\":\"Integer\"}", i ? "," : "", i
+    printf "]}]},\"requests\":["
+    for (round = 0; round < 2; round++) {
+        printf "%s{\"dialect\":\"Pg\",\"query\":{\"from\":{\"table\":\"wide\"}}}", round ? "," : ""
+        for (i = 0; i < 600; i++) {
+            column = sprintf("{\"col\":[\"wide\",\"c%d\"]}", int(i / 2) % 20)
+            other = sprintf("{\"col\":[\"wide\",\"c%d\"]}", int(i / 40))
+            printf ",{\"dialect\":\"Pg\",\"query\":{\"from\":{\"table\":\"wide\"},\"calls\":[[\"select\",%s],", column
+            printf "[\"filter\",{\"eq\":[%s,{\"bind\":[\"Integer\",%d]}]}]]}}", other, 600 * round + i
+        }
+    }
+    print "]}" }' >"$work/shapes"
+awk 'BEGIN {
+    for (i = 0; i < 70; i++) {
+        all = all (i ? ", " : "") sprintf("\\\"wide\\\".\\\"c%d\\\"", i)
+        types = types (i ? "," : "") "\"Integer\""
+    }
+    for (round = 0; round < 2; round++) {
+        printf "{\"binds\":[],\"columns\":[%s],\"id\":1,\"safe\":true,\"sql\":\"SELECT %s FROM \\\"wide\\\"\"}\n", types, all
+        for (i = 0; i < 600; i++) {
+            printf "{\"binds\":[[\"Integer\",%d]],\"columns\":[\"Integer\"],\"id\":%d,\"safe\":true,", 600 * round + i, 2 + i - i % 2
+            printf "\"sql\":\"SELECT \\\"wide\\\".\\\"c%d\\\" FROM \\\"wide\\\" ", int(i / 2) % 20
+            printf "WHERE (\\\"wide\\\".\\\"c%d\\\" = $1)\"}\n", int(i / 40)
+        }
+    } }' >"$work/line"
+run build <"$work/shapes"
+check '300 shapes and a wide table' writes "$work/line"
 printf '{"schema":{"tables":[]},"requests":[]}' >"$work/none"
 run build <"$work/none"
 check 'no requests' is_empty 0 ''

@@ -1,6 +1,8 @@
 //! Each public call that tells something of a statement, made once with memory to spare: keys, views, places, types, rules, and what
 //! `compile` gives.
 
+mod flat;
+
 use sql_call_tests::fixture::{id, ids, one};
 use sql_check::{broken, compile};
 use sql_dialect::Pg;
@@ -27,7 +29,8 @@ fn every_call_once(rt: HostRuntime) -> Result<(), Fail> {
     types(alloc)?;
     verdicts(alloc)?;
     sound_types(alloc)?;
-    cached(alloc)
+    cached(alloc)?;
+    flat::every_call(alloc)
 }
 
 fn key(alloc: Global) -> Result<Option<QueryKey>, Fail> {

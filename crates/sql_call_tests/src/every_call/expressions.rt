@@ -1,9 +1,7 @@
 //! The calls that make expressions.
 
 use crate::fixture::{id, ids, one};
-use sql_expr::{
-    Expr, ExpressionMethods, InValues, WhereAnd, WhereClause, WhereOr, count, exists, not, value,
-};
+use sql_expr::{Expr, ExpressionMethods, InValues, count, exists, not, value};
 use sql_fixture::{INTEGER, beside, gives, writes};
 use sql_pass::Value;
 use sql_schema::SqlList;
@@ -15,8 +13,7 @@ pub fn every_call(alloc: Global) -> Result<(), Fail> {
     comparisons(alloc)?;
     tests(alloc)?;
     memberships(alloc)?;
-    calls(alloc)?;
-    conditions(alloc)
+    calls(alloc)
 }
 
 fn operands(alloc: Global) -> Result<(Expr, Expr), Fail> {
@@ -87,13 +84,4 @@ fn calls(alloc: Global) -> Result<(), Fail> {
         exists(alloc, ids(alloc)?.into_statement()),
         "EXISTS (SELECT \"users\".\"id\" FROM \"users\")",
     )
-}
-
-fn conditions(alloc: Global) -> Result<(), Fail> {
-    let (left, right) = operands(alloc)?;
-    let both = WhereClause::WhereClause(left).and(alloc, right)?;
-    writes(alloc, both, " WHERE (\"users\".\"id\" AND $1)")?;
-    let (left, right) = operands(alloc)?;
-    let either = WhereClause::WhereClause(left).or(alloc, right)?;
-    writes(alloc, either, " WHERE (\"users\".\"id\" OR $1)")
 }

@@ -167,7 +167,7 @@ fn joins_of_boxed(alloc: Global) -> Result<(), Fail> {
 fn selections(alloc: Global) -> Result<(), Fail> {
     gives(
         alloc,
-        ids(alloc)?.nullable(alloc),
+        QueryDsl::nullable(ids(alloc)?, alloc),
         "SELECT \"users\".\"id\" FROM \"users\"",
     )?;
     gives(

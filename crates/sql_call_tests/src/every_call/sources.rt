@@ -27,9 +27,10 @@ fn aliases(alloc: Global) -> Result<(), Fail> {
         "\"u\".\"id\"",
     )?;
     gives(alloc, alias.fields(alloc, id(alloc)?), "\"u\".\"id\"")?;
+    let id = column(alloc, "users", "id")?;
     gives(
         alloc,
-        Origin::of_alias(&alias).column(alloc, column(alloc, "users", "id")?),
+        Origin::column(Origin::of_alias(&alias), alloc, id),
         "\"u\".\"id\"",
     )
 }
