@@ -2,6 +2,8 @@
 #![tactic(auto)]
 
 #[cfg(test)]
+mod every_call;
+#[cfg(test)]
 mod fixture;
 #[cfg(test)]
 mod refused;
