@@ -1,10 +1,11 @@
 #!/bin/sh
 # Fails each allocation of a run in turn, and then each from there on. The run has to end as it does when none fails, or with NoMemory
 # (the program: status 6) and a prefix of that output. By hand, with a C compiler; it takes minutes.
-#   tests/faults.sh crates/sql_tool/out/sql_tool [crates/sql_tool/out/sql_tool_tests crates/sql_tests/out/sql_tests_tests ..]
-# The program answers three documents and a text of `examples/`, and generates requests; of the tests, as `rt test` builds them,
-# `every_call_once` is run, and where a crate has it `the_same_call_again`.
-[ $# -ge 1 ] || { sed -n '2,6s/^# *//p' "$0"; exit 2; }
+#   tests/faults.sh crates/sql_tool/out/sql_tool [crates/sql_tests/out/sql_tests_tests ..]
+# The program answers three documents and a text of `examples/`, audits and guards, and generates requests. Of the tests, as `rt test`
+# builds them, `every_call_once` is run, and where a crate has it `the_same_call_again`. Where none is named, those of all crates are
+# taken, and it says which are not built. (tests/calls.py tells that each public call that can answer NoMemory is in one of them.)
+[ $# -ge 1 ] || { sed -n '2,7s/^# *//p' "$0"; exit 2; }
 command -v cc >/dev/null || { echo "skipped: no C compiler"; exit 0; }
 top=$(cd "$(dirname "$0")/.." && pwd) || exit 1
 work=$(mktemp -d) || exit 1
@@ -50,6 +51,13 @@ each() {
 
 program=$1
 shift
+if [ $# = 0 ]; then
+    for file in "$top"/crates/*/src/every_call.rt; do
+        crate=${file%/src/every_call.rt}
+        tests=$crate/out/${crate##*/}_tests
+        if [ -x "$tests" ]; then set -- "$@" "$tests"; else echo "skipped ${crate##*/}: rt test builds its tests"; fi
+    done
+fi
 for document in filter exists requests; do
     each "$document" 6 "$top/examples/$document.json" "$program" build
 done
