@@ -163,6 +163,9 @@ check 'a large input' is_empty 7 TooLarge
 head -c 16777216 "$work/large" >"$work/full"
 run build <"$work/full"
 check 'the largest input' is_empty 3 BadDocument
+{ cat "$work/none" && head -c 16777178 "$work/large"; } >"$work/full"
+run build <"$work/full"
+check 'the largest document' is_empty 0 ''
 run read Pg <"$work/large"
 check 'a large text' is_empty 7 TooLarge
 # nested COUNT: a text with so many brackets, one in another

@@ -1,6 +1,6 @@
 //! Sessions: what each call answers, and which of them leave a session as it was.
 
-use crate::answers::padded;
+use crate::answers::too_large;
 use crate::examples::{FILTER, FILTERED, MORE, MORE_LINES, READ, TEXT};
 use sql_embed::{Command, Dialect, Responder, Status};
 use sql_fixture::is;
@@ -49,7 +49,7 @@ fn all_calls(alloc: Global, responder: &mut Responder) -> Result<(), Fail> {
     // No document, one that declares a table, and one of 16777217 bytes.
     is_refused(alloc, responder, b"{", Status::BadDocument)?;
     is_refused(alloc, responder, FILTER.as_bytes(), Status::BadDocument)?;
-    let large = padded(alloc, 16777179)?;
+    let large = too_large(alloc)?;
     is_refused(alloc, responder, large.as_slice(), Status::TooLarge)?;
     reads(alloc, responder)?;
     goes_on(alloc, responder)

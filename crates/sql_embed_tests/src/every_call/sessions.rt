@@ -34,9 +34,10 @@ fn answered(alloc: Global) -> Result<(), Fail> {
 fn opened(alloc: Global, more: &[Request]) -> Result<(), Fail> {
     match Session::open(alloc, FILTER.as_bytes()) {
         Ok((session, lines)) => {
-            let told = going_on(alloc, session, more, MORE_LINES);
-            is(lines.as_slice() == FILTERED.as_bytes(), "the lines")?;
-            told
+            let is_answered = lines.as_slice() == FILTERED.as_bytes();
+            drop(lines);
+            going_on(alloc, session, more, MORE_LINES)?;
+            is(is_answered, "the lines")
         }
         Err(status) => Err(status.name())?,
     }
@@ -52,11 +53,16 @@ fn going_on(alloc: Global, session: Session, more: &[Request], wanted: &str) -> 
     }
 }
 
+fn is_done(status: Status) -> Result<(), Fail> {
+    is(status == Status::Done, status.name())
+}
+
 fn responding(alloc: Global, responder: &mut Responder) -> Result<(), Fail> {
-    let status = Responder::open(responder, alloc, FILTER.as_bytes());
-    is(status == Status::Done, "a session")?;
-    let status = responder.next(alloc, MORE.as_bytes());
-    is(status == Status::Done, "more requests")?;
-    let status = responder.ask(alloc, Command::Read(Dialect::Pg), TEXT.as_bytes());
-    is(status == Status::Done, "a text")
+    is_done(responder.open(alloc, FILTER.as_bytes()))?;
+    is_done(responder.next(alloc, MORE.as_bytes()))?;
+    is(
+        responder.answer().as_slice() == MORE_LINES.as_bytes(),
+        "the lines of more",
+    )?;
+    is_done(responder.ask(alloc, Command::Read(Dialect::Pg), TEXT.as_bytes()))
 }
