@@ -44,7 +44,8 @@ fn of_list(alloc: Global, schema: &Schema, flat: &Flat) -> Result<(), Fail> {
     is(flat_query_id(alloc, flat)?.is_some(), "an id")?;
     let broken = broken_but_the_last(alloc, &Pg, schema, flat)?;
     is(broken.is_empty(), "no rule broken")?;
-    counted::<Brand>(alloc, flat, Blank::new(1))
+    let blank = Blank::new(1);
+    counted::<Brand>(alloc, flat, blank)
 }
 
 /// What is told where the caller counts the steps.
