@@ -58,7 +58,7 @@ fn is_done(status: Status) -> Result<(), Fail> {
 }
 
 fn responding(alloc: Global, responder: &mut Responder) -> Result<(), Fail> {
-    is_done(responder.open(alloc, FILTER.as_bytes()))?;
+    is_done(Responder::open(responder, alloc, FILTER.as_bytes()))?;
     is_done(responder.next(alloc, MORE.as_bytes()))?;
     is(
         responder.answer().as_slice() == MORE_LINES.as_bytes(),
