@@ -27,6 +27,7 @@ each() {
     shift 2
     run "$@" || { echo "FAILED $name, where none is refused"; failed=1; return; }
     count=$(sed -n 's/^allocations=//p' "$work/err")
+    [ "${count:-0}" -gt 0 ] || { echo "FAILED $name: no allocation was seen, so none can be refused"; failed=1; return; }
     cp "$work/out" "$work/whole"
     whole=0
     wanting=0
