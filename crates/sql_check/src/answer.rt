@@ -1,8 +1,9 @@
 //! Text, values, flag and key of a flat statement.
 
-ghost use Rattle.std.specs.Prelude.{◌≡◌, ◌+◌, ◌*◌, ◌≤◌, IfOk, IsErrOf, length};
+ghost use Rattle.std.specs.Prelude.{◌≡◌, ◌+◌, ◌*◌, ◌≤◌, IfOk, IsErrOf, OnOk, length};
 ghost use Rattle.sql_node.specs.Tree.{Statement};
 ghost use Rattle.sql_flat.specs.Flat.{flat_of};
+ghost use Rattle.sql_fused.specs.Steps.{steps_of};
 ghost use Rattle.sql_key.specs.Keys.{id_of};
 ghost use Rattle.sql_rules.specs.Rules.{HasTooManyBinds};
 ghost use Rattle.sql_check.specs.Fused.{IsFused};
@@ -41,7 +42,8 @@ fn key_of(alloc: Global, flat: &Flat) -> Result<Option<QueryKey>, BindError>
 
 /// Text, values, flag and key of the statement of a flat list. Of the nodes Select, Column, From, Table, Where, Compared, Column, Value the
 /// text is `SELECT "users"."id" FROM "users" WHERE ("users"."id" = $1)`, with its one value and its key, and the flag is true. A step is a
-/// turn of the loop that writes; there are at most two a node, and after an error those that were taken stay counted.
+/// turn of the loop that writes; there are at most two a node, and after an error those that were taken stay counted. Here they are twelve:
+/// one for each Column, Table and Value, which are written whole, and two for each other node, which is begun and ended.
 ///
 /// `TooManyBinds` comes exactly where PostgreSQL and Bracket have more placeholders than numbers, 4294967295. `NoMemory` may stand in place
 /// of any answer.
@@ -57,6 +59,10 @@ pub fn fused<DB: Backend, L: Ledger>(
         → ¬ HasTooManyBinds DB.speaks s) }
     ensures many { (s : Statement) → flat.now ≡ flat_of s → IsErrOf result BindError.TooManyBinds
         → HasTooManyBinds DB.speaks s }
+    ensures exact { OnOk result (steps.new ≡ steps.old + steps_of DB.speaks flat.now) }
+    // After an error some of them were taken, or all.
+    ensures counted { (steps.old ≤ steps.new)
+        × (steps.new ≤ steps.old + steps_of DB.speaks flat.now) }
     ensures cost { steps.new ≤ steps.old + 2 * length flat.now }
 {
     let written = write_flat(alloc, backend, flat, steps)?;

@@ -14,7 +14,8 @@ use Rattle.sql_fused.proofs.Reading.{reads-whole}
 use Rattle.sql_fused.proofs.Written.{statement-written}
 use Rattle.sql_fused.specs.inside.Sinks.{Sunk, nothing, poured, Fits, Overflows, Poured, Pours, poured_by}
 use Rattle.sql_fused.specs.inside.Turns.{end_of, reads, told_from}
-use Rattle.sql_fused.specs.inside.Writing.{after, before, between, comma, is_list, kind_of, whole}
+use Rattle.sql_fused.specs.inside.Writing.{after, before, between, comma, is_list, whole}
+use Rattle.sql_fused.specs.Steps.{kind_of}
 
 flat-told : (d : Dialect) (s : Statement) (nodes : List FlatNode) → nodes ≡ flat_of s → told_from d [] true 0 nodes
     ≡ pieces d s

@@ -1,3 +1,4 @@
+pub mod Counting
 pub mod Framing
 pub mod Fusing
 pub mod Keeping

@@ -7,7 +7,8 @@ use Rattle.sql_flat.specs.Flat.{flat_node}
 use Rattle.sql_flat.specs.declared.kind.FlatKind.{FlatKind}
 use Rattle.sql_flat.specs.declared.kind.FlatNode.{FlatNode}
 use Rattle.sql_fused.specs.inside.Turns.{reads}
-use Rattle.sql_fused.specs.inside.Writing.{ends_in_values, is_values, kind_of, kinds, kinds_of, whole, whole_of}
+use Rattle.sql_fused.specs.inside.Writing.{kinds, kinds_of, whole, whole_of}
+use Rattle.sql_fused.specs.Steps.{ends_in_values, is_values, kind_of}
 
 -- ---- the last of a list
 

@@ -15,7 +15,8 @@ use Rattle.sql_flat.specs.declared.kind.FlatNode.{FlatNode}
 use Rattle.sql_fused.proofs.Pouring.{poured-append, poured-none, overflows-left}
 use Rattle.sql_fused.specs.inside.Sinks.{Sunk, poured, Fits, Overflows, Poured, Pours, pours, poured_by}
 use Rattle.sql_fused.specs.inside.Turns.{Frames, closed_first, closing, end_of, has_ended, leading, led_first, onward, opened, opened_first, opened_index, opening, outer, parting, reads, told_after, told_from, with_child}
-use Rattle.sql_fused.specs.inside.Writing.{after, before, between, comma, is_list, kind_of}
+use Rattle.sql_fused.specs.inside.Writing.{after, before, between, comma, is_list}
+use Rattle.sql_fused.specs.Steps.{kind_of}
 
 module _ (d : Dialect) where
   -- ---- the innermost node is closed

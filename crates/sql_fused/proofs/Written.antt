@@ -19,7 +19,8 @@ use Rattle.sql_node.specs.Tree.{Form, unboxed, boxed, Expr, column, value, list,
 use Rattle.sql_rose.specs.Rose.{Rose, Roses, node, none, more, leaf, one as one_rose, two, roses_of}
 use Rattle.sql_loops.specs.Told.{still, stills, still_by, told, told_elements, told_kids, parted}
 use Rattle.sql_flat.specs.Flat.{expr_rose, exprs_roses, items_roses, maybe_roses, source_rose, from_roses, order_roses, rose, form_of, comparison_of, logic_of}
-use Rattle.sql_fused.specs.inside.Writing.{among_open, among_whole, ends_in_values, whole, kinds, kinds_of, is_list, before, between, after, comma, values_in, comparison_word, logic_word, behind_select}
+use Rattle.sql_fused.specs.inside.Writing.{among_open, among_whole, whole, kinds, kinds_of, is_list, before, between, after, comma, values_in, comparison_word, logic_word, behind_select}
+use Rattle.sql_fused.specs.Steps.{ends_in_values}
 use Rattle.sql_flat.specs.declared.kind.FlatKind.{FlatKind}
 use Rattle.sql_flat.specs.declared.kind.Selecting.{Selecting}
 use Rattle.sql_flat.specs.declared.kind.Uniqueness.TheVariants as unique

@@ -1,9 +1,10 @@
-ghost use Rattle.std.specs.Prelude.{◌≡◌, ◌+◌, ◌*◌, ◌<◌, ◌≤◌, IfOk, IsErr, IsErrOf, IsTrue, length};
+ghost use Rattle.std.specs.Prelude.{◌≡◌, ◌+◌, ◌*◌, ◌<◌, ◌≤◌, IfOk, IsErr, IsErrOf, IsTrue, OnOk, length};
 ghost use Rattle.sql_dialect.specs.Written.{numbers, MAX_BINDS};
 ghost use Rattle.sql_pass.specs.Pieces.{is_safe, text_of, values_of};
 ghost use Rattle.sql_node.specs.Pieces.{pieces};
 ghost use Rattle.sql_node.specs.Tree.{Statement};
 ghost use Rattle.sql_flat.specs.Flat.{flat_of};
+ghost use Rattle.sql_fused.specs.Steps.{steps_of};
 
 use crate::Steps;
 use crate::place::write;
@@ -28,7 +29,8 @@ pub struct Fused {
 
 /// Writes the text of a flat statement for the backend, gathers its values and finds its flag, all in one loop over its nodes that takes
 /// at most two steps a node. Of the nodes Select, Column, From, Table, Where, Compared, Column, Value the text is
-/// `SELECT "users"."id" FROM "users" WHERE ("users"."id" = $1)`, with the one value, and the flag is true.
+/// `SELECT "users"."id" FROM "users" WHERE ("users"."id" = $1)`, with the one value, and the flag is true. That takes twelve steps: one for
+/// each Column, Table and Value, which are written whole, and two for each other node, which is begun and ended.
 ///
 /// `TooManyBinds` only where the dialect numbers its placeholders and there are more values than numbers. `NoMemory` may stand in place
 /// of any answer.
@@ -45,6 +47,10 @@ pub fn write_flat<DB: Backend, L: Ledger>(
         → IfOk result (λ f. f.binds ≡ values_of (pieces DB.speaks s)) }
     ensures safe { (s : Statement) → flat.now ≡ flat_of s
         → IfOk result (λ f. f.safe ≡ is_safe (pieces DB.speaks s)) }
+    ensures exact { OnOk result (steps.new ≡ steps.old + steps_of DB.speaks flat.now) }
+    // After an error some of them were taken, or all.
+    ensures counted { (steps.old ≤ steps.new)
+        × (steps.new ≤ steps.old + steps_of DB.speaks flat.now) }
     // This holds after an error too.
     ensures cost { steps.new ≤ steps.old + 2 * length flat.now }
     // Placeholders run out only where there are more than a dialect that numbers them has numbers.

@@ -5,7 +5,8 @@ ghost use Rattle.std.specs.Prelude.{◌≡◌, [], ◌++◌, ◌+◌, ◌-◌, �
 ghost use Rattle.std.specs.List.{sum_by};
 ghost use Rattle.sql_fused.specs.inside.Sinks.{Pours, sunk};
 ghost use Rattle.sql_fused.specs.inside.Turns.{closed_first, closing, frames, has_ended, leading, led_first, onward as next_index, opened, opened_first, opened_index, opening, outer, parting, told_from, with_child};
-ghost use Rattle.sql_fused.specs.inside.Writing.{is_list as writes_nothing, kind_of, before, whole_of};
+ghost use Rattle.sql_fused.specs.inside.Writing.{is_list as writes_nothing, before, whole_of};
+ghost use Rattle.sql_fused.specs.Steps.{kind_of, steps_of};
 
 use crate::Steps;
 use crate::sink::Sink;
@@ -301,7 +302,8 @@ fn below(nodes: &[FlatNode], index: usize, end: usize) -> &[FlatNode]
     &after[..count]
 }
 
-/// Appends what is written of the nodes, in at most two steps a node.
+/// Appends what is written of the nodes. Each turn is a step: a node that is written whole takes one, any other two, and those below one
+/// that is written whole none.
 pub(crate) fn write<DB: Backend, L: Ledger>(
     alloc: Global,
     nodes: &[FlatNode],
@@ -311,6 +313,9 @@ pub(crate) fn write<DB: Backend, L: Ledger>(
     ensures text { Pours DB.speaks (sunk DB.QueryBuilder.text DB.QueryBuilder.count sink.old)
         (told_from DB.speaks [] true 0 nodes.now) result
         (sunk DB.QueryBuilder.text DB.QueryBuilder.count sink.new) }
+    ensures exact { OnOk result (steps.new ≡ steps.old + steps_of DB.speaks nodes.now) }
+    ensures counted { (steps.old ≤ steps.new)
+        × (steps.new ≤ steps.old + steps_of DB.speaks nodes.now) }
     ensures cost { steps.new ≤ steps.old + 2 * length nodes.now }
 {
     let mut place = Place {

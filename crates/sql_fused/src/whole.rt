@@ -11,7 +11,8 @@ ghost use Rattle.sql_leaf.specs.Sources.{alias_pieces};
 ghost use Rattle.sql_node.specs.Pieces.{constant_sql, leaf_pieces};
 ghost use Rattle.sql_flat.specs.declared.kind.FlatKind.{FlatKind as FlatSort};
 ghost use Rattle.sql_fused.specs.inside.Sinks.{Pours, sunk};
-ghost use Rattle.sql_fused.specs.inside.Writing.{among_whole, ends_in_values, if_empty, is_values as is_list_of_values, kind_of, or_none, values_in, values_whole, whole_of};
+ghost use Rattle.sql_fused.specs.inside.Writing.{among_whole, if_empty, or_none, values_in, values_whole, whole_of};
+ghost use Rattle.sql_fused.specs.Steps.{ends_in_values, is_values as is_list_of_values, kind_of};
 
 use crate::sink::Sink;
 use crate::words::array_comparison;

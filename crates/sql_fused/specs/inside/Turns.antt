@@ -6,7 +6,8 @@ use Rattle.sql_loops.specs.Telling.{Frame, tell}
 use Rattle.sql_flat.specs.declared.kind.FlatKind.{FlatKind}
 use Rattle.sql_flat.specs.declared.kind.FlatNode.{FlatNode}
 use Rattle.sql_fused.specs.declared.place.Open.{Open}
-use Rattle.sql_fused.specs.inside.Writing.{after, before, between, comma, is_list, kind_of, whole_of}
+use Rattle.sql_fused.specs.inside.Writing.{after, before, between, comma, is_list, whole_of}
+use Rattle.sql_fused.specs.Steps.{kind_of}
 
 abbrev pub end_of : FlatNode → ℕ
 end_of n = n.end

@@ -21,13 +21,13 @@ use Rattle.sql_flat.specs.declared.kind.Comparison.{Comparison}
 use Rattle.sql_flat.specs.declared.kind.Comparison.TheVariants as comparison
 use Rattle.sql_flat.specs.declared.kind.FlatKind.{FlatKind}
 use Rattle.sql_flat.specs.declared.kind.FlatKind.TheVariants as K
-use Rattle.sql_flat.specs.declared.kind.FlatNode.{FlatNode}
 use Rattle.sql_flat.specs.declared.kind.Form.{Form}
 use Rattle.sql_flat.specs.declared.kind.Form.TheVariants as form
 use Rattle.sql_flat.specs.declared.kind.Logic.{Logic}
 use Rattle.sql_flat.specs.declared.kind.Logic.TheVariants as logic
 use Rattle.sql_flat.specs.declared.kind.Uniqueness.{Uniqueness}
 use Rattle.sql_flat.specs.declared.kind.Uniqueness.TheVariants as unique
+use Rattle.sql_fused.specs.Steps.{ends_in_values}
 
 abbrev pub comparison_word : Comparison → List ℕ
 comparison_word comparison.Eq = comparison_sql w.Eq
@@ -50,9 +50,6 @@ abbrev pub behind_select : Dialect → LimitOffsetClause → Form → List Piece
 behind_select d r (form.Unboxed l) = limit_offset_pieces d false r.limit_clause r.offset_clause ++ locking_pieces l
 behind_select d r (form.Boxed e n) = limit_offset_pieces d true r.limit_clause r.offset_clause
 
-abbrev pub kind_of : FlatNode → FlatKind
-kind_of n = n.kind
-
 abbrev pub or_none : Option (List Piece) → List Piece
 or_none None = []
 or_none (Some ps) = ps
@@ -65,16 +62,6 @@ abbrev pub values_in : List FlatKind → List Value
 values_in [] = []
 values_in (K.Element t v ∷ ks) = v ∷ values_in ks
 values_in (k ∷ ks) = values_in ks
-
-abbrev pub is_values : FlatKind → Bool
-is_values (K.Values t) = true
-is_values k = false
-
--- whether the last is a list of values, which then has none
-abbrev pub ends_in_values : List FlatKind → Bool
-ends_in_values [] = false
-ends_in_values (k ∷ []) = is_values k
-ends_in_values (k ∷ (l ∷ ks)) = ends_in_values (l ∷ ks)
 
 abbrev pub if_empty : Bool → Bool → Option (List Piece)
 if_empty true n = Some (one Unsafe ++ one (Text (constant_sql n)))

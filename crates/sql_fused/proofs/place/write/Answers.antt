@@ -1,9 +1,11 @@
 use Rattle.std.proofs.Common.{◌≡◌, ◌+◌, map, subst, ◌<◌, ◌≤◌, ap, sym, ◌∙◌, arith, drop, length, true, false, [], get_or}
 use Rattle.std.proofs.lemmas.Grind.{common_steps}
+use Rattle.sql_fused.proofs.Counting.{frames-length, none-left, opened-length, own-some, takes}
 use Rattle.sql_fused.proofs.Turning.{begins-is, closes-is, ended, opened-later, opened-within, pours-fits, refused, turned}
 use Rattle.sql_fused.specs.inside.Sinks.{poured, sunk}
 use Rattle.sql_fused.specs.inside.Turns.{frames, has_ended, reads, told_from}
-use Rattle.sql_fused.specs.inside.Writing.{kind_of, whole_of}
+use Rattle.sql_fused.specs.inside.Writing.{whole_of}
+use Rattle.sql_fused.specs.Steps.{kind_of, steps_from}
 use Rattle.sql_fused.proofs.place.write.Goals as goal
 
 pub loop-place-preserved-then-innermost_has_ended : goal.loop-place-preserved-then-innermost_has_ended
@@ -25,6 +27,11 @@ loop-place-preserved-then-innermost_has_ended g c =
       within = grind (arith, common_steps);
       begun = grind (arith, common_steps);
       cost = grind (arith, common_steps);
+      exact =
+          let same = ap (λ i. steps_from d 0 i (drop i nodes)) c.in_ok-close.ensures.index in
+          let some : 0 < length place.«open».items = grind (arith, common_steps) in
+          omega (arith, same, some, c.in_ok-close.ensures.shrinks some, c.loop-place.invariant.exact);
+      since = grind (arith, common_steps);
     }
 
 pub returns-in_err-close-clause-text : goal.returns-in_err-close-clause-text
@@ -36,6 +43,11 @@ returns-in_err-close-clause-text g c =
     let e : has_ended place.index (length nodes) fs ≡ true = grind (arith, common_steps) in
     refused d _ _ _ _ _ _ _ _ _ _ c.loop-place.invariant.told (closes-is d fs place.first place.index nodes e)
     c.in_err-close.ensures.text (grind (arith, common_steps))
+
+pub returns-in_err-close-clause-counted : goal.returns-in_err-close-clause-counted
+returns-in_err-close-clause-counted g c =
+    let some : 0 < length c.loop-place.place.«open».items = grind (arith, common_steps) in
+    (grind (arith, common_steps), omega (arith, some, c.loop-place.invariant.exact))
 
 pub loop-place-preserved : goal.loop-place-preserved
 loop-place-preserved g c =
@@ -67,7 +79,35 @@ loop-place-preserved g c =
       within = within;
       begun = grind (arith, common_steps);
       cost = grind (arith, common_steps);
+      exact =
+          let same = ap (λ i. steps_from d 0 i (drop i nodes)) c.in_ok-begin.ensures.index in
+          let grown = ap length c.in_ok-begin.ensures.frames in
+          omega (
+            arith,
+            same,
+            grown,
+            takes d place.index nodes x o l at is,
+            opened-length o x fs,
+            frames-length place.«open».items,
+            frames-length c.begin.new.self.«open».items,
+            c.loop-place.invariant.exact,
+          );
+      since = grind (arith, common_steps);
     }
+
+pub returns-in_err-begin-clause-counted : goal.returns-in_err-begin-clause-counted
+returns-in_err-begin-clause-counted g c =
+    let d = g.DB.Backend.speaks in
+    let nodes = c.args.nodes.now in
+    let place = c.loop-place.place in
+    let l : place.index < length nodes = grind (arith, common_steps) in
+    let x = c.index-nodes-place.result in
+    let o = whole_of d x.kind (map kind_of c.below-below.result.now) in
+    let at : x ≡ get_or nodes place.index x = grind (arith, common_steps) in
+    let is : o ≡ reads d place.index x (drop (place.index + 1) nodes) =
+    ap (λ ks. whole_of d x.kind (map kind_of ks)) c.below-below.ensures in
+    let took = takes d place.index nodes x o l at is in
+    (grind (arith, common_steps), omega (arith, took, own-some o, c.loop-place.invariant.exact))
 
 pub returns-in_err-begin-clause-text : goal.returns-in_err-begin-clause-text
 returns-in_err-begin-clause-text g c =
@@ -85,6 +125,14 @@ returns-in_err-begin-clause-text g c =
     refused d _ _ _ _ _ _ _ _ _ _ c.loop-place.invariant.told
     (begins-is d fs place.first place.index nodes x o e l at is) c.in_err-begin.ensures.text
     (grind (arith, common_steps))
+
+pub returns-clause-exact : goal.returns-clause-exact
+returns-clause-exact g c =
+    let place = c.loop-place.place in
+    let over : length c.args.nodes.now ≤ place.index = grind (arith, common_steps) in
+    let closed : length place.«open».items ≡ 0 = grind (arith, common_steps) in
+    let none = none-left g.DB.Backend.speaks place.index c.args.nodes.now over in
+    omega (arith, none, closed, c.loop-place.invariant.exact)
 
 pub returns-clause-text : goal.returns-clause-text
 returns-clause-text g c =

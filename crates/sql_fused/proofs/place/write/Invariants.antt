@@ -1,4 +1,5 @@
 use Rattle.std.proofs.Common.{◌≡◌, ◌+◌, ◌-◌, ◌*◌, ◌≤◌, true, drop, length, sum_by, []}
+use Rattle.sql_fused.specs.Steps.{steps_from, steps_of}
 use Rattle.sql_fused.specs.inside.Sinks.{Fits, poured, sunk}
 use Rattle.sql_fused.specs.inside.Turns.{frames, told_from}
 use Rattle.sql_fused.proofs.place.write.Given as goal
@@ -23,4 +24,9 @@ invariant-loop-place g l = record {
   within : l.place.index ≤ length l.nodes;
   begun : sum_by (λ o. o.begun) l.place.«open».items ≤ l.place.index;
   cost : l.steps + length l.place.«open».items ≤ l.initial.steps + 2 * l.place.index;
+  exact :
+      l.steps + length l.place.«open».items
+      + steps_from g.DB.Backend.speaks 0 l.place.index (drop l.place.index l.nodes)
+      ≡ l.initial.steps + steps_of g.DB.Backend.speaks l.nodes;
+  since : l.initial.steps ≤ l.steps;
 }

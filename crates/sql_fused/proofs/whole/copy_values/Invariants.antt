@@ -1,5 +1,6 @@
 use Rattle.std.proofs.Common.{◌≡◌, ◌++◌, drop, map}
-use Rattle.sql_fused.specs.inside.Writing.{kind_of, values_in}
+use Rattle.sql_fused.specs.inside.Writing.{values_in}
+use Rattle.sql_fused.specs.Steps.{kind_of}
 use Rattle.sql_fused.proofs.whole.copy_values.Given as goal
 
 abbrev pub invariant-loop-node : goal.invariant-loop-node
