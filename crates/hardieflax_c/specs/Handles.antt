@@ -2,10 +2,10 @@
 use Rattle.std.specs.Prelude.{◌≡◌, ◌<◌, ◌⊎◌, ◌↔◌, ◌++◌, ℕ, List, Option, Some, None, is_some, length, option_and_then}
 use Rattle.std.specs.Vec.{vec_ptr}
 use Rattle.sql_command.specs.Command.{IsOutputOf}
+use Rattle.sql_command.specs.Limits.{greatest_input}
 use Rattle.sql_command.specs.Run.{status_of}
 use Rattle.sql_command.specs.declared.command.Command.{Command}
 use Rattle.sql_command.specs.declared.command.Command.TheVariants.{Build}
-use Rattle.sql_command.specs.declared.program.TheConstants.{LIMIT}
 use Rattle.sql_command.specs.declared.status.Status.{Status}
 use Rattle.sql_command.specs.declared.status.Status.TheVariants.{Done, Usage, BadDocument, NoMemory, TooLarge}
 use Rattle.sql_document.specs.Documents.{Document, document}
@@ -60,6 +60,6 @@ pub record IsContinued (input : List ℕ) (old new : Handle) (status : Status) :
   pub usage : (status ≡ Usage) ↔ (session_of old ≡ None)
   pub bad : status ≡ BadDocument → (session_of new ≡ session_of old)
       × ((d : Document) → document input ≡ Some d → 0 < length d.schema.tables)
-  pub large : status ≡ TooLarge → (session_of new ≡ session_of old) × (LIMIT < length input)
+  pub large : status ≡ TooLarge → (session_of new ≡ session_of old) × (greatest_input < length input)
   pub ends : (status ≡ Done) ⊎ ((status ≡ Usage) ⊎ ((status ≡ BadDocument) ⊎ ((status ≡ TooLarge) ⊎ (status ≡ NoMemory))))
   pub sound : IsSound new

@@ -5,11 +5,11 @@ use Rattle.sql_generate.specs.Summary.{IsSummary}
 use Rattle.sql_read_output.specs.Input.{input_text}
 use Rattle.sql_read_output.specs.Line.{IsReadingLine}
 use Rattle.sql_command.specs.Command.{IsPrefixOf, IsOutputOf, IsOutputPrefixOf, reads_source}
+use Rattle.sql_command.specs.Limits.{greatest_input}
 use Rattle.sql_command.specs.Run.{Ends, HasRead, HasReadSome}
 use Rattle.sql_command.specs.inside.Responses.{Response, WroteLine}
 use Rattle.sql_command.specs.declared.command.Command.{Command}
 use Rattle.sql_command.specs.declared.command.Command.TheVariants.{Generate, Read}
-use Rattle.sql_command.specs.declared.program.TheConstants.{LIMIT}
 use Rattle.sql_command.specs.declared.status.Status.{Status}
 use Rattle.sql_command.specs.declared.status.Status.TheVariants.{Done, Usage, BadDocument, ReadFault, WriteFault, NoMemory, TooLarge}
 
@@ -35,13 +35,13 @@ ends-unread status c written AtEnd silent =
 
 -- a command that has read its source to the end
 pub ends-read : (status : Status) (c : Command) (given written : List ℕ) (AtEnd : Type 0) → reads_source c ≡ true
-    → AtEnd → length given ≤ LIMIT → Response status c given written → Ends status c given written AtEnd
+    → AtEnd → length given ≤ greatest_input → Response status c given written → Ends status c given written AtEnd
 ends-read status c given written AtEnd reads end within =
     ended c given written AtEnd status (subst (λ b. HasRead b given AtEnd) (sym reads) (end, within))
     (subst (λ b. HasReadSome b given) (sym reads) within)
 
 -- a command whose source failed, or gave too much, or for which memory ran out as it read
-pub ends-short : (c : Command) (given : List ℕ) (AtEnd : Type 0) → reads_source c ≡ true → length given ≤ LIMIT
+pub ends-short : (c : Command) (given : List ℕ) (AtEnd : Type 0) → reads_source c ≡ true → length given ≤ greatest_input
     → Ends NoMemory c given [] AtEnd
 ends-short c given AtEnd reads within = (subst (λ b. HasReadSome b given) (sym reads) within, inl refl)
 

@@ -4,10 +4,10 @@ use Rattle.std.specs.Prelude.{IfSome, nat_lt}
 use Rattle.std.specs.Io.KnownBytes.{Appends, Consumes, IsAtEnd, Keeps}
 use Rattle.std.proofs.lemmas.Bool.Decides.{nat_tests}
 use Rattle.sql_command.specs.Command.{IsBadInput, IsOutputOf, reads_source}
+use Rattle.sql_command.specs.Limits.{greatest_input}
 use Rattle.sql_command.specs.Run.{Ends, HasRead, HasReadSome, Outcome, Took, may_write, status_from, status_of, status_on}
 use Rattle.sql_command.specs.declared.command.Command.{Command}
 use Rattle.sql_command.specs.declared.command.Command.TheVariants.{Build, Generate, Read, Audit, Guard}
-use Rattle.sql_command.specs.declared.program.TheConstants.{LIMIT}
 use Rattle.sql_command.specs.declared.status.Status.{Status}
 use Rattle.sql_command.specs.declared.status.Status.TheVariants.{Done, Usage, BadDocument, ReadFault, WriteFault, NoMemory, TooLarge}
 
@@ -39,17 +39,17 @@ kept (Some xs) (Some ys) written empty appended = appended ∙ ap (λ w. xs ++ w
 
 -- ---- what was read
 
-within : (b : Bool) (given : List ℕ) (AtEnd : Type 0) → HasRead b given AtEnd → length given ≤ LIMIT
+within : (b : Bool) (given : List ℕ) (AtEnd : Type 0) → HasRead b given AtEnd → length given ≤ greatest_input
 within true given AtEnd has = has.1
 within false given AtEnd has = let e = ap length has in omega arith
 
-within-some : (b : Bool) (given : List ℕ) → HasReadSome b given → length given ≤ LIMIT
+within-some : (b : Bool) (given : List ℕ) → HasReadSome b given → length given ≤ greatest_input
 within-some true given has = has
 within-some false given has = let e = ap length has in omega arith
 
 -- more than the limit was given exactly where that is the status
 large : (status : Status) (o : Option Command) (given written : List ℕ) (AtEnd : Type 0)
-    → Outcome status o given written AtEnd → (status ≡ TooLarge) ↔ (LIMIT < length given)
+    → Outcome status o given written AtEnd → (status ≡ TooLarge) ↔ (greatest_input < length given)
 large status None given written AtEnd outcome = (
   λ is. let clash : Usage ≡ TooLarge = sym outcome.0 ∙ is in cc,
   λ more. let e = ap length outcome.1 in absurd (omega arith),
@@ -68,7 +68,7 @@ large TooLarge (Some c) given written AtEnd outcome = (λ _. outcome.1, λ _. re
 
 pub too-large : (status : Status) (o : Option Command) (left rest : Option (List ℕ)) (given written : List ℕ)
     → Took status left rest given → Outcome status o given written (IsAtEnd rest)
-    → IfSome left (λ input. IfSome rest (λ more. (status ≡ TooLarge) ↔ (LIMIT + length more < length input)))
+    → IfSome left (λ input. IfSome rest (λ more. (status ≡ TooLarge) ↔ (greatest_input + length more < length input)))
 too-large status o None rest given written took outcome = tt
 too-large status o (Some xs) None given written took outcome = tt
 too-large status o (Some xs) (Some ys) given written took outcome =
@@ -104,27 +104,27 @@ pub all-given : (xs given : List ℕ) (rest : Option (List ℕ)) → Consumes (S
 all-given xs given None taken end = absurd taken
 all-given xs given (Some ys) taken end = sym (taken ∙ ap (λ y. given ++ y) end ∙ append-nil given)
 
-not-larger : (n : ℕ) → n ≤ LIMIT → nat_lt LIMIT n ≡ false
+not-larger : (n : ℕ) → n ≤ greatest_input → nat_lt greatest_input n ≡ false
 not-larger n le = grind (arith, nat_tests)
 
-larger : (n : ℕ) → LIMIT < n → nat_lt LIMIT n ≡ true
+larger : (n : ℕ) → greatest_input < n → nat_lt greatest_input n ≡ true
 larger n lt = grind (arith, nat_tests)
 
-long : (xs given : List ℕ) (rest : Option (List ℕ)) → Consumes (Some xs) rest given → LIMIT < length given
-    → LIMIT < length xs
+long : (xs given : List ℕ) (rest : Option (List ℕ)) → Consumes (Some xs) rest given → greatest_input < length given
+    → greatest_input < length xs
 long xs given None taken more = absurd taken
 long xs given (Some ys) taken more = let all = ap length taken ∙ length-append given ys in omega arith
 
 module _ (c : Command) (xs given : List ℕ) (rest : Option (List ℕ)) where
   abbrev told : Bool → Status
-  told b = cond (b && nat_lt LIMIT (length xs)) TooLarge (status_on c xs)
+  told b = cond (b && nat_lt greatest_input (length xs)) TooLarge (status_on c xs)
 
   -- a command that has read what it reads is judged by that
   whole-if : (b : Bool) → reads_source c ≡ b → Consumes (Some xs) rest given → HasRead b given (IsAtEnd rest)
       → told b ≡ status_on c given
   whole-if true is taken (end, le) =
       let same = all-given xs given rest taken end in
-      ap (λ l. cond l TooLarge (status_on c xs)) (not-larger (length xs) (subst (λ x. length x ≤ LIMIT) same le))
+      ap (λ l. cond l TooLarge (status_on c xs)) (not-larger (length xs) (subst (λ x. length x ≤ greatest_input) same le))
       ∙ ap (status_on c) (sym same)
   whole-if false is taken has = unread-status c is xs given
 
@@ -132,7 +132,7 @@ module _ (c : Command) (xs given : List ℕ) (rest : Option (List ℕ)) where
       → status_of (Some c) xs ≡ status_on c given
   whole = whole-if (reads_source c) refl
 
-  above-if : (b : Bool) → b ≡ true → LIMIT < length xs → told b ≡ TooLarge
+  above-if : (b : Bool) → b ≡ true → greatest_input < length xs → told b ≡ TooLarge
   above-if true is more = ap (λ l. cond l TooLarge (status_on c xs)) (larger (length xs) more)
   above-if false is more = cc
 

@@ -13,16 +13,16 @@ use Rattle.sql_audit_output.specs.Output.{IsAuditOutput, IsAuditOutputPrefix}
 use Rattle.sql_output.specs.Output.{IsOutput, IsOutputPrefix}
 use Rattle.sql_read_output.specs.Input.{input_text}
 use Rattle.sql_read_output.specs.Line.{IsReadingLine}
+use Rattle.sql_command.specs.Limits.{most_requests}
 use Rattle.sql_command.specs.declared.command.Command.{Command}
 use Rattle.sql_command.specs.declared.command.Command.TheVariants.{Build, Generate, Read, Audit, Guard}
-use Rattle.sql_command.specs.declared.command.TheConstants.{MAX_REQUESTS}
 
 -- ---- words
 
--- the number that the word writes as `decimal` does, without a sign or a leading zero, where it is at most MAX_REQUESTS
+-- the number that the word writes as `decimal` does, without a sign or a leading zero, where it is at most 100000
 unfoldable pub count_of : List ℕ → Option ℕ
 count_of word =
-    if bytes_eq word (decimal (digits_value 10 word)) && nat_le (digits_value 10 word) MAX_REQUESTS
+    if bytes_eq word (decimal (digits_value 10 word)) && nat_le (digits_value 10 word) most_requests
     then Some (digits_value 10 word) else None
 
 -- the command that the words are, if they are one
@@ -42,7 +42,7 @@ command_of (w ∷ v ∷ u ∷ words) = None
 -- the words of a command
 abbrev pub AreWordsOf : Command → List (List ℕ) → Type 0
 AreWordsOf Build words = words ≡ codes "build" ∷ []
-AreWordsOf (Generate n) words = (words ≡ codes "generate" ∷ decimal n ∷ []) × (n ≤ MAX_REQUESTS)
+AreWordsOf (Generate n) words = (words ≡ codes "generate" ∷ decimal n ∷ []) × (n ≤ most_requests)
 AreWordsOf (Read d) words = words ≡ codes "read" ∷ dialect_text d ∷ []
 AreWordsOf (Audit d) words = words ≡ codes "audit" ∷ dialect_text d ∷ []
 AreWordsOf Guard words = words ≡ codes "guard" ∷ []

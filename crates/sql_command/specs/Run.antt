@@ -7,9 +7,9 @@ use Rattle.sql_document.specs.Texts.{texts_in}
 use Rattle.sql_guard_output.specs.Tenants.{tenant_document}
 use Rattle.sql_read_output.specs.Input.{input_text}
 use Rattle.sql_command.specs.Command.{IsBadInput, IsOutputOf, IsOutputPrefixOf, reads_source}
+use Rattle.sql_command.specs.Limits.{greatest_input}
 use Rattle.sql_command.specs.declared.command.Command.{Command}
 use Rattle.sql_command.specs.declared.command.Command.TheVariants.{Build, Generate, Read, Audit, Guard}
-use Rattle.sql_command.specs.declared.program.TheConstants.{LIMIT}
 use Rattle.sql_command.specs.declared.status.Status.{Status}
 use Rattle.sql_command.specs.declared.status.Status.TheVariants.{Done, Usage, BadDocument, ReadFault, WriteFault, NoMemory, TooLarge}
 
@@ -20,12 +20,12 @@ Took status old new given = Gives old new given × ((status ≡ ReadFault → �
 -- What was read by a command that reads its source, or doesn't, where AtEnd says that the source is at the end: all of an input
 -- within the limit, or nothing.
 abbrev pub HasRead : Bool → List ℕ → Type 0 → Type 0
-HasRead true given AtEnd = AtEnd × (length given ≤ LIMIT)
+HasRead true given AtEnd = AtEnd × (length given ≤ greatest_input)
 HasRead false given AtEnd = given ≡ []
 
 -- the same where the reading may have ended early
 abbrev pub HasReadSome : Bool → List ℕ → Type 0
-HasReadSome true given = length given ≤ LIMIT
+HasReadSome true given = length given ≤ greatest_input
 HasReadSome false given = given ≡ []
 
 -- What a command that ends so has read and written, where AtEnd says that its source is at the end.
@@ -34,12 +34,12 @@ Ends Done c given written AtEnd = HasRead (reads_source c) given AtEnd × IsOutp
 Ends Usage c given written AtEnd = ⊥
 Ends BadDocument c given written AtEnd =
     HasRead (reads_source c) given AtEnd × IsBadInput c given × (written ≡ [])
-Ends ReadFault c given written AtEnd = (reads_source c ≡ true) × (length given ≤ LIMIT) × (written ≡ [])
+Ends ReadFault c given written AtEnd = (reads_source c ≡ true) × (length given ≤ greatest_input) × (written ≡ [])
 Ends WriteFault c given written AtEnd = HasRead (reads_source c) given AtEnd × IsOutputPrefixOf c given written
 Ends NoMemory c given written AtEnd =
     HasReadSome (reads_source c) given
     × ((written ≡ []) ⊎ (HasRead (reads_source c) given AtEnd × IsOutputPrefixOf c given written))
-Ends TooLarge c given written AtEnd = (reads_source c ≡ true) × (LIMIT < length given) × (written ≡ [])
+Ends TooLarge c given written AtEnd = (reads_source c ≡ true) × (greatest_input < length given) × (written ≡ [])
 
 -- The same of all words: without a command nothing is read or written.
 abbrev pub Outcome : Status → Option Command → List ℕ → List ℕ → Type 0 → Type 0
@@ -68,7 +68,7 @@ status_on Guard input = status_from (tenant_document input)
 abbrev pub status_of : Option Command → List ℕ → Status
 status_of None input = Usage
 status_of (Some c) input =
-    if reads_source c && nat_lt LIMIT (length input) then TooLarge else status_on c input
+    if reads_source c && nat_lt greatest_input (length input) then TooLarge else status_on c input
 
 -- a run that ends so may have written
 abbrev pub may_write : Status → Bool

@@ -9,6 +9,7 @@ ghost use Rattle.sql_output.specs.Output.{AreLines, IsOutput, IsOutputPrefix, Li
 ghost use Rattle.sql_output.specs.Shared.{OneIdServes, OneShapeOneId};
 ghost use Rattle.sql_read_output.specs.Line.{IsReadingLine};
 ghost use Rattle.sql_command.specs.Command.{command_of, reads_source, AreWordsOf, IsDone, IsOutputOf};
+ghost use Rattle.sql_command.specs.Limits.{greatest_input};
 ghost use Rattle.sql_command.specs.Run.{Ends, Outcome, Took, may_write, run_reads, status_of};
 ghost use Rattle.sql_command.specs.inside.Responses.{Response, WroteLine};
 ghost use Rattle.sql_command.specs.declared.command.Command.TheVariants.{Generate, Read};
@@ -206,7 +207,7 @@ pub fn run<S: Source, K: Sink>(
         → source.new ≡ source.old }
     // TooLarge exactly where more than the limit was given.
     ensures too_large { IfSome (S.left source.old) (λ input. IfSome (S.left source.new) (λ rest.
-        (result ≡ Status.TooLarge) ↔ (LIMIT + length rest < length input))) }
+        (result ≡ Status.TooLarge) ↔ (greatest_input + length rest < length input))) }
     // Only a run that is done, failed to write or ran out of memory has written.
     ensures nothing { may_write result ≡ false → Keeps (K.held sink.old) (K.held sink.new) }
     // A run ends with a fault only where its object counted one, and ends so where an object counted one.

@@ -1,8 +1,8 @@
 ghost use Rattle.std.specs.Prelude.{◌≡◌, ◌⊎◌, ◌↔◌, ◌++◌, ◌<◌, List, ℕ, [], Some, None, MatchResult, length, map, true};
 ghost use Rattle.sql_command.specs.Command.{IsOutputOf, reads_source};
+ghost use Rattle.sql_command.specs.Limits.{greatest_input};
 ghost use Rattle.sql_command.specs.Run.{status_of};
 ghost use Rattle.sql_command.specs.declared.command.Command.TheVariants.{Build};
-ghost use Rattle.sql_command.specs.declared.program.TheConstants.{LIMIT};
 ghost use Rattle.sql_command.specs.declared.status.Status.{Status};
 ghost use Rattle.sql_document.specs.Documents.{Document, document as document_in};
 ghost use Rattle.sql_document.specs.Trees.{request_tree};
@@ -133,7 +133,7 @@ impl Responder {
             × ((d : Document) → document_in document.now ≡ Some d
             → 0 < length d.schema.tables) }
         ensures large { result ≡ Status.TooLarge → (self.new.session ≡ self.old.session)
-            × (LIMIT < length document.now) }
+            × (greatest_input < length document.now) }
         ensures status { (result ≡ Status.Done) ⊎ ((result ≡ Status.Usage)
             ⊎ ((result ≡ Status.BadDocument) ⊎ ((result ≡ Status.TooLarge)
             ⊎ (result ≡ Status.NoMemory)))) }

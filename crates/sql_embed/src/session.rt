@@ -1,7 +1,7 @@
 ghost use Rattle.std.specs.Prelude.{◌≡◌, ◌⊎◌, ◌∷◌, ◌++◌, ◌<◌, ◌≤◌, ◌+◌, List, ℕ, [], Some, IfOk, IfErr, OnOk, length, map, string_bytes};
+ghost use Rattle.sql_command.specs.Limits.{greatest_input};
 ghost use Rattle.sql_command.specs.Run.{status_of};
 ghost use Rattle.sql_command.specs.declared.command.Command.TheVariants.{Build};
-ghost use Rattle.sql_command.specs.declared.program.TheConstants.{LIMIT};
 ghost use Rattle.sql_command.specs.declared.status.Status.{Status};
 ghost use Rattle.sql_document.specs.Documents.{Document as DocumentTree, document};
 ghost use Rattle.sql_document.specs.Trees.{request_tree};
@@ -146,8 +146,8 @@ pub fn requests(alloc: Global, bytes: &[u8]) -> Result<SqlList<Request>, Status>
         × (document bytes.now ≡ Some d) × (length d.schema.tables ≡ 0)
         × (d.requests ≡ map request_tree requests)) }
     ensures refused { IfErr result (λ status. (status ≡ Status.NoMemory)
-        ⊎ (((status ≡ Status.TooLarge) × (LIMIT < length bytes.now))
-        ⊎ ((status ≡ Status.BadDocument) × (length bytes.now ≤ LIMIT)
+        ⊎ (((status ≡ Status.TooLarge) × (greatest_input < length bytes.now))
+        ⊎ ((status ≡ Status.BadDocument) × (length bytes.now ≤ greatest_input)
         × ((d : DocumentTree) → document bytes.now ≡ Some d
         → 0 < length d.schema.tables)))) }
 {
