@@ -61,5 +61,6 @@ pub record IsContinued (input : List ℕ) (old new : Handle) (status : Status) :
   pub bad : status ≡ BadDocument → (session_of new ≡ session_of old)
       × ((d : Document) → document input ≡ Some d → 0 < length d.schema.tables)
   pub large : status ≡ TooLarge → (session_of new ≡ session_of old) × (greatest_input < length input)
+  pub too_large : ¬ (session_of old ≡ None) → greatest_input < length input → status ≡ TooLarge
   pub ends : (status ≡ Done) ⊎ ((status ≡ Usage) ⊎ ((status ≡ BadDocument) ⊎ ((status ≡ TooLarge) ⊎ (status ≡ NoMemory))))
   pub sound : IsSound new

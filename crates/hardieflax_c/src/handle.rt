@@ -54,7 +54,7 @@ impl Handle {
     {
         self.bytes = responder.answer().as_ptr();
         self.length = responder.answer().len();
-        self.owner = Owner::of(responder);
+        mem::replace(&mut self.owner, Owner::of(responder)).end();
         self.in_use = true;
     }
 

@@ -6,10 +6,9 @@ use sql_embed::Responder;
 use std::alloc::Global;
 use std::marker::Model;
 
-/// A responder by its address, or nothing. It is what C has of a responder. Dropping it frees nothing, so a handle
-/// drops none that has one.
+/// A responder by its address, or nothing. It is what C has of a responder. It is not `Drop`: one of a responder ends in `into_box` alone,
+/// and one of nothing in `end`. So no code lets an owner of a responder go, or writes another over it.
 #[repr(C)]
-#[derive(Drop)]
 pub struct Owner {
     at: *mut u8,
     pub ghost kept: { Option Responder } by { kept_coded },
@@ -35,6 +34,13 @@ impl Owner {
     {
         let at = Box::into_raw(responder);
         Owner { at: at as *mut u8 }
+    }
+
+    /// Ends an owner of nothing.
+    pub(crate) fn end(self)
+        requires { self.kept ≡ None }
+    {
+        let Owner { at: _ } = self;
     }
 
     /// The responder, in a box again.

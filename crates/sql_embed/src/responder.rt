@@ -82,6 +82,8 @@ impl Responder {
             → (self.new.session ≡ None) × (self.new.answer.items ≡ []) }
         ensures status { (result ≡ Status.NoMemory)
             ⊎ (result ≡ status_of (Some Build) document.now) }
+        // More bytes than the limit are always TooLarge.
+        ensures too_large { greatest_input < length document.now → result ≡ Status.TooLarge }
     {
         match Session::open(alloc, document) {
             Ok((session, lines)) => {
@@ -134,6 +136,9 @@ impl Responder {
             → 0 < length d.schema.tables) }
         ensures large { result ≡ Status.TooLarge → (self.new.session ≡ self.old.session)
             × (greatest_input < length document.now) }
+        // Where there is a session, more bytes than the limit are always TooLarge.
+        ensures too_large { ¬ (self.old.session ≡ None) → greatest_input < length document.now
+            → result ≡ Status.TooLarge }
         ensures status { (result ≡ Status.Done) ⊎ ((result ≡ Status.Usage)
             ⊎ ((result ≡ Status.BadDocument) ⊎ ((result ≡ Status.TooLarge)
             ⊎ (result ≡ Status.NoMemory)))) }

@@ -1,4 +1,4 @@
-ghost use Rattle.std.specs.Prelude.{◌≡◌, ◌⊎◌, ◌∷◌, ◌++◌, ◌<◌, ◌≤◌, ◌+◌, List, ℕ, [], Some, IfOk, IfErr, OnOk, length, map, string_bytes};
+ghost use Rattle.std.specs.Prelude.{◌≡◌, ◌⊎◌, ◌∷◌, ◌++◌, ◌<◌, ◌≤◌, ◌+◌, List, ℕ, [], Some, IfOk, IfErr, IsErrOf, OnOk, length, map, string_bytes};
 ghost use Rattle.sql_command.specs.Limits.{greatest_input};
 ghost use Rattle.sql_command.specs.Run.{status_of};
 ghost use Rattle.sql_command.specs.declared.command.Command.TheVariants.{Build};
@@ -120,6 +120,7 @@ impl Session {
     pub fn open(alloc: Global, bytes: &[u8]) -> Result<(Session, Vec<u8>), Status>
         ensures opened { IfOk result (λ first. (d : DocumentTree)
             × (document bytes.now ≡ Some d) × HasAnswered d first.1.items first.0) }
+        ensures too_large { greatest_input < length bytes.now → IsErrOf result Status.TooLarge }
         ensures done { OnOk result (status_of (Some Build) bytes.now ≡ Status.Done) }
         ensures refused { IfErr result (λ status. (status ≡ Status.Done → ⊥)
             × ((status ≡ Status.NoMemory) ⊎ (status ≡ status_of (Some Build) bytes.now))) }
@@ -145,6 +146,7 @@ pub fn requests(alloc: Global, bytes: &[u8]) -> Result<SqlList<Request>, Status>
     ensures read { IfOk result (λ requests. (d : DocumentTree)
         × (document bytes.now ≡ Some d) × (length d.schema.tables ≡ 0)
         × (d.requests ≡ map request_tree requests)) }
+    ensures too_large { greatest_input < length bytes.now → IsErrOf result Status.TooLarge }
     ensures refused { IfErr result (λ status. (status ≡ Status.NoMemory)
         ⊎ (((status ≡ Status.TooLarge) × (greatest_input < length bytes.now))
         ⊎ ((status ≡ Status.BadDocument) × (length bytes.now ≤ greatest_input)

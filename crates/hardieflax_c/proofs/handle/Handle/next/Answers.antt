@@ -15,6 +15,7 @@ returns c =
       usage = (λ ended. sym was ∙ c.next-status.ensures.usage.0 ended, λ none. c.next-status.ensures.usage.1 (was ∙ none));
       bad = λ ended. let (same, declares) = c.next-status.ensures.bad ended in (is ∙ same ∙ was, declares);
       large = λ ended. let (same, above) = c.next-status.ensures.large ended in (is ∙ same ∙ was, above);
+      too_large = λ has above. c.next-status.ensures.too_large (λ none. has (sym was ∙ none)) above;
       ends = c.next-status.ensures.status;
       sound = c.put.ensures.1;
     }
