@@ -19,7 +19,7 @@ pub use sql_dialect::{
     ConcatClause, DefaultValueClauseForInsert, Dialect, DuplicateRule, EmptyFromClauseSyntax,
     ExistsSyntax, InsertWithDefaultKeyword, Mysql, MysqlQueryBuilder, OnConflictClause, Pg,
     PgQueryBuilder, QueryBuilder, ReturningClause, SelectStatementSyntax, SqlDialect, Sqlite,
-    SqliteQueryBuilder, WindowFrameClauseGroupSupport, WindowFrameExclusionSupport,
+    SqliteQueryBuilder, WindowFrameClauseGroupSupport, WindowFrameExclusionSupport, quote_name,
     quoted_names_differ,
 };
 
@@ -27,7 +27,7 @@ pub use sql_dialect::{
 pub use sql_pass::{
     AstPass, BindCollector, BindType, Binds, Bound, BoundRef, CollectError, Identifier, InfixNode,
     MiddleFragment, OnKeyword, ParenthesisWrapper, PassError, QueryFragment, RawBytesBindCollector,
-    ToSql, Value, debug_binds,
+    ToSql, Value, debug_binds, push_dotted, push_side_open,
 };
 
 // Expressions, sources, clauses and statements.
@@ -65,14 +65,16 @@ pub use sql_raw::{
 // Statements as flat lists, and back.
 pub use sql_flat::{
     Combining, Comparison, Flat, FlatKind, FlatNode, Form, Logic, Selecting, Uniqueness,
-    different_statements_have_different_lists, flatten,
+    different_expressions_have_different_lists, different_statements_have_different_lists,
+    expression_nodes, flatten,
 };
 pub use sql_unflat::Unflatten;
 
 // Keys: by what a cache knows a statement.
 pub use sql_key::{
-    QueryId, QueryKey, compared_keys_are_equal_keys, equal_keys_are_equal_shapes,
-    equal_keys_hash_alike, equal_shapes_have_ids_alike, flat_query_id,
+    QueryId, QueryKey, compared_keys_are_equal_keys, equal_expression_keys_are_equal_shapes,
+    equal_keys_are_equal_shapes, equal_keys_hash_alike, equal_shapes_have_ids_alike,
+    expression_key, flat_query_id,
 };
 
 // The rules, `compile`, and whether values fit.
@@ -93,13 +95,53 @@ pub use sql_guard::{
     RestrictError, on_is_needed, restrict, restriction_is_exact, restriction_keeps_the_rules,
 };
 
-// The laws: what holds of a statement that breaks no rule, of statements of one shape, and of the grammar.
-pub use sql_grammar::{joined_texts, one_reading, quoted_name, token_rules, written};
+// The laws: of the grammar, of what statements are read as, and of statements that break no rule or have one shape.
+pub use sql_grammar::{
+    filled_by_values as numbered_trees_are_filled, joined_texts, no_reading, one_reading,
+    quoted_name, token_rules, worked_readings, worked_tokens, written,
+};
 pub use sql_law::{
     a_statement_is_accepted, accepted_are_read, accepted_have_text, accepted_values_fit, equal_ids,
     list_lengths_can_be_exchanged, lists_are_flat, names_one_leaf, premises_are_needed,
     safe_without_value_lists, values_can_be_exchanged,
 };
+pub use sql_reading::{filled_by_values, leaves_no_trace, only_reading, worked_statements};
 
 // The reader: the tree of a text, and the text of a tree.
-pub use sql_read::{ReadError, Tree, placeholders, read, write};
+pub use sql_read::{MAX_DEPTH as MAX_READ_DEPTH, ReadError, Tree, placeholders, read, write};
+
+/// What `Tree::query` gives: the tree of a text, as its tokens say.
+pub mod tree {
+    pub use sql_lexer::Comparison;
+    pub use sql_tree::{
+        Direction, Distinctness, Expression, Item, JoinKind, Lock, LockMode, LockWait, Logic, Mark,
+        Names, Page, Place, Query, Sample, SampleMethod, SetOperator, Source,
+    };
+}
+
+// The audit: which tables and columns a text uses.
+pub use sql_audit::{AuditError, AuditReport, ColumnUse, audit};
+pub use sql_audit_law::{accepted_are_reported, one_answer as one_audit_answer};
+
+/// Queries as documents write them, and the statements that they stand for over a schema.
+pub mod syntax {
+    pub use sql_build::{expression, statement};
+    pub use sql_depth::{MAX_DEPTH, is_expr_too_deep, is_too_deep};
+    pub use sql_syntax::{
+        AliasName, BinaryOperator, Call, ClauseCall, ColumnName, Expr, FieldName, Form, Join,
+        Membership, OrderItem, PlainCall, Quantified, Query, QueryStart, Source, TableName,
+        UnaryOperator, all_stand,
+    };
+}
+
+// What `compile_by` asks for where it is told that the names are known.
+pub use sql_known::built_statements_know_their_names;
+
+/// The program's commands as one call, over any source and any sink of bytes.
+pub mod program {
+    pub use sql_command::{Command, LIMIT, MAX_REQUESTS, Status, run};
+    pub use sql_stream::{
+        CountedReader, Failed, MemorySink, MemorySource, Sink, Source, StdSink, StdSource,
+        SureSink, SureSource,
+    };
+}

@@ -1,4 +1,4 @@
-#![tactic(auto, using(sql_pass::proofs::Walking::walking))]
+#![tactic(auto, using(hardieflax::proofs::Walking::walking))]
 
 ghost use Rattle.std.specs.Prelude.{◌++◌, codes, refl};
 ghost use Rattle.hardieflax.specs.Dialect.TheVariants as D;

@@ -1,0 +1,88 @@
+//! The calls that make expressions, conditions and items of an order.
+
+ghost use Rattle.std.specs.Prelude.{◌≡◌, IfOk, IsOk, option_map};
+ghost use Rattle.hardieflax.specs.Calls.{beside, value_of};
+ghost use Rattle.hardieflax.specs.Tree as tree;
+ghost use Rattle.hardieflax.specs.View.{expr_tree, statement_tree, where_clause_tree};
+ghost use Rattle.hardieflax.specs.Words as by;
+
+use hardieflax::{
+    Bound, Column, Expr, ExpressionMethods, NoMemory, OrderDecorator, Statement, ToSql, WhereAnd,
+    WhereClause, WhereOr, count, count_star, exists, not, value,
+};
+use std::alloc::Global;
+
+/// `(a = b)`.
+pub fn equal<E: ExpressionMethods>(alloc: Global, left: E, right: Expr) -> Result<Expr, NoMemory>
+    ensures { IfOk result (λ e. expr_tree e
+        ≡ tree.compared by.Eq (E.expression left) (expr_tree right)) }
+{
+    left.eq(alloc, right)
+}
+
+/// `NOT (a)`.
+pub fn negated(alloc: Global, operand: Expr) -> Result<Expr, NoMemory>
+    ensures { IfOk result (λ e. expr_tree e ≡ tree.not_of (expr_tree operand)) }
+{
+    not(alloc, operand)
+}
+
+/// `COUNT(a)`.
+pub fn counted(alloc: Global, operand: Expr) -> Result<Expr, NoMemory>
+    ensures { IfOk result (λ e. expr_tree e ≡ tree.count (expr_tree operand)) }
+{
+    count(alloc, operand)
+}
+
+/// `COUNT(*)`.
+pub fn all_counted() -> Expr
+    ensures { expr_tree result ≡ tree.count_star }
+{
+    count_star()
+}
+
+/// `EXISTS (SELECT ..)`.
+pub fn has_rows(alloc: Global, statement: Statement) -> Result<Expr, NoMemory>
+    ensures { IfOk result (λ e. expr_tree e ≡ tree.exists (statement_tree statement)) }
+{
+    exists(alloc, statement)
+}
+
+/// `$1`.
+pub fn bound<V: ToSql>(alloc: Global, of: &V) -> Result<Option<Expr>, NoMemory>
+    ensures { IfOk result (λ o. option_map expr_tree o ≡ value_of (V.binds of.now)) }
+{
+    value(alloc, of)
+}
+
+/// What is bound for a value.
+pub fn bound_value<V: ToSql>(alloc: Global, of: &V) -> Result<Bound, NoMemory>
+    ensures { IfOk result (λ b. b ≡ V.binds of.now) }
+{
+    of.bound(alloc)
+}
+
+/// ` WHERE (a AND b)`.
+pub fn both<C: WhereAnd>(alloc: Global, first: C, second: Expr) -> Result<WhereClause, NoMemory>
+    ensures whole { IfOk result (λ c. where_clause_tree c
+        ≡ tree.an_expr (beside by.And (C.condition first) (expr_tree second))) }
+    ensures first { C.condition first ≡ tree.no_expr → IsOk result }
+{
+    first.and(alloc, second)
+}
+
+/// ` WHERE (a OR b)`.
+pub fn either<C: WhereOr>(alloc: Global, first: C, second: Expr) -> Result<WhereClause, NoMemory>
+    ensures whole { IfOk result (λ c. where_clause_tree c
+        ≡ tree.an_expr (beside by.Or (C.condition first) (expr_tree second))) }
+    ensures first { C.condition first ≡ tree.no_expr → IsOk result }
+{
+    first.or(alloc, second)
+}
+
+/// The column of an item, where it is one.
+pub fn ordered_column<I: OrderDecorator>(item: &I) -> Option<&Column>
+    ensures { option_map (λ c. c.now) result ≡ I.ordered_column item.now }
+{
+    item.column()
+}
