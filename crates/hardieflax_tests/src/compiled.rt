@@ -1,6 +1,6 @@
 //! What is told of a statement: its text, the rules that it breaks, its flat list and its keys.
 
-ghost use Rattle.std.specs.Prelude.{◌≡◌, ◌+◌, ◌*◌, ◌<◌, ◌≤◌, [], IfOk, IfErr, Some, length};
+ghost use Rattle.std.specs.Prelude.{◌≡◌, ◌+◌, ◌*◌, ◌≤◌, [], IfOk, IfErr, Some, length};
 ghost use Rattle.hardieflax.specs.AnswerFitting.{AnswersFit};
 ghost use Rattle.hardieflax.specs.Compiled.{IsBuilt, IsLeast, IsRead};
 ghost use Rattle.hardieflax.specs.Dialect.TheVariants.{Pg as PgDialect};

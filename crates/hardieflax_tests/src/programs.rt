@@ -1,6 +1,6 @@
 //! The program as a call, and the queries of its documents.
 
-ghost use Rattle.std.specs.Prelude.{◌≡◌, ◌<◌, ◌↔◌, IfOk, IfSome, IsTrue, List, Some, map, option_map, string_bytes, ℕ};
+ghost use Rattle.std.specs.Prelude.{◌≡◌, IfOk, IfSome, List, Some, map, option_map, string_bytes, ℕ};
 ghost use Rattle.std.specs.Io.KnownBytes.{Appends, IsAtEnd};
 ghost use Rattle.hardieflax.specs.Causes.{HasRisen};
 ghost use Rattle.hardieflax.specs.Command.{Command as CommandName};
