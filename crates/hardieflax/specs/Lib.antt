@@ -127,6 +127,7 @@ pub use Rattle.sql_law.specs.Paths as ColumnPaths
 -- What `compile` gives.
 pub use Rattle.sql_check.specs.Compiled
 pub use Rattle.sql_check.specs.Fused
+pub use Rattle.sql_fused.specs.Steps
 pub use Rattle.sql_check.specs.Errors
 pub use Rattle.sql_check.specs.declared.built.Built
 pub use Rattle.sql_check.specs.declared.error.CompileError
@@ -173,6 +174,7 @@ pub use Rattle.sql_syntax.specs.View as SyntaxViews
 pub use Rattle.sql_syntax.specs.declared.form.Form as SyntaxForm
 -- What the program does with its source and its sink.
 pub use Rattle.sql_command.specs.Command as Commands
+pub use Rattle.sql_command.specs.Limits as CommandLimits
 pub use Rattle.sql_command.specs.Run as Runs
 pub use Rattle.sql_command.specs.Status as Statuses
 pub use Rattle.sql_command.specs.declared.command.Command
