@@ -3,11 +3,13 @@
 
 from __future__ import annotations
 
+import sys
 import tempfile
 import unittest
 from pathlib import Path
 
-import calls
+sys.dont_write_bytecode = True
+import calls  # noqa: E402
 
 LIBRARY = '''
 //! A library. pub fn in_a_comment() -> NoMemory {}
