@@ -4,9 +4,12 @@
 
 Expressions are made for a type that is wanted, over the leaves that their clause sees, so that few requests are refused.
 """
+from __future__ import annotations
+
 import json
 import random
 import sys
+from typing import Any, Optional, Sequence
 
 from values import some
 
@@ -14,20 +17,24 @@ BASES = ("SmallInt", "Integer", "BigInt", "Text", "Binary", "Bool")
 KEY_BASES = ("Integer", "Integer", "BigInt", "SmallInt", "Text")
 NAMES = ("users", "posts", "tags", "notes")
 ODD_NAMES = ("order", "a b", 'q"r', "x`y", "é", "Mixed", "$1", "?", "a.b", "it's", "@p1", "--", "from")
+Json = Any
+
 DIALECTS = ("Pg", "Pg", "Mysql", "Mysql", "Sqlite", "Sqlite", "Bracket")
+PG_LOCKS = ("for_update", "for_no_key_update", "for_share", "for_key_share")
 COMPARISONS = ("eq", "ne", "gt", "ge", "lt", "le")
 REQUESTS = 60
 
 
-def told(base, is_nullable):
+def told(base: str, is_nullable: bool) -> str:
     return base + "?" if is_nullable else base
 
 
 # ---- schemas
 
-def schema(chance):
+def schema(chance: random.Random) -> dict[str, Any]:
     """Two to four tables, some of which refer to others."""
-    tables, joinable = [], []
+    tables: list[dict[str, Any]] = []
+    joinable = []
     for name in NAMES[:chance.randint(2, 4)]:
         made = table(chance, name)
         if tables and chance.random() < 0.8:
@@ -42,8 +49,8 @@ def schema(chance):
     return {"tables": tables, "joinable": joinable, "together": together}
 
 
-def table(chance, name):
-    made = {"name": name, "primary_key": ["id"], "columns": [{"name": "id", "type": chance.choice(KEY_BASES)}]}
+def table(chance: random.Random, name: str) -> dict[str, Any]:
+    made: dict[str, Any] = {"name": name, "primary_key": ["id"], "columns": [{"name": "id", "type": chance.choice(KEY_BASES)}]}
     if chance.random() < 0.2:
         made["primary_key"] = ["id", "part"]
         made["columns"].append({"name": "part", "type": chance.choice(KEY_BASES)})
@@ -62,34 +69,34 @@ def table(chance, name):
 class Leaf:
     """A table or an alias that a clause sees. A padded one may lack its row."""
 
-    def __init__(self, alias, table, is_padded=False):
+    def __init__(self, alias: Optional[str], table: dict[str, Any], is_padded: bool = False) -> None:
         self.alias = alias
         self.table = table
         self.is_padded = is_padded
 
-    def column(self, name):
+    def column(self, name: str) -> Json:
         return {"col": [self.table["name"], name]} if self.alias is None else {"field": [self.alias, self.table["name"], name]}
 
-    def columns(self):
+    def columns(self) -> list[tuple[Json, str, bool]]:
         return [(self.column(column["name"]), column["type"].rstrip("?"), column["type"].endswith("?")) for column in self.table["columns"]]
 
 
 class Writer:
     """Writes the requests of one document in one dialect."""
 
-    def __init__(self, chance, declared, dialect):
+    def __init__(self, chance: random.Random, declared: dict[str, Any], dialect: str) -> None:
         self.chance = chance
-        self.tables = declared["tables"]
+        self.tables: list[dict[str, Any]] = declared["tables"]
         self.joinable = {frozenset((each["child"], each["parent"])) for each in declared["joinable"]}
         self.dialect = dialect
         self.aliases = 0
 
-    def happens(self, probability):
+    def happens(self, probability: float) -> bool:
         return self.chance.random() < probability
 
     # ---- expressions
 
-    def expr(self, seen, base, is_nullable, depth, selects=False):
+    def expr(self, seen: Sequence[Leaf], base: str, is_nullable: bool, depth: int, selects: bool = False) -> Json:
         """An expression of this very type. In a selection, columns of padded leaves are under nullable."""
         ways = ["bind", "bind"]
         columns = self.columns_of(seen, base, is_nullable, selects)
@@ -110,8 +117,8 @@ class Writer:
             return {"nullable": self.expr(seen, base, self.happens(0.3), depth - 1)}
         return self.bind(base, is_nullable)
 
-    def columns_of(self, seen, base, is_nullable, selects):
-        found = []
+    def columns_of(self, seen: Sequence[Leaf], base: str, is_nullable: bool, selects: bool) -> list[Json]:
+        found: list[Json] = []
         for leaf in seen:
             for column, of_base, of_nullable in leaf.columns():
                 if of_base != base or of_nullable and not is_nullable:
@@ -123,11 +130,11 @@ class Writer:
                     found.append({"nullable": column})
         return found
 
-    def bind(self, base, is_nullable):
+    def bind(self, base: str, is_nullable: bool) -> Json:
         kind = told(base, is_nullable)
         return {"bind": [kind, some(self.chance, kind)]}
 
-    def truth(self, seen, is_nullable, depth, selects=False):
+    def truth(self, seen: Sequence[Leaf], is_nullable: bool, depth: int, selects: bool = False) -> Json:
         """A condition that is Bool, or nullable Bool."""
         ways = ["compare"] * 5 + ["and", "or", "not", "list", "list"] + ["rows"] * (depth > 0)
         if not is_nullable:
@@ -149,31 +156,31 @@ class Writer:
         operand = self.expr(seen, base, is_nullable, depth - 1, selects)
         return {self.chance.choice(("eq_any", "ne_all")): [operand, self.among(seen, base, is_nullable, depth, way)]}
 
-    def among(self, seen, base, is_nullable, depth, way):
+    def among(self, seen: Sequence[Leaf], base: str, is_nullable: bool, depth: int, way: str) -> Json:
         if way == "rows":
             return self.query(seen, depth - 1, [(base, is_nullable)])
         kind = told(base, is_nullable)
         return {"list": [kind, [some(self.chance, kind) for _ in range(self.chance.randint(0, 3))]]}
 
-    def base(self, seen):
+    def base(self, seen: Sequence[Leaf]) -> str:
         """A base, mostly one of a column that is seen."""
         if seen and self.happens(0.8):
             return self.chance.choice(self.chance.choice(seen).columns())[1]
         return self.chance.choice(BASES)
 
-    def any_type(self, seen=()):
+    def any_type(self, seen: Sequence[Leaf] = ()) -> tuple[str, bool]:
         return self.base(seen), self.happens(0.5)
 
     # ---- sources
 
-    def leaf(self, taken):
+    def leaf(self, taken: Sequence[Leaf]) -> tuple[Leaf, Json]:
         """A table, or an alias where the table is taken, and its source."""
         table = self.chance.choice(self.tables)
         if any(each.table is table and each.alias is None for each in taken) or self.happens(0.2):
             self.aliases += 1
             alias = f"a{self.aliases}_"
             return Leaf(alias, table), {"alias": alias, "of": table["name"]}
-        source = {"table": table["name"]}
+        source: dict[str, Any] = {"table": table["name"]}
         if self.dialect == "Pg" and self.happens(0.05):
             source["only"] = True
         if self.dialect == "Pg" and self.happens(0.05):
@@ -181,7 +188,7 @@ class Writer:
             source["sample"] = [self.chance.choice(("bernoulli", "system")), self.chance.randint(0, 100), *seed]
         return Leaf(None, table), source
 
-    def on(self, left, right, depth):
+    def on(self, left: list[Leaf], right: list[Leaf], depth: int) -> list[Json]:
         """The condition of a join: none where a relation gives it, now and then."""
         if frozenset((left[0].table["name"], right[0].table["name"])) in self.joinable and self.happens(0.8):
             return []
@@ -195,26 +202,26 @@ class Writer:
             return [{"gt": ["count_star", self.bind("BigInt", False)]}]
         return [self.truth(seen, self.happens(0.3), min(depth, 1))]
 
-    def source(self, taken, depth):
+    def source(self, taken: Sequence[Leaf], depth: int) -> tuple[list[Leaf], Json]:
         """A source, and its leaves."""
         leaf, source = self.leaf(taken)
         leaves = [leaf]
         while len(leaves) < 3 and self.happens(0.12):
-            right, other = self.leaf(taken + leaves)
+            right, other = self.leaf([*taken, *leaves])
             kind, on = self.chance.choice(("inner", "left")), self.on(leaves, [right], depth)
             source = {"join": [kind, source, other], **({"on": on[0]} if on else {})}
             right.is_padded = kind == "left"
             leaves = leaves + [right]
         return leaves, source
 
-    def joins(self, taken, leaves, depth):
+    def joins(self, taken: Sequence[Leaf], leaves: list[Leaf], depth: int) -> tuple[list[Leaf], list[Json]]:
         """Join calls, and the leaves with those that they add."""
-        calls = []
+        calls: list[Json] = []
         while len(leaves) < 3 and self.happens(0.3):
             if self.happens(0.1):
-                right, other = self.source(taken + leaves, depth)
+                right, other = self.source([*taken, *leaves], depth)
             else:
-                one, other = self.leaf(taken + leaves)
+                one, other = self.leaf([*taken, *leaves])
                 right = [one]
             on = self.on(leaves, right, depth)
             kind = self.chance.choice(("inner_join", "left_outer_join", "left_join"))
@@ -226,7 +233,7 @@ class Writer:
 
     # ---- statements
 
-    def query(self, outer, depth, wanted=None):
+    def query(self, outer: Sequence[Leaf], depth: int, wanted: Optional[list[tuple[str, bool]]] = None) -> Json:
         """A query whose columns have the wanted types, or any."""
         if depth > 0 and self.happens(0.12):
             return self.combination(outer, depth, wanted or [self.any_type() for _ in range(self.chance.randint(1, 3))])
@@ -236,12 +243,12 @@ class Writer:
             return {**query, "calls": self.page()} if self.happens(0.3) else query
         return self.select(outer, depth, wanted)
 
-    def select(self, outer, depth, wanted):
+    def select(self, outer: Sequence[Leaf], depth: int, wanted: Optional[list[tuple[str, bool]]]) -> Json:
         leaves, source = self.source(outer, depth)
         is_single = len(leaves) == 1
         leaves, joins = self.joins(outer, leaves, depth)
         boxed = self.happens(0.15)
-        where = leaves if boxed else leaves + outer
+        where = leaves if boxed else [*leaves, *outer]
         calls = list(joins)
         for _ in range(self.chance.choice((0, 0, 1, 1, 2))):
             calls.append([self.chance.choice(("filter", "filter", "or_filter")), self.truth(where, self.happens(0.4), depth)])
@@ -254,20 +261,21 @@ class Writer:
         calls += self.page()
         return {"from": source, "calls": self.boxed(calls) if boxed else calls} if calls else {"from": source}
 
-    def key_values(self, leaf):
+    def key_values(self, leaf: Leaf) -> list[Json]:
         types = {column["name"]: column["type"] for column in leaf.table["columns"]}
         return [self.bind(types[name], False) for name in leaf.table["primary_key"]]
 
-    def boxed(self, calls):
+    def boxed(self, calls: list[Json]) -> list[Json]:
         """The calls with a boxing among those that a boxed statement takes."""
         last = max((at for at, call in enumerate(calls, 1) if call[0] in ("find", "distinct_on", "group_by")), default=0)
         at = self.chance.randint(last, len(calls))
         box = ["into_boxed"] if self.happens(0.7) else ["into_boxed", self.dialect]
         return calls[:at] + [box] + calls[at:]
 
-    def ungrouped(self, leaves, depth, wanted, boxed):
+    def ungrouped(self, leaves: list[Leaf], depth: int, wanted: Optional[list[tuple[str, bool]]], boxed: bool) -> list[Json]:
         """A selection of values for each row, how it is distinct and ordered, and a lock."""
-        calls, selection = [], None
+        calls: list[Json] = []
+        selection: Optional[list[Json]] = None
         if wanted is not None or self.happens(0.7):
             types = wanted or [self.any_type(leaves) for _ in range(self.chance.randint(1, 3))]
             selection = [self.expr(leaves, *each, min(depth, 1), selects=True) for each in types]
@@ -292,11 +300,11 @@ class Writer:
             calls += [["then_order_by", order[at:]]] if order[at:] else []
         return calls
 
-    def nested(self, selection):
+    def nested(self, selection: list[Json]) -> list[Json]:
         """The same list, now and then with lists in it."""
         return [selection[0], [[], selection[1:]]] if self.happens(0.05) else selection
 
-    def order(self, leaves, depth, selection):
+    def order(self, leaves: list[Leaf], depth: int, selection: Optional[list[Json]]) -> list[Json]:
         if not self.happens(0.45):
             return []
         items = []
@@ -308,16 +316,17 @@ class Writer:
                 items.append(self.item(self.expr(leaves, base, is_nullable, min(depth, 1) if self.happens(0.2) else 0)))
         return items
 
-    def item(self, expr):
+    def item(self, expr: Json) -> Json:
         return self.chance.choice((expr, {"asc": expr}, {"desc": expr}))
 
-    def lock(self):
-        modes = ("for_update", "for_no_key_update", "for_share", "for_key_share") if self.dialect == "Pg" else ("for_update", "for_update", "for_share")
-        return [[self.chance.choice(modes)]] + [[each] for each in self.chance.choice((("skip_locked",), ("no_wait",), ()))]
+    def lock(self) -> list[Json]:
+        modes = PG_LOCKS if self.dialect == "Pg" else ("for_update", "for_update", "for_share")
+        modifiers: Sequence[str] = self.chance.choice((("skip_locked",), ("no_wait",), ()))
+        return [[self.chance.choice(modes)]] + [[each] for each in modifiers]
 
-    def grouped(self, leaves, depth):
+    def grouped(self, leaves: list[Leaf], depth: int) -> list[Json]:
         """Groups, or one group of all rows, and what is counted."""
-        counts = ["count_star", {"count": self.expr(leaves, *self.any_type(), 0)}]
+        counts: list[Json] = ["count_star", {"count": self.expr(leaves, *self.any_type(), 0)}]
         columns = [each[0] if not leaf.is_padded else {"nullable": each[0]} for leaf in leaves for each in leaf.columns()]
         if self.happens(0.3):
             return [["select", self.chance.choice((counts[:1], counts, counts[1]))]]
@@ -325,7 +334,7 @@ class Writer:
         shown = self.chance.sample(group + counts, self.chance.randint(1, len(group)))
         if self.happens(0.15):
             group = group + [self.expr(leaves, *self.any_type(leaves), min(depth, 1), selects=True)]
-        calls = [["group_by", group], ["select", shown]]
+        calls: list[Json] = [["group_by", group], ["select", shown]]
         if self.happens(0.05):
             calls.append(["having", self.truth(leaves, self.happens(0.3), 0)])
         elif self.happens(0.3):
@@ -334,18 +343,18 @@ class Writer:
             calls.append(["order", [self.item(self.chance.choice(shown))]])
         return calls
 
-    def page(self):
-        calls = []
+    def page(self) -> list[Json]:
+        calls: list[Json] = []
         if self.happens(0.25):
             calls.append(["limit", self.number()])
         if (calls or self.dialect != "Mysql") and self.happens(0.2):
             calls.append(["offset", self.number()])
         return calls
 
-    def number(self):
+    def number(self) -> int:
         return -1 if self.happens(0.01) else self.chance.randint(0, 3)
 
-    def combination(self, outer, depth, types):
+    def combination(self, outer: Sequence[Leaf], depth: int, types: list[tuple[str, bool]]) -> Json:
         """Two or three statements of one list of types."""
         query = self.select(outer, depth - 1, types)
         query["calls"] = query.get("calls", [])
@@ -360,14 +369,31 @@ class Writer:
         return query
 
 
-def guard(chance, declared):
+def guard(chance: random.Random, declared: dict[str, Any]) -> dict[str, Any]:
     """A guard: a table, and a predicate over its columns alone."""
     guarded = chance.choice(declared["tables"])
-    writer = Writer(chance, declared, "Pg")
-    return {"table": guarded["name"], "predicate": writer.truth([Leaf(None, guarded)], chance.random() < 0.3, 0)}
+    return {"table": guarded["name"], "predicate": predicate(Writer(chance, declared, "Pg"), Leaf(None, guarded), chance.randint(0, 3))}
 
 
-def document(chance, requests=REQUESTS, is_guarded=False):
+def predicate(writer: Writer, leaf: Leaf, depth: int) -> Json:
+    """A condition of this depth. NOT stands beside AND, OR and NOT alone, where servers read it as the grammar does."""
+    way = writer.chance.choice(("and", "or", "not")) if depth > 0 else "test"
+    if way == "not":
+        return {"not": predicate(writer, leaf, depth - 1)}
+    if way != "test":
+        return {way: [predicate(writer, leaf, depth - 1), predicate(writer, leaf, writer.chance.randint(0, depth - 1))]}
+    base, is_nullable = writer.chance.choice(leaf.columns())[1:]
+    columns = writer.columns_of([leaf], base, is_nullable, False)
+    column = writer.chance.choice(columns)
+    if writer.happens(0.2):
+        return {writer.chance.choice(("is_null", "is_not_null")): column}
+    if writer.happens(0.3):
+        return {writer.chance.choice(("eq_any", "ne_all")): [column, writer.among([leaf], base, is_nullable, 0, "list")]}
+    other = writer.chance.choice(columns) if writer.happens(0.2) else writer.bind(base, is_nullable)
+    return {writer.chance.choice(COMPARISONS): [column, other]}
+
+
+def document(chance: random.Random, requests: int = REQUESTS, is_guarded: bool = False) -> dict[str, Any]:
     declared = schema(chance)
     made = []
     for _ in range(requests):

@@ -1,8 +1,10 @@
 """What servers are known to refuse: the server, a pattern of its message, a pattern of the text or None, and why. Any other refusal
 fails. docs/SERVERS.md has each with an example."""
+from __future__ import annotations
+
 import re
 
-KNOWN = [
+KNOWN: list[tuple[str, str, str | None, str]] = [
     ("PostgreSQL", r"(LIMIT|OFFSET) must not be negative", None, "a negative limit or offset"),
     ("PostgreSQL", r"zero-length delimited identifier", None, "an empty name"),
     ("PostgreSQL", r"sample percentage must be between", "TABLESAMPLE", "a portion below 0 or above 100"),
@@ -37,7 +39,7 @@ KNOWN = [
 ]
 
 
-def template(message):
+def template(message: str) -> str:
     """A message without the names, numbers and places that it quotes; a keyword stays."""
     message = re.sub(r"near '(\w*).*'", r"near \1 ..", message, flags=re.S)
     message = re.sub(r"column (name: |['\"]).*? (in|must) ", r"column .. \2 ", message, flags=re.S)
@@ -45,7 +47,7 @@ def template(message):
     return re.sub(r"\d+", "N", message)
 
 
-def reason(server, message, sql):
+def reason(server: str, message: str, sql: str) -> str | None:
     """Why a server is known to refuse a text with this message, or None."""
     for name, pattern, of_text, why in KNOWN:
         if name == server and re.search(pattern, message) and (of_text is None or re.search(of_text, sql)):

@@ -1,26 +1,27 @@
 #!/usr/bin/env python3
 """Runs every accepted line of documents on PostgreSQL, MariaDB and SQLite.
 
-    tests/servers/run.py                                 the examples and the stored run, each request in three dialects
+    tests/servers/run.py                                 what the gate runs
     tests/servers/run.py examples/filter.json ..         these documents, as they stand
     tests/servers/run.py --random 20000 [--seed 1]       random documents, until so many lines were accepted
+    tests/servers/run.py --minutes 30 --jobs 4           random documents for so long, by so many workers, each with servers of its own
+    tests/servers/run.py --spoil NAME [--random 2000]    a spoilt program: it has to be found (--spoil list: their names)
 
-The program has to be built (--program names another). The script starts the servers on unix sockets in folders of its own, makes each
-document's tables with small random rows, and of each line it prepares the text, binds the values and executes it. It asks that the server
-counts as many placeholders as there are values; that columns are as many and of the types that are told, without NULL where that is told;
-that the prepared text serves for other values, and on PostgreSQL for lists of other lengths; and that the rows are an answer by
-docs/MEANING.md. Ends with a table of what each server refused, and with 'N passed, M failed'. What is known to be refused (refusals.py,
-docs/SERVERS.md) does not fail. A server whose package is missing, or that doesn't start, is skipped. Bracket has no server.
+The program has to be built (--program names another). The script starts the servers on unix sockets in folders of its own, and docs/SERVERS.md
+says what it asks of each line. With no arguments these are the lines of the examples and of the stored run in three dialects, those of a few
+random documents, and what servers make of names; before them the evaluator is asked what is worked out by hand, and each spoilt program
+has to be found. Ends with a table of what each server refused, and with 'N passed, M failed'. What is known to be refused (refusals.py) does
+not fail. A server whose package is missing is skipped; one that is installed and does not start fails. Bracket has no server.
 """
+from __future__ import annotations
+
 import argparse
 import json
 import os
 import pathlib
-import random
-import signal
-import subprocess
 import sys
 import time
+from typing import Any, Callable, Iterator
 
 sys.dont_write_bytecode = True
 HERE = pathlib.Path(__file__).resolve().parent
@@ -28,154 +29,29 @@ TOP = HERE.parent.parent
 sys.path.insert(0, str(HERE))
 DEBIAN = "/usr/bin/python3"
 
-import documents  # noqa: E402
-import refusals  # noqa: E402
-import schema as schemas  # noqa: E402
+import campaign  # noqa: E402
+import names  # noqa: E402
 import servers  # noqa: E402
-import values  # noqa: E402
+import spoilt  # noqa: E402
 import worked  # noqa: E402
-from checks import Checker, Fault, Line, cut  # noqa: E402
-from mariadb import Mariadb  # noqa: E402
-from postgres import Postgres  # noqa: E402
-from sqlite import Sqlite  # noqa: E402
-from statements import Schema  # noqa: E402
+from campaign import DIALECTS, Options, start  # noqa: E402
+from program import Program  # noqa: E402
+from report import Place, Report  # noqa: E402
+from runner import Document, Runner  # noqa: E402
+from servers import Server  # noqa: E402
+from spoilings import SPOILINGS, SpoiltProgram  # noqa: E402
 
-DIALECTS = {"Pg": Postgres, "Mysql": Mariadb, "Sqlite": Sqlite}
-
-
-class Report:
-    """What was found, to be printed at the end."""
-
-    def __init__(self, shown):
-        self.passed = self.failed = self.refused = 0
-        self.shown = shown
-        self.counts = {}
-        self.messages = {}
-
-    def fail(self, name, line, what):
-        self.failed += 1
-        if self.failed <= self.shown:
-            print(f"FAILED {name}: {what}\n    {line.sql}\n    values: {line.answer['binds']}, columns: {line.columns}", flush=True)
-
-    def refuse(self, server, name, line, message):
-        """A known refusal is counted, a new one fails."""
-        why = refusals.reason(server, message, line.sql)
-        key = server, refusals.template(message), why or "NEW"
-        self.messages.setdefault(key, [0, f"{name}: {message}"])[0] += 1
-        if why is None:
-            self.fail(name, line, f"{server} refuses it: {message}")
-        else:
-            self.refused += 1
-
-    def check_evaluator(self):
-        wrong, asked = worked.faults()
-        for query, rows in wrong:
-            print(f"FAILED the evaluator on {json.dumps(query)}: {rows}")
-        self.failed += len(wrong)
-        self.passed += asked - len(wrong)
-
-    def add(self, server, counts):
-        for what, count in counts.items():
-            self.counts[server, what] = self.counts.get((server, what), 0) + count
-
-    def show(self):
-        print("\n| server | what | times |\n|---|---|---|")
-        for (server, what), count in sorted(self.counts.items()):
-            print(f"| {server} | {what} | {count} |")
-        print("\n| server | refused with the message | times | why |\n|---|---|---|---|")
-        for (server, message, why), (count, example) in sorted(self.messages.items()):
-            print(f"| {server} | {message} | {count} | {why if why != 'NEW' else 'NEW: ' + example} |")
-        print(f"\n{self.refused} refused by servers as known")
-        print(f"{self.passed} passed, {self.failed} failed")
+# The random documents of the gate: always the same.
+GATE_SEEDS, GATE_GUARD_SEEDS = range(1, 5), range(1, 9)
 
 
-def answers(program, command, document):
-    """The program's line for each request, or none where the input is no document."""
-    run = subprocess.run([program, command], input=json.dumps(document).encode(), capture_output=True)
-    if run.returncode != 0:
-        return None
-    return [json.loads(line) for line in run.stdout.decode().split("\n")[:-1]]
-
-
-def in_each_dialect(document):
+def in_each_dialect(document: dict[str, Any]) -> dict[str, Any]:
     """The document with each request in the dialects that have a server."""
     everything = [{**request, "dialect": dialect} for request in document["requests"] for dialect in DIALECTS]
     return {**document, "requests": everything}
 
 
-class Runner:
-    def __init__(self, program, started, report, most):
-        self.program = program
-        self.started = started
-        self.report = report
-        self.most = most
-
-    def run(self, name, document, seed):
-        """Asks each server about each accepted line of its dialect. How many lines were accepted."""
-        chance = random.Random(seed)
-        command = "guard" if "guard" in document else "build"
-        others = [values.other_values(chance, request) for request in document["requests"]]
-        lines = answers(self.program, command, {**document, "requests": document["requests"] + others})
-        if lines is None:
-            print(f"no document: {name}")
-            return 0
-        schema = Schema(document["schema"])
-        accepted = {}
-        for at, (request, first, second) in enumerate(zip(document["requests"], lines, lines[len(others):])):
-            if "sql" not in first:
-                continue
-            if request["dialect"] not in self.started:
-                self.report.add(request["dialect"], {"lines without a server": 1})
-            else:
-                second = Line(schema, others[at], second) if "sql" in second else second
-                accepted.setdefault(request["dialect"], []).append((at + 1, Line(schema, request, first), second))
-        for dialect, found in accepted.items():
-            self.run_on(self.started[dialect], name, schema, document.get("guard"), found, random.Random(f"{seed} {dialect}"))
-        return sum("sql" in line for line in lines[:len(others)])
-
-    def run_on(self, server, name, schema, guard, found, chance):
-        database = schemas.random_database(chance, schema, self.most)
-        refused_tables = schemas.create(server, schema, database)
-        seen = cut(schema, database, guard) if guard else database
-        checker = Checker(server, schema, seen, refused_tables)
-        for number, line, other in found:
-            self.run_line(checker, f"{name}, request {number} on {server.name}", line, other)
-        server.drop_schemas()
-        self.report.add(server.name, checker.counts)
-
-    def run_line(self, checker, name, line, other):
-        report, server = self.report, checker.server.name
-        checker.count("lines")
-        missing = checker.missing_table(line)
-        if missing is not None:
-            report.refuse(server, name, line, "CREATE: " + missing)
-            return
-        try:
-            checker.asked = line
-            if isinstance(other, dict):
-                raise Fault(f"with other values: {other}")
-            checker.check(line, other)
-            report.passed += 1
-        except servers.Refused as error:
-            report.refuse(server, name, checker.asked, str(error))
-        except Fault as error:
-            report.fail(name, checker.asked, f"{error}\n    request: {json.dumps(checker.asked.request, ensure_ascii=False)}")
-
-
-def start(wanted):
-    """The servers that can be started."""
-    started = {}
-    for dialect in wanted:
-        try:
-            began = time.monotonic()
-            started[dialect] = DIALECTS[dialect]()
-            print(f"{started[dialect].name} {started[dialect].version}, started in {time.monotonic() - began:.1f} s", flush=True)
-        except (servers.Missing, RuntimeError) as error:
-            print(f"skipped {dialect}: {error}")
-    return started
-
-
-def stored():
+def stored() -> Iterator[tuple[str, dict[str, Any]]]:
     """The documents of the repository."""
     for path in [*sorted((TOP / "examples").glob("*.json")), TOP / "crates/sql_tool/stdin"]:
         document = json.loads(path.read_text())
@@ -187,48 +63,119 @@ def stored():
     yield "documents.tsv", in_each_dialect({"schema": users, "requests": requests})
 
 
-def run_random(runner, count, seed, is_guarded):
-    """Random documents, until so many lines were accepted. Each is made from a seed of its own."""
-    done, requests = 0, 0
-    while done < count:
-        document = documents.document(random.Random(seed), is_guarded=is_guarded)
-        requests += len(document["requests"])
-        done += runner.run(f"document of --seed {seed}", document, seed)
-        seed += 1
-    print(f"{done} lines accepted of {requests}, up to seed {seed - 1}")
+def check_evaluator(report: Report) -> None:
+    """The answers that are worked out by hand."""
+    wrong, asked = worked.faults()
+    for query, rows in wrong:
+        report.fail(Place("the evaluator"), f"{json.dumps(query)}: {rows}")
+    report.passed += asked - len(wrong)
 
 
-def main():
+def check_spoilings(program: Program, started: dict[str, Server], report: Report) -> None:
+    """Each spoilt program is found on lines on which the program itself is not."""
+    before, chosen = report.failed, spoilt.chosen_documents()
+    for document in chosen.values():
+        Runner(program.ask, started, report, 0).run(document)
+    if report.failed == before and started:
+        found = list(spoilt.not_found(program.ask, started, chosen))
+        for what in found:
+            report.fail(Place("spoilt programs"), what)
+        report.passed += len(SPOILINGS) - len(found)
+        print(f"spoilt programs: {len(SPOILINGS) - len(found)} of {len(SPOILINGS)} found", flush=True)
+
+
+def check_names(program: Program, started: dict[str, Server], report: Report) -> None:
+    for server in started.values():
+        for what, found in names.faults(program.ask, server):
+            for fault in found:
+                report.fail(Place(what, server=server.name), fault)
+            report.passed += not found
+
+
+def run_gate(program: Program, started: dict[str, Server], report: Report, given: argparse.Namespace) -> None:
+    """All that the gate asks."""
+    steps: list[tuple[str, Callable[[], None]]] = [
+        ("the evaluator", lambda: check_evaluator(report)),
+        ("spoilt programs", lambda: check_spoilings(program, started, report)),
+        ("names and rights", lambda: check_names(program, started, report)),
+        ("stored documents", lambda: run_documents(Runner(program.ask, started, report, given.rows), list(stored()), given.seed, True)),
+        ("random documents", lambda: run_seeds(Runner(program.ask, started, report, given.rows), GATE_SEEDS, GATE_GUARD_SEEDS)),
+    ]
+    for what, step in steps:
+        began = time.monotonic()
+        step()
+        print(f"{what}: {time.monotonic() - began:.1f} s", flush=True)
+
+
+def run_documents(runner: Runner, documents: list[tuple[str, dict[str, Any]]], seed: int, are_ours: bool) -> None:
+    for name, content in documents:
+        runner.run(Document(name, content, seed, is_ours=are_ours))
+
+
+def run_seeds(runner: Runner, seeds: range, guard_seeds: range) -> None:
+    for seed in seeds:
+        runner.run(campaign.random_document(seed, False))
+    for seed in guard_seeds:
+        runner.run(campaign.random_document(seed, True))
+
+
+def show_spoiling(spoilt_program: SpoiltProgram, report: Report) -> bool:
+    """How often the spoilt program was found. Whether it was."""
+    found = len({(place.document, place.request) for place in report.failing})
+    print(f"\nspoilt by {spoilt_program.spoiling.name}: found in {found} of {spoilt_program.count} lines that it changes")
+    return found > 0
+
+
+def arguments() -> argparse.Namespace:
     parser = argparse.ArgumentParser(description=__doc__, formatter_class=argparse.RawDescriptionHelpFormatter)
     parser.add_argument("documents", nargs="*", type=pathlib.Path)
     parser.add_argument("--random", type=int, metavar="COUNT", help="random documents, until so many lines were accepted")
+    parser.add_argument("--minutes", type=float, help="random documents, with and without a guard, for so long")
+    parser.add_argument("--jobs", type=int, default=1, help="so many workers, with --minutes or --random")
     parser.add_argument("--seed", type=int, default=1, help="of the first random document, and of the random rows")
     parser.add_argument("--guard", action="store_true", help="random documents have a guard, and are run by the command guard")
+    parser.add_argument("--spoil", choices=["list", *SPOILINGS], metavar="NAME", help="the program is spoilt in this way")
     parser.add_argument("--program", default=str(TOP / "crates/sql_tool/out/sql_tool"))
     parser.add_argument("--dialect", action="append", choices=sorted(DIALECTS), help="on this one's server alone")
     parser.add_argument("--rows", type=int, default=4, help="a table has at most so many")
     parser.add_argument("--show", type=int, default=20, help="so many failures are shown")
-    given = parser.parse_args()
+    return parser.parse_args()
+
+
+def run(given: argparse.Namespace, report: Report) -> bool:
+    """Whether all is well."""
+    program = Program(given.program)
+    started = start(given.dialect or list(DIALECTS), report)
+    spoilt_program = SpoiltProgram(program.ask, SPOILINGS[given.spoil]) if given.spoil else None
+    runner = Runner(program.ask, started, report, given.rows, spoilt_program)
+    if given.documents:
+        run_documents(runner, [(path.name, json.loads(path.read_text())) for path in given.documents], given.seed, False)
+    elif given.random is not None or given.minutes is not None:
+        campaign.run_random(runner, Options.of(given), 0)
+    elif spoilt_program is not None:
+        run_documents(runner, list(stored()), given.seed, True)
+    else:
+        run_gate(program, started, report, given)
+    return show_spoiling(spoilt_program, report) if spoilt_program is not None else report.failed == 0
+
+
+def main() -> int:
+    given = arguments()
+    if given.spoil == "list":
+        for each in SPOILINGS.values():
+            print(f"{each.name:22} {each.command:6} {each.what}")
+        return 0
     if not os.access(given.program, os.X_OK):
         print(f"skipped: no program {given.program}")
         return 0
-    signal.signal(signal.SIGTERM, lambda *_: sys.exit("stopped"))  # so that the servers are ended
-    started = start(given.dialect or DIALECTS)
-    report = Report(given.show)
-    report.check_evaluator()
+    servers.SIGNALS.install()
+    report = Report(given.show if not given.spoil else 0)
     try:
-        runner = Runner(given.program, started, report, given.rows)
-        if given.random is not None:
-            run_random(runner, given.random, given.seed, given.guard)
-        else:
-            chosen = [(path.name, json.loads(path.read_text())) for path in given.documents] or stored()
-            for name, document in chosen:
-                runner.run(name, document, given.seed)
+        is_well = campaign.run_jobs(Options.of(given), report) if given.jobs > 1 else run(given, report)
     finally:
-        for server in started.values():
-            server.stop()
+        servers.stop_all()
         report.show()
-    return report.failed != 0
+    return 0 if is_well else 1
 
 
 if __name__ == "__main__":

@@ -1,31 +1,41 @@
-"""A document's tables on a server, with small random rows: NULL in nullable columns now and then. The evaluator gets the same rows."""
+"""A document's tables on a server, with small random rows: equal ones but for their keys, and NULL in nullable columns, now and then. The
+evaluator gets the same rows."""
+from __future__ import annotations
+
+import random
+from typing import Any, Sequence
+
 import servers
 import values
-from statements import python_value
+from servers import Server
+from statements import Database, Row, Schema, python_value
 
 
-def random_database(chance, schema, most):
-    """For each table at most so many rows. Rows have distinct keys, as the server asks."""
+def random_database(chance: random.Random, schema: Schema, most: int) -> Database:
+    """For each table at most so many rows, and none now and then. Rows have distinct keys, as the server asks."""
     return {name: random_rows(chance, schema, name, most) for name in schema.tables}
 
 
-def random_rows(chance, schema, name, most):
+def random_rows(chance: random.Random, schema: Schema, name: str, most: int) -> list[Row]:
     columns = schema.columns(name)
     key = [schema.index[name][column] for column in schema.key(name)]
-    rows = {}
-    for _ in range(chance.randint(0, most)):
-        row = tuple(python_value(column["type"], values.some(chance, column["type"])) for column in columns)
-        rows.setdefault(tuple(row[at] for at in key), row)
+    rows: dict[Row, Row] = {}
+    for _ in range(0 if chance.random() < 0.1 else chance.randint(min(2, most), most)):
+        row = [python_value(column["type"], values.some(chance, column["type"])) for column in columns]
+        if rows and chance.random() < 0.5:
+            model = chance.choice(list(rows.values()))
+            row = [row[at] if at in key else model[at] for at in range(len(columns))]
+        rows.setdefault(tuple(row[at] for at in key), tuple(row))
     return list(rows.values())
 
 
-def path(server, table):
+def path(server: Server, table: dict[str, Any]) -> str:
     """The table's name as the server takes it."""
     parts = [table["schema"]] if "schema" in table else []
     return ".".join(server.quoted(part) for part in [*parts, table.get("sql_name", table["name"])])
 
 
-def create_table(server, schema, name):
+def create_table(server: Server, schema: Schema, name: str) -> None:
     table = schema.tables[name]
     lines = []
     for column in table["columns"]:
@@ -37,11 +47,11 @@ def create_table(server, schema, name):
     server.run(f"CREATE TABLE {path(server, table)} ({', '.join(lines)})")
 
 
-def sql_name(column):
-    return column.get("sql_name", column["name"])
+def sql_name(column: dict[str, Any]) -> str:
+    return str(column.get("sql_name", column["name"]))
 
 
-def insert(server, schema, name, rows):
+def insert(server: Server, schema: Schema, name: str, rows: Sequence[Row]) -> None:
     table = schema.tables[name]
     kinds = [values.kind(column["type"]) for column in table["columns"]]
     places = [f"${number}" if server.dialect == "Pg" else "?" for number in range(1, len(kinds) + 1)]
@@ -51,7 +61,13 @@ def insert(server, schema, name, rows):
     server.close()
 
 
-def create(server, schema, database):
+def replace_rows(server: Server, schema: Schema, name: str, rows: Sequence[Row]) -> None:
+    """The table has these rows, and no other ones."""
+    server.run(f"DELETE FROM {path(server, schema.tables[name])}")
+    insert(server, schema, name, rows)
+
+
+def create(server: Server, schema: Schema, database: Database) -> dict[str, str]:
     """Makes the tables. The tables that the server refuses, each with its message."""
     refused_schemas = server.open_schemas({table["schema"] for table in schema.tables.values() if "schema" in table})
     refused = {}

@@ -5,9 +5,18 @@ statements"). Expressions and sources are tuples, whose first element says what 
     ("compare", operator, a, b)   ("connect", operator, a, b)   ("not", a)   ("null_test", is_negated, a)   ("nullable", a)
     ("count", a)   ("exists", statement)   ("single", statement)   ("among_values", is_negated, a, type, [value..])
     ("among_rows", is_negated, a, statement)   and of readings.py ("either",)   ("skipped", statement)
-    ("table", table, is_partial)   ("alias", alias, table)   ("join", kind, left, right, on or None)
+    ("table", table, is_partial, is_sampled)   ("alias", alias, table)   ("join", kind, left, right, on or None)
 """
+from __future__ import annotations
+
 from dataclasses import dataclass, field, replace
+from typing import Any, Dict, Iterable, Iterator, List, Optional, Tuple, Union
+
+Expr = Tuple[Any, ...]
+Source = Tuple[Any, ...]
+Origin = Tuple[Optional[str], str]  # an alias or None, and the table
+Row = Tuple[Any, ...]
+Database = Dict[str, List[Row]]
 
 COMPARISONS = ("eq", "ne", "gt", "ge", "lt", "le")
 CONNECTIVES = ("and", "or")
@@ -20,19 +29,20 @@ JOINS = {"inner_join": "inner", "left_outer_join": "left", "left_join": "left"}
 @dataclass
 class Select:
     """A select statement, or a boxed one."""
-    selection: tuple
-    source: tuple | None
+    selection: Expr
+    source: Source | None
     is_default: bool = False
-    distinct: str | tuple | None = None  # "distinct", or the expression of DISTINCT ON
-    where: tuple | None = None
-    group_by: tuple | None = None
-    having: tuple | None = None
-    order: list | None = None  # of an expression and whether it descends
+    distinct: str | Expr | None = None  # "distinct", or the expression of DISTINCT ON
+    where: Expr | None = None
+    group_by: Expr | None = None
+    having: Expr | None = None
+    order: list[tuple[Expr, bool]] | None = None  # of an expression and whether it descends
     limit: int | None = None
     offset: int | None = None
     lock: str | None = None
     modifier: str | None = None
     is_boxed: bool = False
+    is_nullable: bool = False  # a boxed one, by the call nullable
 
 
 @dataclass
@@ -40,29 +50,34 @@ class Combination:
     """Two statements as one."""
     operator: str  # "union", "intersect" or "except"
     keeps_all: bool
-    left: "Select | Combination"
-    right: "Select | Combination"
-    order: list = field(default_factory=list)  # of the number of a column and whether it descends
+    left: Statement
+    right: Statement
+    order: list[tuple[int, bool]] = field(default_factory=list)  # of the number of a column and whether it descends
     limit: int | None = None
     offset: int | None = None
+
+
+Statement = Union[Select, Combination]
 
 
 class Schema:
     """The declarations of a document."""
 
-    def __init__(self, declared):
-        self.tables = {table["name"]: table for table in declared["tables"]}
-        self.joinable = declared.get("joinable", [])
-        self.index = {name: {column["name"]: at for at, column in enumerate(table["columns"])}
-                      for name, table in self.tables.items()}
+    def __init__(self, declared: dict[str, Any]) -> None:
+        self.tables: dict[str, dict[str, Any]] = {table["name"]: table for table in declared["tables"]}
+        self.joinable: list[dict[str, str]] = declared.get("joinable", [])
+        self.index: dict[str, dict[str, int]] = {name: {column["name"]: at for at, column in enumerate(table["columns"])}
+                                                 for name, table in self.tables.items()}
 
-    def columns(self, table):
-        return self.tables[table]["columns"]
+    def columns(self, table: str) -> list[dict[str, Any]]:
+        columns: list[dict[str, Any]] = self.tables[table]["columns"]
+        return columns
 
-    def key(self, table):
-        return self.tables[table].get("primary_key", ["id"])
+    def key(self, table: str) -> list[str]:
+        key: list[str] = self.tables[table].get("primary_key", ["id"])
+        return key
 
-    def relation(self, a, b):
+    def relation(self, a: Origin, b: Origin) -> tuple[str, Origin, Origin] | None:
         """The column of the child and the two origins, child first, where a relation is declared between these two origins."""
         for declared in self.joinable:
             if (declared["child"], declared["parent"]) == (a[1], b[1]):
@@ -72,18 +87,18 @@ class Schema:
         return None
 
 
-def python_value(kind, value):
+def python_value(kind: str, value: Any) -> Any:
     """A value of a document or of an answer: Binary as bytes, a list as a list."""
     if isinstance(value, list):
         return [python_value(kind, each) for each in value]
     return bytes.fromhex(value) if kind.startswith("Binary") and value is not None else value
 
 
-def statement(schema, query):
+def statement(schema: Schema, query: dict[str, Any]) -> Statement:
     """The statement of a query."""
     if "from" in query:
         source = source_of(schema, query["from"])
-        made = Select(default_selection(schema, source), source, is_default=True)
+        made: Statement = Select(default_selection(schema, source), source, is_default=True)
     else:
         made = Select(expression(schema, query["select"]), None)
     for name, *arguments in query.get("calls", []):
@@ -93,21 +108,21 @@ def statement(schema, query):
 
 # ---- sources
 
-def source_of(schema, source):
+def source_of(schema: Schema, source: dict[str, Any]) -> Source:
     if "table" in source:
-        return "table", source["table"], source.get("only", False) or "sample" in source
+        return "table", source["table"], source.get("only", False) or "sample" in source, "sample" in source
     if "alias" in source:
         return "alias", source["alias"], source["of"]
     kind, left, right = source["join"]
     return joined(schema, kind, source_of(schema, left), source_of(schema, right), source.get("on"))
 
 
-def joined(schema, kind, left, right, on):
+def joined(schema: Schema, kind: str, left: Source, right: Source, on: Any) -> Source:
     condition = implicit_on(schema, left, right) if on is None else expression(schema, on)
     return "join", kind, left, right, condition
 
 
-def implicit_on(schema, left, right):
+def implicit_on(schema: Schema, left: Source, right: Source) -> Expr | None:
     """child.key = parent.key, by the leftmost leaves of both sides."""
     found = schema.relation(leaves(left)[0][0], leaves(right)[0][0])
     if found is None:
@@ -116,7 +131,7 @@ def implicit_on(schema, left, right):
     return "compare", "eq", ("nullable", ("column", child, key)), ("nullable", ("column", parent, schema.key(parent[1])[0]))
 
 
-def leaves(source, paddings=0):
+def leaves(source: Source, paddings: int = 0) -> list[tuple[Origin, int]]:
     """The tables and aliases of a source from left to right, each as its origin and how many left joins it is on the right of."""
     if source[0] == "table":
         return [((None, source[1]), paddings)]
@@ -125,11 +140,11 @@ def leaves(source, paddings=0):
     return leaves(source[2], paddings) + leaves(source[3], paddings + (source[1] == "left"))
 
 
-def default_selection(schema, source):
-    selected = []
+def default_selection(schema: Schema, source: Source) -> Expr:
+    selected: list[Expr] = []
     for origin, paddings in leaves(source):
         for column in schema.columns(origin[1]):
-            taken = "column", origin, column["name"]
+            taken: Expr = ("column", origin, column["name"])
             for _ in range(paddings):
                 taken = "nullable", taken
             selected.append(taken)
@@ -138,7 +153,7 @@ def default_selection(schema, source):
 
 # ---- expressions
 
-def expression(schema, e):
+def expression(schema: Schema, e: Any) -> Expr:
     if isinstance(e, list):
         return "list", [expression(schema, each) for each in e]
     if e == "count_star":
@@ -166,15 +181,15 @@ def expression(schema, e):
     raise ValueError(f"no expression: {name}")
 
 
-def membership(schema, is_negated, operand, among):
-    operand = expression(schema, operand)
+def membership(schema: Schema, is_negated: bool, operand: Any, among: dict[str, Any]) -> Expr:
+    given = expression(schema, operand)
     if "list" in among:
         kind, values = among["list"]
-        return "among_values", is_negated, operand, kind, python_value(kind, values)
-    return "among_rows", is_negated, operand, statement(schema, among)
+        return "among_values", is_negated, given, kind, python_value(kind, values)
+    return "among_rows", is_negated, given, statement(schema, among)
 
 
-def item(schema, e):
+def item(schema: Schema, e: Any) -> tuple[Expr, bool]:
     """The expression of an item of an order, and whether it descends."""
     if isinstance(e, dict) and ("asc" in e or "desc" in e):
         (direction, inner), = e.items()
@@ -182,7 +197,7 @@ def item(schema, e):
     return expression(schema, e), False
 
 
-def place(e):
+def place(e: Any) -> tuple[int, bool]:
     if isinstance(e, dict):
         (direction, number), = e.items()
         return number, direction == "desc"
@@ -191,7 +206,7 @@ def place(e):
 
 # ---- calls
 
-def called(schema, s, name, arguments):
+def called(schema: Schema, s: Statement, name: str, arguments: list[Any]) -> Statement:
     """The statement after a call. A combination takes limit, offset, an order by places and a further combination."""
     if name in COMBINATIONS:
         operator, _, rest = name.partition("_")
@@ -199,7 +214,9 @@ def called(schema, s, name, arguments):
     if name in ("limit", "offset"):
         return replace(s, **{name: arguments[0]})
     if name == "positional_order_by":
+        assert isinstance(s, Combination)
         return replace(s, order=[place(each) for each in arguments[0]])
+    assert isinstance(s, Select)
     if name in JOINS:
         return with_join(schema, s, JOINS[name], *arguments)
     if name == "find":
@@ -216,16 +233,16 @@ def called(schema, s, name, arguments):
     return with_clause(schema, s, name, arguments)
 
 
-def with_clause(schema, s, name, arguments):
+def with_clause(schema: Schema, s: Select, name: str, arguments: list[Any]) -> Statement:
     if name == "distinct":
         return replace(s, distinct="distinct")
     if name == "count":
-        return replace(s, selection=("count_star",), is_default=False)
+        return replace(s, selection=("count_star",), is_default=False, is_nullable=False)
     if name == "nullable":
-        return s if s.is_boxed else replace(s, selection=("nullable", s.selection), is_default=False)
+        return replace(s, is_nullable=True) if s.is_boxed else replace(s, selection=("nullable", s.selection), is_default=False)
     given = expression(schema, arguments[0])
     if name == "select":
-        return replace(s, selection=given, is_default=False)
+        return replace(s, selection=given, is_default=False, is_nullable=False)
     if name == "filter":
         return replace(s, where=beside("and", s.where, given))
     if name == "or_filter":
@@ -234,29 +251,32 @@ def with_clause(schema, s, name, arguments):
     return replace(s, **{clause: given})
 
 
-def beside(by, old, new):
+def beside(by: str, old: Expr | None, new: Expr) -> Expr:
     return new if old is None else ("connect", by, old, new)
 
 
-def with_join(schema, s, kind, right, on=None):
+def with_join(schema: Schema, s: Select, kind: str, right: dict[str, Any], on: Any = None) -> Statement:
+    assert s.source is not None
     source = joined(schema, kind, s.source, source_of(schema, right), on)
     stays = s.is_boxed or not s.is_default
     return replace(s, source=source, selection=s.selection if stays else default_selection(schema, source))
 
 
-def found(schema, s, values):
+def found(schema: Schema, s: Select, values: list[Any]) -> Statement:
     """One more condition, `(a AND (b AND c))`: each column of the key equals the value at its index."""
+    assert s.source is not None
     origin = leaves(s.source)[0][0]
-    condition = None
+    condition: Expr | None = None
     for column, value in reversed(list(zip(schema.key(origin[1]), values))):
-        equal = "compare", "eq", ("column", origin, column), expression(schema, value)
+        equal: Expr = ("compare", "eq", ("column", origin, column), expression(schema, value))
         condition = equal if condition is None else ("connect", "and", equal, condition)
+    assert condition is not None
     return replace(s, where=beside("and", s.where, condition))
 
 
 # ---- what is in a statement
 
-def statements_in(s):
+def statements_in(s: Statement) -> Iterator[Statement]:
     """The statement and all inside it."""
     yield s
     if isinstance(s, Combination):
@@ -268,7 +288,7 @@ def statements_in(s):
             yield from statements_in(inner)
 
 
-def clauses(s):
+def clauses(s: Select) -> list[Expr]:
     """The expressions of a select statement's clauses, those of ON too."""
     distinct = s.distinct if isinstance(s.distinct, tuple) else None
     order = [e for e, _ in s.order or []]
@@ -276,17 +296,18 @@ def clauses(s):
     return [e for e in (s.selection, distinct, s.where, s.group_by, s.having, *order, *conditions) if e is not None]
 
 
-def conditions_of(source):
+def conditions_of(source: Source) -> list[Expr]:
     if source[0] != "join":
         return []
     own = [] if source[4] is None else [source[4]]
     return conditions_of(source[2]) + conditions_of(source[3]) + own
 
 
-def children(e):
+def children(e: Expr) -> Iterable[Expr]:
     """The expressions right below an expression."""
     if e[0] == "list":
-        return e[1]
+        elements: list[Expr] = e[1]
+        return elements
     if e[0] in ("compare", "connect"):
         return e[2:4]
     if e[0] in ("not", "nullable", "count"):
@@ -296,14 +317,14 @@ def children(e):
     return ()
 
 
-def nodes(e):
+def nodes(e: Expr) -> Iterator[Expr]:
     """The expression and all inside it, outside subselects."""
     yield e
     for child in children(e):
         yield from nodes(child)
 
 
-def subselects(e):
+def subselects(e: Expr) -> Iterator[Statement]:
     for node in nodes(e):
         if node[0] in ("exists", "single"):
             yield node[1]
@@ -311,15 +332,36 @@ def subselects(e):
             yield node[3]
 
 
-def tables_of(s):
+def tables_of(s: Statement) -> set[str]:
     """The names of the tables that a statement reads."""
     return {origin[1] for inner in statements_in(s) if isinstance(inner, Select) and inner.source is not None
             for origin, _ in leaves(inner.source)}
 
 
-def is_grouped(s):
-    """Whether an aggregate, GROUP BY or HAVING stands in it: then it has no answers in docs/MEANING.md."""
-    return any(isinstance(inner, Select) and (
-        inner.group_by is not None or inner.having is not None
-        or any(node[0] in ("count", "count_star") for e in clauses(inner) for node in nodes(e)))
-        for inner in statements_in(s))
+def has_count(e: Expr) -> bool:
+    """Whether an aggregate stands in the expression, outside subselects."""
+    return any(node[0] in ("count", "count_star") for node in nodes(e))
+
+
+def is_aggregated(s: Select) -> bool:
+    """Whether its rows are groups: it has GROUP BY, or an aggregate where one may stand."""
+    after = [s.selection, s.having, *(e for e, _ in s.order or [])]
+    after += [s.distinct] if isinstance(s.distinct, tuple) else []
+    return s.group_by is not None or any(e is not None and has_count(e) for e in after)
+
+
+def is_determined(s: Statement) -> bool:
+    """Whether its rows, their order aside, are the same in each of its answers: nothing in it chooses some of several rows."""
+    return all(inner.limit is None and inner.offset is None and is_whole(inner) for inner in statements_in(s))
+
+
+def is_whole(s: Statement) -> bool:
+    if isinstance(s, Combination):
+        return True
+    partial = s.source is not None and any(source[0] == "table" and source[2] for source in sources_in(s.source))
+    return not partial and not isinstance(s.distinct, tuple) and s.modifier != "skip_locked"
+
+
+def sources_in(source: Source) -> list[Source]:
+    """The tables and aliases of a source from left to right."""
+    return sources_in(source[2]) + sources_in(source[3]) if source[0] == "join" else [source]
