@@ -85,6 +85,7 @@ def run_random(runner: Runner, options: Options, worker: int) -> None:
 
 def work(options: Options, worker: int, results: Connection) -> None:
     """One worker, with servers of its own."""
+    servers.SIGNALS.install()
     report = Report(options.shown)
     try:
         program = Program(options.program)

@@ -88,7 +88,8 @@ def dotted() -> list[Case]:
     of_columns = {"from": {"alias": "x.y", "of": "users"}, "calls": [["select", of_alias("x.y", "other")]]}
     join = {"join": ["inner", {"table": "users"}, {"table": "others"}], "on": {"eq": [col("users"), col("others")]}}
     tables = [table("users", "id", sql_name="s.t"), table("others", "id", sql_name="t", schema="s")]
-    return [Case("dots in names", of_columns, alike(FIVE), FIVE, [{"name": "users", "sql_name": "a.b", "columns": columns}], {"users": [(1, 5)]}),
+    dots = [{"name": "users", "sql_name": "a.b", "columns": columns}]
+    return [Case("dots in names", of_columns, alike(FIVE), FIVE, dots, {"users": [(1, 5)]}),
             Case("a dot in a table's name, and a table of that schema", {"from": join, "calls": [["select", col("users")]]}, alike(ONE), ONE,
                  tables, {"users": [(1,), (2,)], "others": [(2,)]})]
 

@@ -8,6 +8,10 @@ import refusals
 from lines import Line
 
 
+# How the counts begin that are added up for each column of the table of servers.
+BEGINNINGS = ("lines", "executed", "executed, with rows", "rows allowed", "rows allowed,", "rows with too many", "audit: ", "rows of guard")
+
+
 class Place(NamedTuple):
     """A request of a document, the server that was asked about it, and what it was asked."""
     document: str
@@ -68,6 +72,17 @@ class Report:
         for (server, message, why), (count, example) in other.messages.items():
             self.note(server, message, why, count, example)
 
+    def shares(self) -> list[str]:
+        """A row for each server: what was asked, what ran, and what the rows were."""
+        rows = ["| server | lines | executed | with rows | rows allowed | of these otherwise | not followed | audited | cut | refused |",
+                "|---|---|---|---|---|---|---|---|---|---|"]
+        for server, version in sorted(self.versions.items()):
+            told = {what: count for (of, what), count in self.counts.items() if of == server}
+            counts = [sum(count for what, count in told.items() if what.startswith(start)) for start in BEGINNINGS]
+            refused = sum(count for (of, _, _), (count, _) in self.messages.items() if of == server)
+            rows.append(f"| {server} {version} | " + " | ".join(f"{count:,}" for count in (*counts, refused)) + " |")
+        return rows
+
     def show(self) -> None:
         print("\n| server | what | times |\n|---|---|---|")
         for (server, what), count in sorted(self.counts.items()):
@@ -76,5 +91,6 @@ class Report:
             print("\n| server | refused with the message | times | why |\n|---|---|---|---|")
         for (server, message, why), (count, example) in sorted(self.messages.items()):
             print(f"| {server} | {message} | {count} | {why if why != 'NEW' else 'NEW: ' + example} |")
+        print("\n" + "\n".join(self.shares()))
         print(f"\n{self.refused} refused by servers as known")
         print(f"{self.passed} passed, {self.failed} failed", flush=True)

@@ -33,6 +33,7 @@ import campaign  # noqa: E402
 import names  # noqa: E402
 import servers  # noqa: E402
 import spoilt  # noqa: E402
+import stops  # noqa: E402
 import worked  # noqa: E402
 from campaign import DIALECTS, Options, start  # noqa: E402
 from program import Program  # noqa: E402
@@ -77,11 +78,19 @@ def check_spoilings(program: Program, started: dict[str, Server], report: Report
     for document in chosen.values():
         Runner(program.ask, started, report, 0).run(document)
     if report.failed == before and started:
+        asked = [(spoiling, command) for spoiling in SPOILINGS.values() for command in spoiling.commands]
         found = list(spoilt.not_found(program.ask, started, chosen))
         for what in found:
             report.fail(Place("spoilt programs"), what)
-        report.passed += len(SPOILINGS) - len(found)
-        print(f"spoilt programs: {len(SPOILINGS) - len(found)} of {len(SPOILINGS)} found", flush=True)
+        report.passed += len(asked) - len(found)
+        print(f"spoilt programs: {len(asked) - len(found)} of {len(asked)} found, of {len(SPOILINGS)} spoilings", flush=True)
+
+
+def check_stops(report: Report) -> None:
+    for what, found in stops.faults():
+        for fault in found:
+            report.fail(Place(f"a server that is {what}"), fault)
+        report.passed += not found
 
 
 def check_names(program: Program, started: dict[str, Server], report: Report) -> None:
@@ -97,6 +106,7 @@ def run_gate(program: Program, started: dict[str, Server], report: Report, given
     steps: list[tuple[str, Callable[[], None]]] = [
         ("the evaluator", lambda: check_evaluator(report)),
         ("spoilt programs", lambda: check_spoilings(program, started, report)),
+        ("what is started ends", lambda: check_stops(report)),
         ("names and rights", lambda: check_names(program, started, report)),
         ("stored documents", lambda: run_documents(Runner(program.ask, started, report, given.rows), list(stored()), given.seed, True)),
         ("random documents", lambda: run_seeds(Runner(program.ask, started, report, given.rows), GATE_SEEDS, GATE_GUARD_SEEDS)),
@@ -163,7 +173,7 @@ def main() -> int:
     given = arguments()
     if given.spoil == "list":
         for each in SPOILINGS.values():
-            print(f"{each.name:22} {each.command:6} {each.what}")
+            print(f"{each.name:22} {', '.join(each.commands):13} {each.what}")
         return 0
     if not os.access(given.program, os.X_OK):
         print(f"skipped: no program {given.program}")

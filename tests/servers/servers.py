@@ -78,6 +78,8 @@ class Signals:
         self.came: int | None = None
 
     def install(self) -> None:
+        """Once in each process."""
+        self.is_held, self.came = False, None
         for number in (signal.SIGTERM, signal.SIGINT, signal.SIGHUP):
             signal.signal(number, self.handle)
 
@@ -159,12 +161,21 @@ class Process:
         """Runs a program to its end."""
         self.begin(*words)
         assert self.process is not None
-        try:
-            status = self.process.wait(START_PATIENCE)
-        except subprocess.TimeoutExpired as error:
-            raise NotStarted(f"{words[0]} did not end in {START_PATIENCE} s: {self.tail()}") from error
+        if not self.has_ended(START_PATIENCE):
+            raise NotStarted(f"{words[0]} did not end in {START_PATIENCE} s: {self.tail()}")
+        status = self.process.wait()
         if status != 0:
             raise NotStarted(f"{words[0]} ended with {status}: {self.tail()}")
+
+    def has_ended(self, patience: float = 0) -> bool:
+        """Whether the process ended in so many seconds. Its number stays taken, so that no other process can get it."""
+        assert self.process is not None
+        until = time.monotonic() + patience
+        while os.waitid(os.P_PID, self.process.pid, os.WEXITED | os.WNOHANG | os.WNOWAIT) is None:
+            if time.monotonic() >= until:
+                return False
+            time.sleep(0.02)
+        return True
 
     def start(self, *words: str, end: signal.Signals) -> None:
         """Starts the server itself, which `end` asks to end."""
@@ -175,7 +186,7 @@ class Process:
         """What `connect` gives once the server takes connections."""
         until = time.monotonic() + START_PATIENCE
         while True:
-            if self.process is None or self.process.poll() is not None:
+            if self.has_ended():
                 raise NotStarted(f"{self.name} ended: {self.tail()}")
             try:
                 return connect()
@@ -187,24 +198,17 @@ class Process:
     def tail(self) -> str:
         return (self.folder / "log").read_bytes()[-2000:].decode(errors="replace")
 
-    def ask_to_end(self, process: subprocess.Popen[bytes]) -> None:
-        """A server gets time to end. What prepares its folder gets none."""
-        if self.end is None:
-            return
-        process.send_signal(self.end)
-        with contextlib.suppress(subprocess.TimeoutExpired):
-            process.wait(STOP_PATIENCE)
-
     def stop(self) -> None:
         """Ends what runs, asking it first, and removes the folder. A second call does nothing."""
         with SIGNALS.held():
             if self not in STARTED:
                 return
-            if self.process is not None and self.process.poll() is None:
-                self.ask_to_end(self.process)
-                if self.process.poll() is None:
-                    os.killpg(self.process.pid, signal.SIGKILL)
-                    self.process.wait()
+            if self.process is not None and self.process.returncode is None:
+                if self.end is not None:  # a server gets time to end; what prepares its folder gets none
+                    os.kill(self.process.pid, self.end)
+                    self.has_ended(STOP_PATIENCE)
+                os.killpg(self.process.pid, signal.SIGKILL)  # it, if it is deaf, and what it left
+                self.process.wait()
             self.log.close()
             shutil.rmtree(self.folder, ignore_errors=True)
             STARTED.remove(self)
@@ -224,6 +228,7 @@ def start_postgres() -> Process:
 def start_mariadb() -> Process:
     """A MariaDB that orders texts byte by byte, with the file `socket` in its folder."""
     mariadbd, install = binary("mariadbd", "/usr/sbin"), binary("mariadb-install-db", "/usr/bin")
+    binary("my_print_defaults", "/usr/bin")  # of another package, and called by mariadb-install-db
     server = Process("mariadb")
     data = f"--datadir={server.folder}/data"
     options = [f"--{option}" for option in MARIADB_OPTIONS]

@@ -32,9 +32,9 @@ Change = Callable[["dict[str, Any]", int, Case], "dict[str, Any] | None"]
 
 @dataclass(frozen=True)
 class Spoiling:
-    """What a program does wrong, on which command, and the dialects whose servers can tell."""
+    """What a program does wrong, on which commands, and the dialects whose servers can tell."""
     name: str
-    command: str
+    commands: tuple[str, ...]
     what: str
     spoil: Change
     dialects: tuple[str, ...] = ("Pg", "Mysql", "Sqlite")
@@ -208,30 +208,31 @@ def wrong_column(line: dict[str, Any], at: int, case: Case) -> dict[str, Any] | 
     return {**line, "columns": [*line["columns"][:-1], [table, others[0]]]} if others else None
 
 
+LINES = ("build", "guard")
 SPOILINGS = {each.name: each for each in (
-    Spoiling("safe-inverted", "build", "`safe` says the opposite", safe_inverted, is_seen_alone=True),
-    Spoiling("id-one", "build", "`id` is 1 wherever it is a number", id_one, is_seen_alone=True),
-    Spoiling("id-own", "build", "`id` is the request's own number", id_own, is_seen_alone=True),
-    Spoiling("count-null", "build", "COUNT(NULL) in place of COUNT(*)", of_text(r"COUNT\(\*\)", "COUNT(NULL)")),
-    Spoiling("count-star", "build", "COUNT(*) in place of the count of an expression", of_text(r"COUNT\([\"`][^()]*\)", "COUNT(*)")),
-    Spoiling("group-of-no-rows", "build", "a statement with GROUP BY sees no rows", no_rows_grouped),
-    Spoiling("distinct-dropped", "build", "DISTINCT is left out", of_text("SELECT DISTINCT (?!ON )", "SELECT ")),
-    Spoiling("union-all-lost", "build", "UNION in place of UNION ALL", of_text(" UNION ALL ", " UNION ")),
-    Spoiling("left-join-inner", "build", "INNER in place of LEFT OUTER JOIN", of_text(" LEFT OUTER JOIN ", " INNER JOIN ")),
-    Spoiling("order-turned", "build", "ascending in place of descending order", of_text(r" DESC\b", " ASC")),
-    Spoiling("values-exchanged", "build", "two values of one type change places", values_exchanged),
-    Spoiling("nullable-lost", "build", "no column is said to give NULL", of_columns(lambda told: told.rstrip("?")), is_seen_alone=True),
-    Spoiling("nullable-added", "build", "each column is said to give NULL", of_columns(lambda told: told.rstrip("?") + "?"), is_seen_alone=True),
-    Spoiling("guard-dropped", "guard", "the predicate is left out", unguarded),
-    Spoiling("guard-in-where", "guard", "the predicate right of a left join is put into WHERE", in_where),
-    Spoiling("guard-one-leaf", "guard", "the last leaf is not guarded", one_leaf_left),
-    Spoiling("guard-not-lost", "guard", "NOT in the predicate is left out", of_predicate(without_not)),
-    Spoiling("guard-and-for-or", "guard", "AND in place of OR in the predicate", of_predicate(and_for_or)),
-    Spoiling("guard-or-for-and", "guard", "OR in place of AND in the predicate", of_predicate(or_for_and)),
-    Spoiling("audit-leaf-forgotten", "audit", "the last leaf is not told", leaf_forgotten),
-    Spoiling("audit-path-forgotten", "audit", "the last path is not told", path_forgotten),
-    Spoiling("audit-wrong-column", "audit", "a path is of another column of its table", wrong_column),
-    Spoiling("audit-wrong-alias", "audit", "a path is of another leaf of its table", wrong_alias, ("Pg",)),
+    Spoiling("safe-inverted", LINES, "`safe` says the opposite", safe_inverted, is_seen_alone=True),
+    Spoiling("id-one", LINES, "`id` is 1 wherever it is a number", id_one, is_seen_alone=True),
+    Spoiling("id-own", LINES, "`id` is the request's own number", id_own, is_seen_alone=True),
+    Spoiling("count-null", ("build",), "COUNT(NULL) in place of COUNT(*)", of_text(r"COUNT\(\*\)", "COUNT(NULL)")),
+    Spoiling("count-star", ("build",), "COUNT(*) in place of the count of an expression", of_text(r"COUNT\([\"`][^()]*\)", "COUNT(*)")),
+    Spoiling("group-of-no-rows", ("build",), "a statement with GROUP BY sees no rows", no_rows_grouped),
+    Spoiling("distinct-dropped", LINES, "DISTINCT is left out", of_text("SELECT DISTINCT (?!ON )", "SELECT ")),
+    Spoiling("union-all-lost", LINES, "UNION in place of UNION ALL", of_text(" UNION ALL ", " UNION ")),
+    Spoiling("left-join-inner", LINES, "INNER in place of LEFT OUTER JOIN", of_text(" LEFT OUTER JOIN ", " INNER JOIN ")),
+    Spoiling("order-turned", LINES, "ascending in place of descending order", of_text(r" DESC\b", " ASC")),
+    Spoiling("values-exchanged", LINES, "two values of one type change places", values_exchanged),
+    Spoiling("nullable-lost", LINES, "no column is said to give NULL", of_columns(lambda told: told.rstrip("?")), is_seen_alone=True),
+    Spoiling("nullable-added", LINES, "each column is said to give NULL", of_columns(lambda told: told.rstrip("?") + "?"), is_seen_alone=True),
+    Spoiling("guard-dropped", ("guard",), "the predicate is left out", unguarded),
+    Spoiling("guard-in-where", ("guard",), "the predicate right of a left join is put into WHERE", in_where),
+    Spoiling("guard-one-leaf", ("guard",), "the last leaf is not guarded", one_leaf_left),
+    Spoiling("guard-not-lost", ("guard",), "NOT in the predicate is left out", of_predicate(without_not)),
+    Spoiling("guard-and-for-or", ("guard",), "AND in place of OR in the predicate", of_predicate(and_for_or)),
+    Spoiling("guard-or-for-and", ("guard",), "OR in place of AND in the predicate", of_predicate(or_for_and)),
+    Spoiling("audit-leaf-forgotten", ("audit",), "the last leaf is not told", leaf_forgotten),
+    Spoiling("audit-path-forgotten", ("audit",), "the last path is not told", path_forgotten),
+    Spoiling("audit-wrong-column", ("audit",), "a path is of another column of its table", wrong_column),
+    Spoiling("audit-wrong-alias", ("audit",), "a path is of another leaf of its table", wrong_alias, ("Pg",)),
 )}
 
 
@@ -246,7 +247,7 @@ class SpoiltProgram:
 
     def ask(self, words: list[str], document: dict[str, Any]) -> list[dict[str, Any]]:
         lines = self.plain(words, document)
-        if words[0] != self.spoiling.command:
+        if words[0] not in self.spoiling.commands:
             return lines
         case = Case(self.plain, words, document)
         spoilt = [self.spoilt(copy.deepcopy(line), at, case) for at, line in enumerate(lines)]
@@ -261,4 +262,4 @@ class SpoiltProgram:
 
     def is_asked_about(self, command: str, at: int) -> bool:
         """Lines that are as they were are left out; texts that are audited have to be built."""
-        return self.spoiling.command == "audit" or (self.spoiling.command == command and at in self.changed)
+        return "audit" in self.spoiling.commands or (command in self.spoiling.commands and at in self.changed)

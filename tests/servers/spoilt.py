@@ -80,6 +80,7 @@ GUARDED = [
     query("posts", ["inner_join", P, SAME_WRITER], ["select", [POST, {"field": ["p", "posts", "id"]}]]),
     query("posts", ["select", POST], ["union", query("posts", ["select", WRITER])]),
     query("posts", ["select", TITLE], ["distinct"]),
+    query("posts", ["select", WRITER], ["union_all", query("posts", ["select", WRITER])]),
 ]
 
 
@@ -109,7 +110,9 @@ def not_found(ask: Ask, started: dict[str, Server], chosen: dict[str, Document])
     """The spoilings that a server which can tell them does not find."""
     for spoiling in SPOILINGS.values():
         able = {dialect: server for dialect, server in started.items() if dialect in spoiling.dialects}
-        count, found = try_spoiling(ask, able, spoiling, chosen[spoiling.command])
-        missing = {server.name for server in able.values()} - found
-        if missing or not count:
-            yield f"a program is not found in which {spoiling.what} ({spoiling.name}): {', '.join(sorted(missing)) or 'it changes no line'}"
+        for command in spoiling.commands:
+            count, found = try_spoiling(ask, able, spoiling, chosen[command])
+            missing = {server.name for server in able.values()} - found
+            if missing or (able and not count):
+                where = ", ".join(sorted(missing)) or "it changes no line"
+                yield f"a program is not found in which {spoiling.what} ({spoiling.name}, {command}): {where}"
