@@ -96,6 +96,7 @@ class OnServer:
 
     def __init__(self, runner: Runner, document: Document, server: Server, asked: Asked, plain: Asked) -> None:
         self.ask = runner.ask
+        self.audits = runner.spoilt is None or "audit" in runner.spoilt.spoiling.commands
         self.report = runner.report
         self.document = document
         self.server = server
@@ -113,7 +114,8 @@ class OnServer:
             checker = Checker(self.server, schema, kept, self.refused)
             for at, line in found:
                 self.run_line(checker, at, line)
-            self.audit(checker, found)
+            if self.audits:
+                self.audit(checker, found)
             if guard and guard["table"] not in self.refused:
                 schemas.replace_rows(self.server, schema, guard["table"], kept[guard["table"]])
                 self.compare(checker, found)

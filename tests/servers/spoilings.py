@@ -6,6 +6,7 @@ A spoiling has the program's own lines and may ask it something else. It gives t
 from __future__ import annotations
 
 import copy
+import itertools
 import re
 from dataclasses import dataclass
 from typing import Any, Callable
@@ -68,14 +69,14 @@ def id_own(line: dict[str, Any], at: int, case: Case) -> dict[str, Any]:
     return {**line, "id": at + 1} if line["id"] is not None else line
 
 
-def values_exchanged(line: dict[str, Any], at: int, case: Case) -> dict[str, Any]:
-    """The last value and the first one of its type that differs from it."""
+def values_exchanged(line: dict[str, Any], at: int, case: Case) -> dict[str, Any] | None:
+    """The first two values of one type that differ."""
     binds = list(line["binds"])
-    for first in range(len(binds) - 1):
-        if binds[first][0] == binds[-1][0] and binds[first] != binds[-1]:
-            binds[first], binds[-1] = binds[-1], binds[first]
-            break
-    return {**line, "binds": binds}
+    for first, second in itertools.combinations(range(len(binds)), 2):
+        if binds[first][0] == binds[second][0] and binds[first] != binds[second]:
+            binds[first], binds[second] = binds[second], binds[first]
+            return {**line, "binds": binds}
+    return None
 
 
 def with_query(line: dict[str, Any], at: int, case: Case, query: dict[str, Any]) -> dict[str, Any] | None:

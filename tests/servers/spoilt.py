@@ -73,13 +73,15 @@ PREDICATE = {"or": [{"not": {"eq": [STARS, value("Integer?", 3)]}},
                     {"and": [{"is_null": STARS}, {"not": {"eq": [WRITER, value("Integer", 2)]}}]}]}
 GUARDED = [
     query("posts", ["select", [POST, TITLE]]),
-    query("posts", ["filter", {"gt": [POST, value("Integer", 10)]}], ["select", POST], ["order", [{"desc": POST}]], ["limit", 2]),
+    query("posts", ["filter", {"gt": [POST, value("Integer", 11)]}], ["select", POST], ["order", [{"desc": POST}]], ["limit", 2]),
+    query("posts", ["filter", {"gt": [POST, value("Integer", 12)]}], ["select", POST], ["order", [{"desc": POST}]], ["limit", 2]),
     query("users", JOIN, ["select", [ID, {"nullable": TITLE}]]),
     query("users", ["inner_join", {"table": "posts"}], ["select", [ID, POST]]),
     {"from": P, "calls": [["select", {"field": ["p", "posts", "id"]}]]},
     query("posts", ["inner_join", P, SAME_WRITER], ["select", [POST, {"field": ["p", "posts", "id"]}]]),
     query("posts", ["select", POST], ["union", query("posts", ["select", WRITER])]),
-    query("posts", ["select", TITLE], ["distinct"]),
+    query("posts", ["select", POST], ["order", [{"desc": POST}]]),
+    query("users", JOIN, ["select", NAME], ["distinct"]),
     query("posts", ["select", WRITER], ["union_all", query("posts", ["select", WRITER])]),
 ]
 
