@@ -30,6 +30,7 @@ sys.path.insert(0, str(HERE))
 DEBIAN = "/usr/bin/python3"
 
 import campaign  # noqa: E402
+import collations  # noqa: E402
 import names  # noqa: E402
 import servers  # noqa: E402
 import spoilt  # noqa: E402
@@ -95,7 +96,7 @@ def check_stops(report: Report) -> None:
 
 def check_names(program: Program, started: dict[str, Server], report: Report) -> None:
     for server in started.values():
-        for what, found in names.faults(program.ask, server):
+        for what, found in [*names.faults(program.ask, server), *collations.faults(program.ask, server)]:
             for fault in found:
                 report.fail(Place(what, server=server.name), fault)
             report.passed += not found
@@ -107,7 +108,7 @@ def run_gate(program: Program, started: dict[str, Server], report: Report, given
         ("the evaluator", lambda: check_evaluator(report)),
         ("spoilt programs", lambda: check_spoilings(program, started, report)),
         ("what is started ends", lambda: check_stops(report)),
-        ("names and rights", lambda: check_names(program, started, report)),
+        ("names, rights and collations", lambda: check_names(program, started, report)),
         ("stored documents", lambda: run_documents(Runner(program.ask, started, report, given.rows), list(stored()), given.seed, True)),
         ("random documents", lambda: run_seeds(Runner(program.ask, started, report, given.rows), GATE_SEEDS, GATE_GUARD_SEEDS)),
     ]
