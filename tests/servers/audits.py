@@ -154,8 +154,9 @@ class SqliteAuditor(Auditor):
         by_path = {(path[0] if len(path) == 2 else "main", path[-1]): table for table, path in self.names.items()}
         told = {(table, self.column(table, column)) for table, column in use.columns}
         seen = {(by_path[schema, table], column) for schema, table, column in read if column}
-        # Of a table that is read without a column it tells the name alone.
-        if {table for _, table, _ in read} != {self.names[table][-1] for table in use.tables}:
+        # Of a table that is read without a column it tells the name alone, and not where it leaves the subselect out.
+        tables, with_columns = {table for _, table, _ in read}, {self.names[table][-1] for table, _ in told}
+        if not with_columns <= tables <= {self.names[table][-1] for table in use.tables}:
             raise Fault(f"audit: tables {use.tables}, the authorizer sees {read}")
         if seen == told:
             self.count("columns as the authorizer sees them")

@@ -276,14 +276,19 @@ class Writer:
         """A selection of values for each row, how it is distinct and ordered, and a lock."""
         calls: list[Json] = []
         selection: Optional[list[Json]] = None
-        if wanted is not None or self.happens(0.7):
+        is_distinct = self.happens(0.12)
+        repeated = self.repeated(leaves) if is_distinct and wanted is None else []
+        if repeated and self.happens(0.7):
+            selection = self.chance.sample(repeated, min(len(repeated), self.chance.randint(1, 2)))
+            calls.append(["select", self.nested(selection)])
+        elif wanted is not None or self.happens(0.7):
             types = wanted or [self.any_type(leaves) for _ in range(self.chance.randint(1, 3))]
             selection = [self.expr(leaves, *each, min(depth, 1), selects=True) for each in types]
             calls.append(["select", selection[0] if len(selection) == 1 and self.happens(0.5) else self.nested(selection)])
         if wanted is None and self.happens(0.05):
             return calls + [[self.chance.choice(("count", "nullable"))]]
         order = self.order(leaves, depth, selection)
-        if self.happens(0.12):
+        if is_distinct:
             calls.append(["distinct"])
             order = [self.item(each) for each in selection or [] if self.happens(0.5) and ("bind" not in each or self.happens(0.1))]
         elif self.dialect == "Pg" and not boxed and self.happens(0.15):
@@ -299,6 +304,11 @@ class Writer:
             calls.append([self.chance.choice(("order", "order_by")), order[:at]])
             calls += [["then_order_by", order[at:]]] if order[at:] else []
         return calls
+
+    def repeated(self, leaves: list[Leaf]) -> list[Json]:
+        """Columns beside the keys, of which rows often have equal values."""
+        found = [(leaf, name["name"]) for leaf in leaves for name in leaf.table["columns"] if name["name"] not in leaf.table["primary_key"]]
+        return [{"nullable": leaf.column(name)} if leaf.is_padded else leaf.column(name) for leaf, name in found]
 
     def nested(self, selection: list[Json]) -> list[Json]:
         """The same list, now and then with lists in it."""

@@ -158,6 +158,7 @@ class OnServer:
             return
         auditor = audits.auditor(self.server, self.document.schema)
         for (at, line), use in zip(chosen, told):
+            checker.asked = line
             self.attempt(checker, self.place(at, "audit"), line, functools.partial(auditor.check, line, use))
         for what, count in auditor.counts.items():
             checker.counts[what] += count

@@ -62,6 +62,7 @@ BUILT = [
     query("users", JOIN, ["group_by", ID], ["select", [ID, {"count": {"nullable": POST}}]], ["order", [{"desc": ID}]]),
     query("users", JOIN, ["select", [ID, {"nullable": TITLE}]]),
     query("users", ["select", ID], ["order", [{"desc": ID}]]),
+    query("users", ["select", [NAME, ID]], ["order", [value("Bool", True), value("Integer", 2)]]),
     query("users", ["filter", between(1, 4)], ["select", ID]),
     query("users", ["filter", between(0, 3)], ["select", ID]),
     query("users", ["filter", {"eq_any": [ID, {"list": ["Integer", [1, 3]]}]}], ["select", NAME]),
