@@ -9,7 +9,7 @@ import copy
 import itertools
 import re
 from dataclasses import dataclass
-from typing import Any, Callable
+from typing import Any, Callable, Dict, Union
 
 from program import Ask
 from statements import Schema, Select, leaves, statement
@@ -20,15 +20,23 @@ COMBINATIONS = ("union", "union_all", "intersect", "intersect_all", "except", "e
 @dataclass(frozen=True)
 class Case:
     """What the program was asked: its command, and the document."""
-    ask: Ask
     words: list[str]
     document: dict[str, Any]
 
-    def again(self, command: str, document: dict[str, Any]) -> list[dict[str, Any]]:
-        return self.ask([command], document)
+    def query(self, at: int) -> dict[str, Any]:
+        query: dict[str, Any] = self.document["requests"][at]["query"]
+        return query
 
 
-Change = Callable[["dict[str, Any]", int, Case], "dict[str, Any] | None"]
+@dataclass(frozen=True)
+class Instead:
+    """What the spoilt program answers is what the program answers to this: a query, and a predicate where it is guarded."""
+    query: dict[str, Any]
+    predicate: Any = None
+
+
+Json = Dict[str, Any]
+Change = Callable[[Json, int, Case], Union[Json, Instead, None]]
 
 
 @dataclass(frozen=True)
@@ -79,14 +87,6 @@ def values_exchanged(line: dict[str, Any], at: int, case: Case) -> dict[str, Any
     return None
 
 
-def with_query(line: dict[str, Any], at: int, case: Case, query: dict[str, Any]) -> dict[str, Any] | None:
-    """The line that the program builds for another query."""
-    request = {**case.document["requests"][at], "query": query}
-    document = {name: value for name, value in case.document.items() if name != "guard"}
-    (found,) = case.again("build", {**document, "requests": [request]})
-    return {**line, **found, "id": line["id"]} if "sql" in found else None
-
-
 def filtered(query: dict[str, Any], condition: Any) -> dict[str, Any]:
     """The query with one more condition in its first statement."""
     calls = query.get("calls", [])
@@ -94,23 +94,23 @@ def filtered(query: dict[str, Any], condition: Any) -> dict[str, Any]:
     return {**query, "calls": [*calls[:end], ["filter", condition], *calls[end:]]}
 
 
-def no_rows_grouped(line: dict[str, Any], at: int, case: Case) -> dict[str, Any] | None:
-    query = case.document["requests"][at]["query"]
+def no_rows_grouped(line: dict[str, Any], at: int, case: Case) -> Instead | None:
+    query = case.query(at)
     if not any(call[0] == "group_by" for call in query.get("calls", [])):
         return None
-    return with_query(line, at, case, filtered(query, {"eq": [{"bind": ["Integer", 1]}, {"bind": ["Integer", 0]}]}))
+    return Instead(filtered(query, {"eq": [{"bind": ["Integer", 1]}, {"bind": ["Integer", 0]}]}))
 
 
 # ---- guard
 
-def unguarded(line: dict[str, Any], at: int, case: Case) -> dict[str, Any] | None:
-    return with_query(line, at, case, case.document["requests"][at]["query"])
+def unguarded(line: dict[str, Any], at: int, case: Case) -> Instead:
+    return Instead(case.query(at))
 
 
 def guarded_leaves(case: Case, at: int) -> list[tuple[str | None, int]]:
     """The leaves of the guarded table, by their alias, and whether they are on the right of a left join."""
     guarded = case.document["guard"]["table"]
-    made = statement(Schema(case.document["schema"]), case.document["requests"][at]["query"])
+    made = statement(Schema(case.document["schema"]), case.query(at))
     if not isinstance(made, Select) or made.source is None:
         return []
     return [(alias, paddings) for (alias, table), paddings in leaves(made.source) if table == guarded]
@@ -125,23 +125,23 @@ def of_leaf(part: Any, alias: str | None) -> Any:
     return {"field": [alias, *part["col"]]} if "col" in part else {name: of_leaf(each, alias) for name, each in part.items()}
 
 
-def guarded_in_where(line: dict[str, Any], at: int, case: Case, chosen: list[str | None]) -> dict[str, Any] | None:
-    query = case.document["requests"][at]["query"]
+def guarded_in_where(at: int, case: Case, chosen: list[str | None]) -> Instead:
+    query = case.query(at)
     for alias in chosen:
         query = filtered(query, of_leaf(case.document["guard"]["predicate"], alias))
-    return with_query(line, at, case, query)
+    return Instead(query)
 
 
-def in_where(line: dict[str, Any], at: int, case: Case) -> dict[str, Any] | None:
+def in_where(line: dict[str, Any], at: int, case: Case) -> Instead | None:
     found = guarded_leaves(case, at)
-    return guarded_in_where(line, at, case, [alias for alias, _ in found]) if any(paddings for _, paddings in found) else None
+    return guarded_in_where(at, case, [alias for alias, _ in found]) if any(paddings for _, paddings in found) else None
 
 
-def one_leaf_left(line: dict[str, Any], at: int, case: Case) -> dict[str, Any] | None:
+def one_leaf_left(line: dict[str, Any], at: int, case: Case) -> Instead | None:
     found = guarded_leaves(case, at)
     if len(found) < 2 or any(paddings for _, paddings in found):
         return None
-    return guarded_in_where(line, at, case, [alias for alias, _ in found[:-1]])
+    return guarded_in_where(at, case, [alias for alias, _ in found[:-1]])
 
 
 def of_predicate(change: Callable[[str, Any], Any]) -> Change:
@@ -154,10 +154,8 @@ def of_predicate(change: Callable[[str, Any], Any]) -> Change:
         ((name, argument),) = part.items()
         return change(name, changed(argument))
 
-    def spoil(line: dict[str, Any], at: int, case: Case) -> dict[str, Any] | None:
-        guard = {**case.document["guard"], "predicate": changed(case.document["guard"]["predicate"])}
-        (found,) = case.again("guard", {**case.document, "guard": guard, "requests": [case.document["requests"][at]]})
-        return {**line, **found, "id": line["id"]} if "sql" in found else None
+    def spoil(line: dict[str, Any], at: int, case: Case) -> Instead:
+        return Instead(case.query(at), changed(case.document["guard"]["predicate"]))
 
     return spoil
 
@@ -250,16 +248,31 @@ class SpoiltProgram:
         lines = self.plain(words, document)
         if words[0] not in self.spoiling.commands:
             return lines
-        case = Case(self.plain, words, document)
-        spoilt = [self.spoilt(copy.deepcopy(line), at, case) for at, line in enumerate(lines)]
+        spoilt = self.spoilt(lines, Case(words, document))
         self.changed = {at for at, (line, other) in enumerate(zip(lines, spoilt)) if line != other}
         # Each request is asked three times: as it is, and with other values.
         self.count += sum(at < len(lines) // 3 for at in self.changed) if words[0] != "audit" else len(self.changed)
         return spoilt
 
-    def spoilt(self, line: dict[str, Any], at: int, case: Case) -> dict[str, Any]:
-        found = None if "refused" in line else self.spoiling.spoil(line, at, case)
-        return line if found is None else found
+    def spoilt(self, lines: list[Json], case: Case) -> list[Json]:
+        """The spoilt program's lines. A refusal stays, and so does the id of a line for another query: it counts other requests."""
+        found = [None if "refused" in line else self.spoiling.spoil(copy.deepcopy(line), at, case) for at, line in enumerate(lines)]
+        spoilt = [line if each is None or isinstance(each, Instead) else each for line, each in zip(lines, found)]
+        again = {at: each for at, each in enumerate(found) if isinstance(each, Instead)}
+        for at, answer in zip(again, self.answers(again, case)):
+            spoilt[at] = lines[at] if "refused" in answer else {**answer, "id": lines[at]["id"]}
+        return spoilt
+
+    def answers(self, again: dict[int, Instead], case: Case) -> list[Json]:
+        """The program's own answers to the other queries, all of which have a predicate or none."""
+        if not again:
+            return []
+        document = {name: member for name, member in case.document.items() if name != "guard"}
+        document["requests"] = [{**case.document["requests"][at], "query": each.query} for at, each in again.items()]
+        predicate = next(iter(again.values())).predicate
+        if predicate is not None:
+            document["guard"] = {**case.document["guard"], "predicate": predicate}
+        return self.plain(["guard" if "guard" in document else "build"], document)
 
     def is_asked_about(self, command: str, at: int) -> bool:
         """Lines that are as they were are left out; texts that are audited have to be built."""
