@@ -174,18 +174,23 @@ SCHEMA = Schema({"tables": [{"name": "users", "columns": [{"name": "id", "type":
 NO_ROWS: Database = {"users": [], "posts": []}
 
 
-def lock_on_postgres(server: Postgres) -> Iterator[str]:
-    """FOR UPDATE needs the right to update, beside that to read the columns."""
+def rights_on_postgres(server: Postgres) -> Iterator[str]:
+    """A lock needs the right to update, beside that to read the columns. A count of rows needs the right to read some column."""
     schemas.create(server, SCHEMA, NO_ROWS)
-    lock = 'SELECT "users"."id" FROM "users" FOR UPDATE'
+    count, denied = 'SELECT COUNT(*) FROM "users"', "permission denied for table users"
+    locks = [f'SELECT "users"."id" FROM "users" FOR {mode}' for mode in ("UPDATE", "NO KEY UPDATE", "SHARE", "KEY SHARE")]
     try:
-        for sql in ("DROP ROLE IF EXISTS reader", "CREATE ROLE reader", "GRANT USAGE ON SCHEMA public TO reader",
-                    'GRANT SELECT ("id") ON users TO reader'):
+        for sql in ("DROP ROLE IF EXISTS reader", "CREATE ROLE reader", "GRANT USAGE ON SCHEMA public TO reader"):
             server.run(sql)
-        yield from allowed(as_reader(server, 'SELECT "users"."id" FROM "users"'), None)
-        yield from allowed(as_reader(server, lock), "permission denied for table users")
+        yield from allowed(as_reader(server, count), denied)
+        server.run('GRANT SELECT ("id") ON users TO reader')
+        for sql in (count, 'SELECT "users"."id" FROM "users"'):
+            yield from allowed(as_reader(server, sql), None)
+        for lock in locks:
+            yield from allowed(as_reader(server, lock), denied)
         server.run('GRANT UPDATE ("name") ON users TO reader')
-        yield from allowed(as_reader(server, lock), None)
+        for lock in locks:
+            yield from allowed(as_reader(server, lock), None)
     finally:
         server.drop_schemas()
         server.run("DROP ROLE reader")
@@ -202,20 +207,30 @@ def as_reader(server: Postgres, sql: str) -> str | None:
     return None
 
 
-def lock_on_mariadb(server: Mariadb) -> Iterator[str]:
-    """FOR UPDATE needs the right to read the columns alone."""
+def rights_on_mariadb(server: Mariadb) -> Iterator[str]:
+    """FOR UPDATE needs the right to read the columns alone. A count of rows needs the right to read some column."""
     schemas.create(server, SCHEMA, NO_ROWS)
+    count = "SELECT COUNT(*) FROM `hardieflax`.`users`"
     try:
-        reader = server.reader()
+        yield from allowed(by_reader(server, count), "denied")
         server.run(f"GRANT SELECT (`id`) ON hardieflax.users TO {READER}")
-        reader.prepare("SELECT `users`.`id` FROM `hardieflax`.`users` FOR UPDATE", [])
-        reader.execute([], [])
-    except servers.Refused as error:
-        yield f"FOR UPDATE with the right to read alone: {error}"
+        for sql in (count, "SELECT `users`.`id` FROM `hardieflax`.`users` FOR UPDATE"):
+            yield from allowed(by_reader(server, sql), None)
     finally:
-        server.reader().close()
         server.run(f"REVOKE ALL PRIVILEGES, GRANT OPTION FROM {READER}")
         server.drop_schemas()
+
+
+def by_reader(server: Mariadb, sql: str) -> str | None:
+    reader = server.reader()
+    try:
+        reader.prepare(sql, [])
+        reader.execute([], [])
+    except servers.Refused as error:
+        return str(error)
+    finally:
+        reader.close()
+    return None
 
 
 def brackets_on_sqlite(server: Sqlite) -> Iterator[str]:
@@ -235,8 +250,8 @@ def allowed(message: str | None, wanted: str | None) -> Iterator[str]:
 
 
 OTHERS: dict[str, list[tuple[str, Callable[[Any], Iterator[str]]]]] = {
-    "Pg": [("the right that FOR UPDATE needs", lock_on_postgres)],
-    "Mysql": [("the right that FOR UPDATE needs", lock_on_mariadb)],
+    "Pg": [("the rights that a text needs", rights_on_postgres)],
+    "Mysql": [("the rights that a text needs", rights_on_mariadb)],
     "Sqlite": [("what is read of a join in brackets", brackets_on_sqlite)],
 }
 
