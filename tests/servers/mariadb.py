@@ -145,12 +145,11 @@ class Client:
         if first.is_ok_packet():
             return [], []
         columns = self.described(first.read_length_encoded_integer())
-        rows: list[tuple[Any, ...]] = []
+        packets = []  # all of them, whatever a row turns out to hold
         while True:
-            packet = self.connection._read_packet()
-            if packet.is_eof_packet():
-                return [kind_of(column) for column in columns], rows
-            rows.append(decoded_row(packet, columns))
+            packets.append(self.connection._read_packet())
+            if packets[-1].is_eof_packet():
+                return [kind_of(column) for column in columns], [decoded_row(packet, columns) for packet in packets[:-1]]
 
     def close(self) -> None:
         if self.statement is not None:

@@ -82,7 +82,8 @@ class Postgres:
         """The result, or the server's message as a refusal."""
         if result.status in (self.pq.ExecStatus.COMMAND_OK, self.pq.ExecStatus.TUPLES_OK):
             return result
-        raise servers.Refused(result.error_field(self.pq.DiagnosticField.MESSAGE_PRIMARY).decode())
+        message = result.error_field(self.pq.DiagnosticField.MESSAGE_PRIMARY) or result.error_message
+        raise servers.Refused(message.decode())
 
     def run(self, sql: str) -> None:
         if "\0" in sql:

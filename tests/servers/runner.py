@@ -53,19 +53,23 @@ class Runner:
     def run(self, document: Document) -> int:
         """How many lines were accepted."""
         try:
-            asked = self.lines(document, "guard" if document.guard else "build", self.ask)
-            plain = self.lines(document, "build", self.plain) if document.guard else asked
+            return self.asked_about(document)
         except NoDocument:
             if document.is_ours:
                 self.report.fail(Place(document.name), "the program takes it for no document")
             else:
                 print(f"no document: {document.name}")
-            return 0
         except Failed as error:
             self.report.fail(Place(document.name), str(error))
-            return 0
-        by_dialect: dict[str, list[tuple[int, Line]]] = {}
+        except Exception:  # a fault of these scripts, or a server that is gone, is told, and the run goes on
+            self.report.fail(Place(document.name), f"the script failed: {traceback.format_exc()}")
+        return 0
+
+    def asked_about(self, document: Document) -> int:
         command = "guard" if document.guard else "build"
+        asked = self.lines(document, command, self.ask)
+        plain = self.lines(document, "build", self.plain) if document.guard else asked
+        by_dialect: dict[str, list[tuple[int, Line]]] = {}
         for at, line in asked.accepted():
             if self.spoilt is None or self.spoilt.is_asked_about(command, at):
                 self.check_alone(document, asked, at, line)
@@ -143,7 +147,9 @@ class OnServer:
         """The plain lines over the really cut database."""
         for at, guarded in found:
             line = self.plain.first[at]
-            if isinstance(line, Line) and at in self.guarded:
+            if not isinstance(line, Line):
+                self.report.fail_line(self.place(at, "cut"), guarded, f"without the guard: {line}")
+            elif at in self.guarded:
                 ask = functools.partial(checker.check_cut, line, self.guarded[at], line.statement)
                 self.attempt(checker, self.place(at, "cut"), guarded, ask)
 
@@ -151,11 +157,7 @@ class OnServer:
         """What the program says that the texts use is what the server says."""
         chosen = [(at, line) for at, line in found if at in self.guarded]
         document = {"schema": self.document.content["schema"], "texts": [line.sql for _, line in chosen]}
-        try:
-            told = self.ask(["audit", self.server.dialect], document) if chosen else []
-        except Failed as error:
-            self.report.fail(Place(self.document.name), str(error))
-            return
+        told = self.ask(["audit", self.server.dialect], document) if chosen else []
         auditor = audits.auditor(self.server, self.document.schema)
         for (at, line), use in zip(chosen, told):
             checker.asked = line

@@ -81,7 +81,8 @@ class Signals:
         """Once in each process."""
         self.is_held, self.came = False, None
         for number in (signal.SIGTERM, signal.SIGINT, signal.SIGHUP):
-            signal.signal(number, self.handle)
+            if signal.getsignal(number) != signal.SIG_IGN:  # as nohup has it
+                signal.signal(number, self.handle)
 
     def handle(self, number: int, _: object) -> None:
         if self.is_held:

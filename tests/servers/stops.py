@@ -30,6 +30,8 @@ def never() -> NoReturn:
 
 def sleeper(way: str) -> None:
     """A server of this way, whose folder and process are printed."""
+    for number in SIGNALS:
+        signal.signal(number, signal.SIG_DFL)
     servers.SIGNALS.install()
     servers.STOP_PATIENCE = 1
     servers.START_PATIENCE = 1 if way == "never" else PATIENCE
