@@ -55,6 +55,13 @@ def shadowed(outer: str, inner: str) -> dict[str, Any]:
     return {"from": {"alias": outer, "of": "users"}, "calls": [["select", of_alias(outer)], ["filter", {"exists": inside}]]}
 
 
+def inside_table(alias: str) -> dict[str, Any]:
+    """The same where the outer leaf is the table itself."""
+    condition = {"and": [equals(col("users"), 2), equals(of_alias(alias), 1)]}
+    inside = {"from": {"alias": alias, "of": "users"}, "calls": [["filter", condition]]}
+    return {"from": {"table": "users"}, "calls": [["select", col("users")], ["filter", {"exists": inside}]]}
+
+
 def beside(left: str, right: str) -> dict[str, Any]:
     """A join of two aliases of the users."""
     on = {"eq": [of_alias(left), of_alias(right)]}
@@ -118,6 +125,7 @@ CASES = [
     of_two_columns("two columns of such names", LONG + "1", LONG + "2", {**alike(FIVE), "Pg": "specified more than once"}),
     of_two_tables("a table's name of 65 characters", LONG + "12", "b", {**alike(ONE), "Mysql": "Incorrect table name"}),
     Case("two aliases that differ in case, one inside the other", shadowed("u", "U"), {**alike(ONE), "Sqlite": NONE}, ONE),
+    Case("a table, and inside an alias that differs in case", inside_table("Users"), {**alike(ONE), "Sqlite": NONE}, ONE),
     Case("two aliases that differ in case side by side", beside("u", "U"), {**alike(BOTH), "Sqlite": "ambiguous column name"}, BOTH),
     of_two_tables("two tables that differ in case", "users", "Users", {**alike(ONE), "Sqlite": "already exists"}),
     of_two_columns("two columns that differ in case", "a", "A",
