@@ -47,33 +47,55 @@ def sleeper(way: str) -> None:
         servers.stop_all()
 
 
-def faults() -> Iterator[tuple[str, list[str]]]:
-    """For each way, and each signal on one that comes up, what is left."""
-    for way in WAYS:
-        for number in SIGNALS if way == "coming up" else SIGNALS[:1]:
-            yield f"{way}, at {number.name}", list(left(way, number))
+class Run:
+    """A script of this way, which gets a signal unless it ends by itself."""
 
+    def __init__(self, way: str, number: signal.Signals) -> None:
+        self.name = f"{way}, at {number.name}"
+        self.number = None if way in ("never", "ending") else number
+        self.script = subprocess.Popen([sys.executable, __file__, way], stdout=subprocess.PIPE, stderr=subprocess.DEVNULL)
+        self.folder = pathlib.Path("/")
+        self.group: int | None = None
 
-def left(way: str, number: signal.Signals) -> Iterator[str]:
-    """What is left of one after the signal, or after its own end."""
-    with subprocess.Popen([sys.executable, __file__, way], stdout=subprocess.PIPE, stderr=subprocess.DEVNULL) as run:
-        assert run.stdout is not None
-        folder = pathlib.Path(run.stdout.readline().decode().strip())
-        group = shell_of(folder)
-        if way not in ("never", "ending"):
-            run.send_signal(number)
+    def ask_to_end(self) -> None:
+        assert self.script.stdout is not None
+        self.folder = pathlib.Path(self.script.stdout.readline().decode().strip())
+        self.group = shell_of(self.folder)
+        if self.number is not None:
+            self.script.send_signal(self.number)
+
+    def left(self) -> Iterator[str]:
+        """What is left of it."""
         try:
-            status = run.wait(PATIENCE)
+            status = self.script.wait(PATIENCE)
         except subprocess.TimeoutExpired:
-            run.kill()
             yield "the script did not end"
             return
-    if status == 0:
-        yield "it ended with 0"
-    if folder.exists():
-        yield f"its folder is left: {folder}"
-    if group is not None and is_left(group):
-        yield f"processes are left: group {group}"
+        if status == 0:
+            yield "it ended with 0"
+        if self.folder.exists():
+            yield f"its folder is left: {self.folder}"
+        if self.group is not None and is_left(self.group):
+            yield f"processes are left: group {self.group}"
+
+    def close(self) -> None:
+        if self.script.poll() is None:
+            self.script.terminate()
+            self.script.wait()
+        assert self.script.stdout is not None
+        self.script.stdout.close()
+
+
+def faults() -> list[tuple[str, list[str]]]:
+    """For each way, and each signal on one that comes up, what is left."""
+    runs = [Run(way, number) for way in WAYS for number in (SIGNALS if way == "coming up" else SIGNALS[:1])]
+    try:
+        for each in runs:
+            each.ask_to_end()
+        return [(each.name, list(each.left())) for each in runs]
+    finally:
+        for each in runs:
+            each.close()
 
 
 def shell_of(folder: pathlib.Path) -> int | None:
