@@ -44,7 +44,7 @@ from servers import Server  # noqa: E402
 from spoilings import SPOILINGS, SpoiltProgram  # noqa: E402
 
 # The random documents of the gate: always the same.
-GATE_SEEDS, GATE_GUARD_SEEDS = range(1, 5), range(1, 9)
+GATE_SEEDS, GATE_GUARD_SEEDS = range(1, 9), range(1, 9)
 
 
 def in_each_dialect(document: dict[str, Any]) -> dict[str, Any]:
@@ -78,13 +78,16 @@ def check_spoilings(program: Program, started: dict[str, Server], report: Report
     before, chosen = report.failed, spoilt.chosen_documents()
     for document in chosen.values():
         Runner(program.ask, started, report, 0).run(document)
-    if report.failed == before and started:
-        asked = [(spoiling, command) for spoiling in SPOILINGS.values() for command in spoiling.commands]
-        found = list(spoilt.not_found(program.ask, started, chosen))
-        for what in found:
-            report.fail(Place("spoilt programs"), what)
-        report.passed += len(asked) - len(found)
-        print(f"spoilt programs: {len(asked) - len(found)} of {len(asked)} found, of {len(SPOILINGS)} spoilings", flush=True)
+    if report.failed > before:
+        return  # a line fails that is not spoilt
+    tried = list(spoilt.trials(program.ask, started, chosen))
+    faults = [each for each in tried if each.fault is not None]
+    for each in faults:
+        what = f"a program in which {each.spoiling.what} ({each.spoiling.name}, {each.command}): {each.fault}"
+        report.fail(Place("spoilt programs"), what)
+    report.passed += len(tried) - len(faults)
+    left_out = set(SPOILINGS) - {each.spoiling.name for each in tried}
+    print(f"spoilt programs: {len(tried) - len(faults)} of {len(tried)} found" + f", not tried: {sorted(left_out)}" * bool(left_out), flush=True)
 
 
 def check_stops(report: Report) -> None:

@@ -2,7 +2,7 @@
 fault of these scripts."""
 from __future__ import annotations
 
-from typing import Any, Iterator
+from typing import Any, Iterator, NamedTuple
 
 from program import Ask
 from report import Report
@@ -109,13 +109,18 @@ def try_spoiling(ask: Ask, started: dict[str, Server], spoiling: Spoiling, chose
     return spoilt.count, {server.name for server in started.values()} if "" in found and spoiling.is_seen_alone else found
 
 
-def not_found(ask: Ask, started: dict[str, Server], chosen: dict[str, Document]) -> Iterator[str]:
-    """The spoilings that a server which can tell them does not find."""
+class Trial(NamedTuple):
+    """A spoiling that was tried on a command's lines, and why it counts as not found, if it does."""
+    spoiling: Spoiling
+    command: str
+    fault: str | None
+
+
+def trials(ask: Ask, started: dict[str, Server], chosen: dict[str, Document]) -> Iterator[Trial]:
+    """Each spoiling on the servers that can tell it, where one was started: each of them has to find it."""
     for spoiling in SPOILINGS.values():
         able = {dialect: server for dialect, server in started.items() if dialect in spoiling.dialects}
-        for command in spoiling.commands:
+        for command in spoiling.commands if able else ():
             count, found = try_spoiling(ask, able, spoiling, chosen[command])
-            missing = {server.name for server in able.values()} - found
-            if missing or (able and not count):
-                where = ", ".join(sorted(missing)) or "it changes no line"
-                yield f"a program is not found in which {spoiling.what} ({spoiling.name}, {command}): {where}"
+            missing = ", ".join(sorted({server.name for server in able.values()} - found))
+            yield Trial(spoiling, command, f"not found by {missing}" if missing else None if count else "it changes no line")
