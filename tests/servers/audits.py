@@ -64,6 +64,11 @@ class Auditor:
         self.counts["audit: " + what] += 1
 
 
+def shortened(name: str) -> str:
+    """What PostgreSQL keeps of a name."""
+    return name.encode()[:63].decode(errors="ignore")
+
+
 class PostgresAuditor(Auditor):
     server: Postgres
 
@@ -72,7 +77,7 @@ class PostgresAuditor(Auditor):
         found = server.texts("SELECT c.oid, n.nspname, c.relname FROM pg_class c JOIN pg_namespace n ON n.oid = c.relnamespace "
                              "WHERE c.relkind = 'r'")
         by_path = {(space, name): int(number) for number, space, name in found}
-        paths = {table: (path[0] if len(path) == 2 else "public", path[-1]) for table, path in self.names.items()}
+        paths = {table: (shortened(path[0]) if len(path) == 2 else "public", shortened(path[-1])) for table, path in self.names.items()}
         self.numbers = {by_path[path]: table for table, path in paths.items() if path in by_path}
 
     def ask(self, line: Line, use: Use) -> None:
@@ -142,7 +147,7 @@ class PostgresAuditor(Auditor):
         if leaves.setdefault(variable.leaf.identity, use.leaves[at]) != use.leaves[at]:
             raise Fault(f"audit: path {at} is of leaf {use.leaves[at]}, for PostgreSQL of leaf {leaves[variable.leaf.identity]}")
         path, alias = names.leaves[use.leaves[at]]
-        if variable.leaf.name != (path[-1] if alias is None else alias):
+        if variable.leaf.name != shortened(path[-1] if alias is None else alias):
             raise Fault(f"audit: path {at} is of leaf {use.leaves[at]}, {path} as {alias}, for PostgreSQL of {variable.leaf.name}")
 
 

@@ -8,7 +8,8 @@ from typing import Any, Callable, Iterator, Union
 
 import schema as schemas
 import servers
-from lines import Line
+from audits import PostgresAuditor
+from lines import Fault, Line
 from mariadb import READER, Mariadb
 from meaning import Meaning
 from postgres import Postgres
@@ -182,7 +183,24 @@ SCHEMA = Schema({"tables": [{"name": "users", "columns": [{"name": "id", "type":
 NO_ROWS: Database = {"users": [], "posts": []}
 
 
-def rights_on_postgres(server: Postgres) -> Iterator[str]:
+def audit_on_postgres(ask: Ask, server: Postgres) -> Iterator[str]:
+    """Where PostgreSQL takes two aliases for one, the audit says the outer leaf of a path, and PostgreSQL the inner one."""
+    case = CASES[0]
+    declared, request = {"tables": case.tables}, {"dialect": "Pg", "query": case.query}
+    schema = Schema(declared)
+    line = Line(schema, request, ask(["build"], {"schema": declared, "requests": [request]})[0])
+    schemas.create(server, schema, case.rows)
+    try:
+        PostgresAuditor(server, schema).check(line, ask(["audit", "Pg"], {"schema": declared, "texts": [line.sql]})[0])
+        yield "PostgreSQL sees the leaves of the audit where it takes two aliases for one"
+    except Fault as error:
+        if "for PostgreSQL of leaf" not in str(error):
+            yield str(error)
+    finally:
+        server.drop_schemas()
+
+
+def rights_on_postgres(_: Ask, server: Postgres) -> Iterator[str]:
     """A lock needs the right to update, beside that to read the columns. A count of rows needs the right to read some column."""
     schemas.create(server, SCHEMA, NO_ROWS)
     count, denied = 'SELECT COUNT(*) FROM "users"', "permission denied for table users"
@@ -215,7 +233,7 @@ def as_reader(server: Postgres, sql: str) -> str | None:
     return None
 
 
-def rights_on_mariadb(server: Mariadb) -> Iterator[str]:
+def rights_on_mariadb(_: Ask, server: Mariadb) -> Iterator[str]:
     """FOR UPDATE needs the right to read the columns alone. A count of rows needs the right to read some column."""
     schemas.create(server, SCHEMA, NO_ROWS)
     count = "SELECT COUNT(*) FROM `hardieflax`.`users`"
@@ -241,7 +259,7 @@ def by_reader(server: Mariadb, sql: str) -> str | None:
     return None
 
 
-def brackets_on_sqlite(server: Sqlite) -> Iterator[str]:
+def brackets_on_sqlite(_: Ask, server: Sqlite) -> Iterator[str]:
     """A join in brackets on the right of another is a SELECT * for SQLite: its authorizer is asked for each column of its tables."""
     schemas.create(server, SCHEMA, NO_ROWS)
     right = "(`posts` INNER JOIN `posts` AS `p` ON (`p`.`id` = `posts`.`id`))"
@@ -257,8 +275,8 @@ def allowed(message: str | None, wanted: str | None) -> Iterator[str]:
         yield f"rights: the server says {message}, docs/SERVERS.md {wanted}"
 
 
-OTHERS: dict[str, list[tuple[str, Callable[[Any], Iterator[str]]]]] = {
-    "Pg": [("the rights that a text needs", rights_on_postgres)],
+OTHERS: dict[str, list[tuple[str, Callable[[Ask, Any], Iterator[str]]]]] = {
+    "Pg": [("the rights that a text needs", rights_on_postgres), ("the audit of two aliases that are one", audit_on_postgres)],
     "Mysql": [("the rights that a text needs", rights_on_mariadb)],
     "Sqlite": [("what is read of a join in brackets", brackets_on_sqlite)],
 }
@@ -270,4 +288,4 @@ def faults(ask: Ask, server: Server) -> Iterator[tuple[str, list[str]]]:
         fault = case_fault(ask, server, case)
         yield case.what, [] if fault is None else [fault]
     for what, check in OTHERS[server.dialect]:
-        yield what, list(check(server))
+        yield what, list(check(ask, server))
