@@ -289,7 +289,7 @@ def check_users(check: Check, libraries: dict[str, Exports]) -> None:
             named = sorted({name for pair in re.findall(r"\b(\w+)::|\bRattle\.(\w+)", text) for name in pair} & set(libraries))
             check.that(not named, f"{path.relative_to(TOP)}: names {named}")
     line = re.search(rf"^{TESTS}:(.*)", (TOP / "crates.txt").read_text(), re.M)
-    check.that(line is not None and line[1].split() == [FACADE], f"{TESTS} names {FACADE} alone in crates.txt")
+    check.that(line is not None and FACADE in line[1].split(), f"{TESTS} names {FACADE} in crates.txt")
 
 
 def check_calls(check: Check, libraries: dict[str, Exports], exports: Exports) -> None:
