@@ -1,7 +1,5 @@
-use Rattle.std.proofs.Common.{◌≡◌, Some, option_map, sym, ap, ◌∙◌}
-use Rattle.std.proofs.lemmas.Result.{IfOk-weaker}
+use Rattle.std.proofs.Common.{option_map, sym, ap, ◌∙◌}
 use Rattle.hardieflax.specs.Dialect.TheVariants.{Pg}
-use Rattle.hardieflax.specs.QueryStatements.{statement_in}
 use Rattle.hardieflax.specs.SyntaxViews.{query_tree}
 use Rattle.hardieflax.specs.View.{statement_tree}
 use Rattle.hardieflax_tests.proofs.compiled.compiled_query.Goals as goal
@@ -12,10 +10,3 @@ compile_by-requires c = λ known.
     let q = query_tree c.args.query.now in
     let is = ap (option_map statement_tree) (sym c.in-Some.is) ∙ c.in_ok-statement.ensures in
     c.built_statements_know_their_names.ensures c.args.schema.now Pg Pg q (statement_tree c.in-Some.statement) (sym is)
-
-pub returns-in-Some-clause-built : goal.returns-in-Some-clause-built
-returns-in-Some-clause-built c =
-    let s = statement_tree c.in-Some.statement in
-    let is : statement_in c.args.schema.now Pg (query_tree c.args.query.now) ≡ Some s =
-    sym (ap (option_map statement_tree) (sym c.in-Some.is) ∙ c.in_ok-statement.ensures) in
-    IfOk-weaker c.compile_by.result _ _ (λ b built. (s, is, built)) c.compile_by.ensures.built
