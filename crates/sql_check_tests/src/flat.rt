@@ -33,7 +33,7 @@ fn flat(alloc: Global) -> Result<Flat, Fail> {
 }
 
 /// Whether these are the ends of the nodes.
-fn end_at(nodes: &[FlatNode], ends: &[usize]) -> bool {
+pub(crate) fn end_at(nodes: &[FlatNode], ends: &[usize]) -> bool {
     nodes.len() == ends.len() && nodes.iter().zip(ends).all(|(node, end)| node.end == *end)
 }
 

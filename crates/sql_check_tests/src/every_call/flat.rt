@@ -2,12 +2,13 @@
 
 ghost use Rattle.std.specs.Prelude.{◌≡◌, ◌<◌};
 
+use crate::flat::end_at;
 use sql_call_tests::fixture::{id, ids};
 use sql_check::{Built, CompileError, Steps, compile_by, compile_flat_by, fused};
 use sql_dialect::Pg;
 use sql_expr::Statement;
 use sql_fixture::{INTEGER, gives, is, schema};
-use sql_flat::{Flat, FlatKind, FlatNode, expression_nodes, flatten};
+use sql_flat::{Flat, FlatKind, expression_nodes, flatten};
 use sql_fused::write_flat;
 use sql_judge::{Names, broken_but_the_last};
 use sql_key::{erased_kind, flat_query_id};
@@ -98,13 +99,7 @@ fn expressions(alloc: Global) -> Result<(), Fail> {
     let nodes = expression_nodes(alloc, 1, &id);
     drop(id);
     let nodes = nodes?;
-    is(
-        matches!(
-            nodes.as_slice(),
-            [FlatNode { end: 2, .. }, FlatNode { end: 2, .. }]
-        ),
-        "a column under nullable",
-    )?;
+    is(end_at(nodes.as_slice(), &[2, 2]), "a column under nullable")?;
     let one = FlatKind::Value(INTEGER, Value::Integer(1));
     let erased = erased_kind(alloc, &one)?;
     is(
