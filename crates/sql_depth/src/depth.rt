@@ -1,21 +1,32 @@
-ghost use Rattle.std.specs.Prelude.{◌≡◌, ◌<◌, ◌↔◌, IsTrue, map, option_map};
+ghost use Rattle.std.specs.Prelude.{◌≡◌, ◌<◌, ◌+◌, ◌↔◌, IsTrue, map, option_map};
 ghost use Rattle.sql_depth.specs.Depth as deep;
+ghost use Rattle.sql_depth.specs.Leaves as leaf;
 ghost use Rattle.sql_syntax.specs.View.{call_tree, calls_of, expr_tree, exprs_of, items_of, join_tree, maybe_of, membership_tree, order_item_tree, query_start_tree, query_tree, source_tree};
 ghost use Rattle.sql_depth.specs.declared.depth.TheConstants.{MAX_DEPTH};
-ghost use Rattle.sql_depth.specs.inside.Capped.{capped};
+ghost use Rattle.sql_depth.specs.inside.Capped.{capped, capped_depths};
 
+use crate::leaves::query_leaves;
 use sql_syntax::{
     Call, ClauseCall, Expr, Join, Membership, OrderItem, PlainCall, Query, QueryStart, Source,
 };
 
 /// How deep a statement may nest.
-pub const MAX_DEPTH: usize = 1000;
+pub const MAX_DEPTH: usize = 2500;
 
 /// Whether the statement of the query nests deeper than `MAX_DEPTH`.
 pub fn is_too_deep(query: &Query) -> bool
     ensures { IsTrue result ↔ (MAX_DEPTH < deep.query_depth (query_tree query.now)) }
 {
     query_depth(query) > MAX_DEPTH
+}
+
+/// Whether the statement of the query, restricted by a guard, may nest deeper than `MAX_DEPTH`, the guard's predicate not counted. For
+/// each table and alias that a select reads, the guard puts a condition into its WHERE, or into an ON.
+pub fn is_too_deep_restricted(query: &Query) -> bool
+    ensures { IsTrue result ↔ (MAX_DEPTH
+        < deep.query_depth (query_tree query.now) + leaf.query_leaves (query_tree query.now)) }
+{
+    query_depth(query).saturating_add(query_leaves(query)) > MAX_DEPTH
 }
 
 /// Whether the expression nests deeper than `MAX_DEPTH`.
@@ -25,13 +36,40 @@ pub fn is_expr_too_deep(expr: &Expr) -> bool
     expr_depth(expr) > MAX_DEPTH
 }
 
+/// How deep the clauses of a statement nest.
+#[derive(Clone, Copy)]
+pub struct Depths {
+    /// Of what is selected now.
+    pub selection: usize,
+    /// Of the FROM.
+    pub sources: usize,
+    /// Of the WHERE.
+    pub condition: usize,
+    /// Of all that was built so far.
+    pub deepest: usize,
+    /// Whether `into_boxed` was called.
+    pub boxed: bool,
+}
+
 #[cycle(depth)]
 #[tactic(auto, using(sql_syntax::proofs::Trees::opens_query, crate::proofs::Depths::query_capped))]
 fn query_depth(query: &Query) -> usize
     ensures { result ≡ capped (deep.query_depth (query_tree query.now)) }
 {
+    let source = reads_source(&query.start);
     let start = start_depth(&query.start);
-    calls_depth(query.calls.as_slice(), start).saturating_add(1)
+    let depths = after_calls(query.calls.as_slice(), source, start);
+    depths.deepest.saturating_add(1)
+}
+
+#[tactic(auto, using(sql_syntax::proofs::Trees::opens_query_start))]
+fn reads_source(start: &QueryStart) -> bool
+    ensures { result ≡ deep.reads_source (query_start_tree start.now) }
+{
+    match start {
+        QueryStart::From(_) => true,
+        QueryStart::Select(_) => false,
+    }
 }
 
 #[cycle(depth)]
@@ -45,48 +83,67 @@ fn start_depth(start: &QueryStart) -> usize
     }
 }
 
-/// How deep a statement of depth `before` is after the calls.
-#[cycle(depth)]
-fn calls_depth(calls: &[Call], before: usize) -> usize
-    ensures { result ≡ capped (deep.calls_depth (calls_of (map call_tree calls.now)) before) }
+/// The depths before any call, of a source of that depth or of a selection alone.
+fn begun(source: bool, start: usize) -> Depths
+    ensures { result ≡ capped_depths (deep.begun source start) }
 {
-    let mut depth = before;
-    for call in calls {
-        depth = call_depth(call, depth);
+    let selection = if source {
+        start.saturating_add(1)
+    } else {
+        start
+    };
+    Depths {
+        selection,
+        sources: if source { start } else { 0 },
+        condition: 0,
+        deepest: selection,
+        boxed: false,
     }
-    depth
+}
+
+/// The depths after the calls.
+#[cycle(depth)]
+fn after_calls(calls: &[Call], source: bool, start: usize) -> Depths
+    ensures { result ≡ capped_depths
+        (deep.after_calls (calls_of (map call_tree calls.now)) (deep.begun source start)) }
+{
+    let mut depths = begun(source, start);
+    for call in calls {
+        depths = after_call(call, depths);
+    }
+    depths
 }
 
 #[cycle(depth)]
 #[tactic(auto, using(sql_syntax::proofs::Trees::opens_call))]
-fn call_depth(call: &Call, before: usize) -> usize
-    ensures { result ≡ capped (deep.call_depth (call_tree call.now) before) }
+fn after_call(call: &Call, before: Depths) -> Depths
+    ensures { result ≡ capped_depths (deep.after_call (call_tree call.now) before) }
 {
     match call {
-        Call::Plain(call) => plain_depth(*call, before),
-        Call::Clause(call, expr) => clause_depth(*call, before, expr_depth(expr)),
-        Call::Join(_, source, on) => {
-            let side = source_depth(source).max(maybe_depth(on));
-            before.max(side).saturating_add(1)
-        }
-        Call::Find(key) => key_depth(key.as_slice(), before),
-        Call::Order(items) => before.max(items_depth(items.as_slice())),
-        Call::ThenOrderBy(items) => before.max(items_depth(items.as_slice())),
+        Call::Plain(call) => after_plain(*call, before),
+        Call::Clause(call, expr) => after_clause(*call, expr_depth(expr), before),
+        Call::Join(_, source, on) => joining(source_depth(source), maybe_depth(on), before),
+        Call::Find(key) => filtering(key_depth(key.as_slice(), before.condition), before),
+        Call::Order(items) => holding(items_depth(items.as_slice()), before),
+        Call::ThenOrderBy(items) => holding(items_depth(items.as_slice()), before),
         Call::Limit(_) => before,
         Call::Offset(_) => before,
-        Call::IntoBoxed(_) => before,
-        Call::Combine(_, _, query) => before.max(query_depth(query)).saturating_add(1),
+        Call::IntoBoxed(_) => Depths {
+            boxed: true,
+            ..before
+        },
+        Call::Combine(_, _, query) => combining(query_depth(query), before),
         Call::PositionalOrderBy(_) => before,
     }
 }
 
-fn plain_depth(call: PlainCall, before: usize) -> usize
-    ensures { result ≡ capped (deep.plain_depth call before) }
+fn after_plain(call: PlainCall, before: Depths) -> Depths
+    ensures { result ≡ capped_depths (deep.after_plain call before) }
 {
     match call {
-        PlainCall::Nullable => before.saturating_add(1),
+        PlainCall::Nullable => nullable(before),
+        PlainCall::Count => selecting(1, before),
         PlainCall::Distinct
-        | PlainCall::Count
         | PlainCall::ForUpdate
         | PlainCall::ForNoKeyUpdate
         | PlainCall::ForShare
@@ -96,15 +153,77 @@ fn plain_depth(call: PlainCall, before: usize) -> usize
     }
 }
 
-fn clause_depth(call: ClauseCall, before: usize, expr: usize) -> usize
-    ensures { result ≡ capped (deep.clause_depth call before expr) }
+fn after_clause(call: ClauseCall, expr: usize, before: Depths) -> Depths
+    ensures { result ≡ capped_depths (deep.after_clause call expr before) }
 {
-    let deeper = before.max(expr);
     match call {
-        ClauseCall::Filter | ClauseCall::OrFilter => deeper.saturating_add(1),
-        ClauseCall::DistinctOn | ClauseCall::GroupBy | ClauseCall::Select | ClauseCall::Having => {
-            deeper
+        ClauseCall::Filter | ClauseCall::OrFilter => {
+            filtering(before.condition.max(expr).saturating_add(1), before)
         }
+        ClauseCall::Select => selecting(expr, before),
+        ClauseCall::DistinctOn | ClauseCall::GroupBy | ClauseCall::Having => holding(expr, before),
+    }
+}
+
+fn nullable(before: Depths) -> Depths
+    ensures { result ≡ capped_depths (deep.nullable before.boxed before) }
+{
+    if before.boxed {
+        before
+    } else {
+        selecting(before.selection.saturating_add(1), before)
+    }
+}
+
+fn selecting(selection: usize, before: Depths) -> Depths
+    ensures { result ≡ deep.selecting selection before }
+{
+    Depths {
+        selection,
+        deepest: before.deepest.max(selection),
+        ..before
+    }
+}
+
+fn filtering(condition: usize, before: Depths) -> Depths
+    ensures { result ≡ deep.filtering condition before }
+{
+    Depths {
+        condition,
+        deepest: before.deepest.max(condition),
+        ..before
+    }
+}
+
+fn holding(depth: usize, before: Depths) -> Depths
+    ensures { result ≡ deep.holding depth before }
+{
+    Depths {
+        deepest: before.deepest.max(depth),
+        ..before
+    }
+}
+
+fn joining(source: usize, on: usize, before: Depths) -> Depths
+    ensures { result ≡ capped_depths (deep.joining source on before) }
+{
+    let selected = source.saturating_add(2);
+    let joined = before.sources.max(source.max(on)).saturating_add(1);
+    Depths {
+        selection: before.selection.max(selected),
+        sources: joined,
+        deepest: before.deepest.max(selected.max(joined)),
+        ..before
+    }
+}
+
+fn combining(query: usize, before: Depths) -> Depths
+    ensures { result ≡ capped_depths (deep.combining query before) }
+{
+    let side = before.deepest.saturating_add(1).max(query);
+    Depths {
+        deepest: side.saturating_add(1),
+        ..before
     }
 }
 

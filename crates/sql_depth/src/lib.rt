@@ -2,5 +2,6 @@
 #![tactic(auto)]
 
 mod depth;
+mod leaves;
 
-pub use depth::{MAX_DEPTH, is_expr_too_deep, is_too_deep};
+pub use depth::{MAX_DEPTH, is_expr_too_deep, is_too_deep, is_too_deep_restricted};

@@ -1,18 +1,26 @@
-use Rattle.std.proofs.Common.{◌≡◌, ◌+◌, max, ap, ◌∙◌, sym}
+use Rattle.std.proofs.Common.{◌≡◌, ◌+◌, max, ap, ◌∙◌, sym, map}
 use Rattle.sql_depth.specs.Depth as deep
-use Rattle.sql_syntax.specs.View.{call_tree, expr_tree}
-use Rattle.sql_depth.specs.inside.Capped.{capped}
-use Rattle.sql_depth.proofs.Depths.{capped_twice, calls_go_on, key_goes_on, step_capped}
+use Rattle.sql_syntax.specs.View.{call_tree, calls_of, expr_tree}
+use Rattle.sql_depth.specs.inside.Capped.{capped, capped_depths}
+use Rattle.sql_depth.proofs.Depths.{all_capped, calls_capped, capped_twice, calls_go_on, key_goes_on, step_capped}
 use Rattle.sql_depth.proofs.depth.+depth.Goals as goal
 
-pub calls_depth-loop-call-preserved : goal.calls_depth-loop-call-preserved
-calls_depth-loop-call-preserved t c = (
-  calls_go_on c.args.calls.now c.loop-call.call-index c.call-item.result c.loop-call.depth
-      c.call_depth-depth.result _ c.loop-call-test.true c.call-item.is c.call_depth-depth.ensures
+pub after_calls-loop-call-init : goal.after_calls-loop-call-init
+after_calls-loop-call-init t c =
+    let before = deep.begun c.args.source c.args.start in (
+      ap (λ x. capped_depths (deep.after_calls (calls_of (map call_tree c.args.calls.now)) x)) c.begun-depths.ensures
+          ∙ calls_capped (calls_of (map call_tree c.args.calls.now)) before,
+      ap capped_depths c.begun-depths.ensures ∙ all_capped before ∙ sym c.begun-depths.ensures,
+    )
+
+pub after_calls-loop-call-preserved : goal.after_calls-loop-call-preserved
+after_calls-loop-call-preserved t c = (
+  calls_go_on c.args.calls.now c.loop-call.call-index c.call-item.result c.loop-call.depths
+      c.after_call-depths.result _ c.loop-call-test.true c.call-item.is c.after_call-depths.ensures
       c.loop-call.invariant.0,
-  ap capped c.call_depth-depth.ensures
-      ∙ capped_twice (deep.call_depth (call_tree c.call-item.result) c.loop-call.depth)
-      ∙ sym c.call_depth-depth.ensures,
+  ap capped_depths c.after_call-depths.ensures
+      ∙ all_capped (deep.after_call (call_tree c.call-item.result) c.loop-call.depths)
+      ∙ sym c.after_call-depths.ensures,
 )
 
 pub key_depth-loop-expr-preserved : goal.key_depth-loop-expr-preserved

@@ -1,14 +1,14 @@
 use Rattle.std.proofs.Common.{◌≡◌, drop, map, max}
-use Rattle.sql_depth.specs.Depth.{calls_depth, exprs_depth, items_depth, key_depth}
+use Rattle.sql_depth.specs.Depth.{after_calls, begun, exprs_depth, items_depth, key_depth}
 use Rattle.sql_syntax.specs.View.{call_tree, calls_of, expr_tree, exprs_of, items_of, order_item_tree}
-use Rattle.sql_depth.specs.inside.Capped.{capped}
+use Rattle.sql_depth.specs.inside.Capped.{capped, capped_depths}
 use Rattle.sql_depth.proofs.depth.+depth.Given as goal
 
-abbrev pub invariant-calls_depth-loop-call : goal.invariant-calls_depth-loop-call
-invariant-calls_depth-loop-call l =
-    (capped (calls_depth (calls_of (map call_tree (drop l.call-index l.calls))) l.depth)
-    ≡ capped (calls_depth (calls_of (map call_tree l.calls)) l.fn.before))
-    × (capped l.depth ≡ l.depth)
+abbrev pub invariant-after_calls-loop-call : goal.invariant-after_calls-loop-call
+invariant-after_calls-loop-call l =
+    (capped_depths (after_calls (calls_of (map call_tree (drop l.call-index l.calls))) l.depths)
+    ≡ capped_depths (after_calls (calls_of (map call_tree l.calls)) (begun l.fn.source l.fn.start)))
+    × (capped_depths l.depths ≡ l.depths)
 
 abbrev pub invariant-key_depth-loop-expr : goal.invariant-key_depth-loop-expr
 invariant-key_depth-loop-expr l =
