@@ -8,7 +8,7 @@ ghost use Rattle.sql_build.specs.Made.{form_of};
 ghost use Rattle.sql_build.specs.Named.{both, only_where};
 
 use crate::{call, name, operator, source};
-use sql_depth::{is_expr_too_deep, is_too_deep};
+use sql_depth::{is_expr_too_deep, is_too_deep, is_too_deep_restricted};
 use sql_dialect::Dialect;
 use sql_expr::{Expr, InValues, JoinRhs, OrderItem, Source, Statement, count_star};
 use sql_schema::{NoMemory, Schema};
@@ -39,6 +39,23 @@ pub fn statement(
         dialect,
     };
     builder.query(query)
+}
+
+/// As `statement`, of a query whose statement a guard restricts. The guard makes it deeper, so one that nests deeper than `MAX_DEPTH` with a
+/// level for each table that a select reads is NoMemory.
+pub fn statement_to_restrict(
+    alloc: Global,
+    schema: &Schema,
+    dialect: Dialect,
+    query: &Query,
+) -> Result<Option<Statement>, NoMemory>
+    ensures { IfOk result (λ o. option_map statement_tree o
+        ≡ statement_in schema.now dialect (written.query_tree query.now)) }
+{
+    if is_too_deep_restricted(query) {
+        return Err(AllocError);
+    }
+    statement(alloc, schema, dialect, query)
 }
 
 /// The expression that is written, its names looked up in the schema. None where it names a table or a column that the schema lacks, in a

@@ -10,4 +10,4 @@ mod operator;
 mod select;
 mod source;
 
-pub use build::{expression, statement};
+pub use build::{expression, statement, statement_to_restrict};

@@ -8,7 +8,7 @@ ghost use Rattle.sql_guard_output.specs.Output.{IsGuarded, IsRestricted, refusal
 ghost use Rattle.sql_guard_output.specs.Trees.{tenant_tree};
 
 use crate::tenant::Tenant;
-use sql_build::statement;
+use sql_build::statement_to_restrict;
 use sql_check::Rule;
 use sql_dialect::Dialect;
 use sql_document::Request;
@@ -77,7 +77,7 @@ pub fn guarded_line(
         (λ l. string_bytes text ≡ line_text l)) }
     ensures schema { cache.new.schema ≡ cache.old.schema }
 {
-    match statement(alloc, cache.schema(), request.dialect, &request.query)? {
+    match statement_to_restrict(alloc, cache.schema(), request.dialect, &request.query)? {
         None => refusal_line(alloc, Rule::UnknownName.name()),
         Some(statement) => {
             restricted_line(

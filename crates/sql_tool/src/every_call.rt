@@ -1,7 +1,7 @@
 //! The program's public calls that can answer NoMemory, made once with memory to spare: each gives what it would give, and not
 //! that answer. Those of the libraries are in the crates of tests.
 
-use sql_build::statement;
+use sql_build::{statement, statement_to_restrict};
 use sql_command::{Status, run};
 use sql_dialect::Dialect;
 use sql_document::{Document, read_document};
@@ -35,9 +35,12 @@ fn documents(alloc: Global) -> Result<(), Fail> {
     let document: Document = read_document(alloc, bytes.as_slice())?;
     let request = document.requests.as_slice().first().ok_or("no request")?;
     let made = statement(alloc, &document.schema, request.dialect, &request.query)?;
-    let is_made = made.is_some();
+    let to_restrict =
+        statement_to_restrict(alloc, &document.schema, request.dialect, &request.query)?;
+    let are_made = made.is_some() && to_restrict.is_some();
     drop(made);
-    if is_made {
+    drop(to_restrict);
+    if are_made {
         Ok(())
     } else {
         Err("no statement")?

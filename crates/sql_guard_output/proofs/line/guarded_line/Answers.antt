@@ -25,7 +25,7 @@ returns-in-None-clause-line c =
     let name = rule_text UnknownName in
     let r : StatementRequest = record { dialect = q.dialect; statement = unmade name } in
     let none : None ≡ statement_in schema q.dialect q.query =
-    ap (option_map statement_tree) (sym c.in-None.is) ∙ c.in_ok-statement.ensures
+    ap (option_map statement_tree) (sym c.in-None.is) ∙ c.in_ok-statement_to_restrict.ensures
     ∙ ap (λ (w : Declarations). statement_in w q.dialect q.query) c.schema.ensures in
     IfOk-weaker c.refusal_line.result _ _ (λ text is. (
       r,
@@ -39,7 +39,7 @@ returns-in-Some-clause-line c =
     let schema = c.args.cache.now.schema in
     let q = request_tree c.args.request.now in
     let some : Some (statement_tree c.in-Some.statement) ≡ statement_in schema q.dialect q.query =
-    ap (option_map statement_tree) (sym c.in-Some.is) ∙ c.in_ok-statement.ensures
+    ap (option_map statement_tree) (sym c.in-Some.is) ∙ c.in_ok-statement_to_restrict.ensures
     ∙ ap (λ (w : Declarations). statement_in w q.dialect q.query) c.schema.ensures in
     IfOk-weaker c.restricted_line.result _ _ (λ text told.
     let (m, is, has) = told in (
