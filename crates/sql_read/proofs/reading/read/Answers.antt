@@ -1,10 +1,11 @@
-use Rattle.std.proofs.Common.{rules, ◌≡◌, IsTrue, map, Some, sym}
+use Rattle.std.proofs.Common.{rules, ◌≡◌, IsTrue, map, false, sym}
 use Rattle.sql_grammar.specs.Fits.{FitsQuery}
 use Rattle.sql_grammar.specs.Text.{text as text_of}
 use Rattle.sql_grammar.specs.Tokens.{tokens}
-use Rattle.sql_grammar.proofs.Machine as m
 use Rattle.sql_lexer.specs.View.{token_of}
 use Rattle.sql_tree.specs.View.{query_tree}
+use Rattle.sql_read.specs.inside.Closed.{closed}
+use Rattle.sql_read.proofs.Closed.{not_closed}
 use Rattle.sql_read.proofs.Found.{no_tokens, no_candidate, misfit}
 use Rattle.sql_read.proofs.Readback.{found-reading, only_one, read_back, mistaken_text, written-reading}
 use Rattle.sql_read.proofs.reading.read.Goals as goal
@@ -13,6 +14,18 @@ pub returns-in_default-clause-in_grammar : goal.returns-in_default-clause-in_gra
 returns-in_default-clause-in_grammar c =
     let none = sym (rw c.in_default.is at c.in_ok-tokens.ensures) in
     λ q h is k. no_tokens _ _ none q (written-reading _ _ q h is)
+
+pub returns-then-not-are_closed-clause-not_in_grammar : goal.returns-then-not-are_closed-clause-not_in_grammar
+returns-then-not-are_closed-clause-not_in_grammar c =
+    let toks = sym (rw c.in-Some.is at c.in_ok-tokens.ensures) in
+    let left : closed (map token_of c.in-Some.tokens.items) 0 ≡ false = search rules in
+    λ k q r. not_closed _ _ _ toks left q r
+
+pub returns-then-not-are_closed-clause-in_grammar : goal.returns-then-not-are_closed-clause-in_grammar
+returns-then-not-are_closed-clause-in_grammar c =
+    let toks = sym (rw c.in-Some.is at c.in_ok-tokens.ensures) in
+    let left : closed (map token_of c.in-Some.tokens.items) 0 ≡ false = search rules in
+    λ q h is k. not_closed _ _ _ toks left q (written-reading _ _ q h is)
 
 pub returns-in_default-2-clause-not_in_grammar : goal.returns-in_default-2-clause-not_in_grammar
 returns-in_default-2-clause-not_in_grammar c =
@@ -31,7 +44,7 @@ returns-then-not-fits_query-clause-not_in_grammar c =
     let toks = sym (rw c.in-Some.is at c.in_ok-tokens.ensures) in
     let cand = sym (rw c.in-Some-2.is at c.in_ok-query.ensures) in
     let lacks : FitsQuery c.args.dialect (query_tree c.in-Some-2.query.value) → ⊥ =
-    λ f. let k : IsTrue c.fits_query.result = c.fits_query.ensures.1 (rw c.deref-2.ensures f) in search rules in
+    λ f. let k : IsTrue c.fits_query.result = c.fits_query.ensures.1 (rw c.deref-3.ensures f) in search rules in
     λ k q r. misfit _ _ _ _ toks cand lacks q r
 
 pub returns-then-not-fits_query-clause-in_grammar : goal.returns-then-not-fits_query-clause-in_grammar
@@ -39,7 +52,7 @@ returns-then-not-fits_query-clause-in_grammar c =
     let toks = sym (rw c.in-Some.is at c.in_ok-tokens.ensures) in
     let cand = sym (rw c.in-Some-2.is at c.in_ok-query.ensures) in
     let lacks : FitsQuery c.args.dialect (query_tree c.in-Some-2.query.value) → ⊥ =
-    λ f. let k : IsTrue c.fits_query.result = c.fits_query.ensures.1 (rw c.deref-2.ensures f) in search rules in
+    λ f. let k : IsTrue c.fits_query.result = c.fits_query.ensures.1 (rw c.deref-3.ensures f) in search rules in
     λ q h is k. misfit _ _ _ _ toks cand lacks q (written-reading _ _ q h is)
 
 pub returns-then-same-clause-reading : goal.returns-then-same-clause-reading
