@@ -7,7 +7,7 @@ import sys
 
 KINDS = ["Integer", "Text", "BigInt", "Bool"]
 # A statement nests at most so deep (`MAX_DEPTH` of `sql_depth`).
-MAX_DEPTH = 1000
+MAX_DEPTH = 2500
 # PostgreSQL allows a table so many columns, and MySQL so many.
 MAX_COLUMNS = 1600
 MYSQL_COLUMNS = 4096
@@ -230,13 +230,13 @@ DIRECTIONS = {
     "limits": (limits, None),
     "filters": (filters, MAX_DEPTH - 4),
     "or_filters": (or_filters, MAX_DEPTH - 4),
-    "unions": (unions, MAX_DEPTH - 4),
+    "unions": (unions, MAX_DEPTH // 2 - 2),
     "nullables": (nullables, MAX_DEPTH - 4),
     "aliases": (aliases, MAX_DEPTH - 4),
     "left_joins": (left_joins, MAX_DEPTH - 4),
     "finds": (finds, MAX_DEPTH - 4),
     "nested_filters": (nested_filters, MAX_DEPTH - 80),
-    "nested_unions": (nested_unions, MAX_DEPTH - 80),
+    "nested_unions": (nested_unions, MAX_DEPTH // 2 - 50),
     "nots": (nots, 117),
     "too_many_filters": (filters, None),
     "too_many_unions": (unions, None),

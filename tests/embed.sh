@@ -79,6 +79,22 @@ again='{"schema":{"tables":[]},"requests":[{"dialect":"Pg","query":{"from":{"tab
 cat "$top/examples/filter.jsonl" "$top/examples/filter.jsonl" >"$work/twice"
 echo '{"schema":' >"$work/bad.json"
 
+# filters COUNT: a document of one request with so many filters
+filters() {
+    awk -v count="$1" 'BEGIN {
+        printf "{\"schema\":{\"tables\":[{\"name\":\"foo\",\"columns\":[{\"name\":\"id\",\"type\":\"Integer\"}]}]},\"requests\":["
+        printf "{\"dialect\":\"Pg\",\"query\":{\"from\":{\"table\":\"foo\"},\"calls\":["
+        for (i = 0; i < count; i++) printf "%s[\"filter\",{\"eq\":[{\"col\":[\"foo\",\"id\"]},{\"bind\":[\"Integer\",1]}]}]", i ? "," : ""
+        print "]}}]}" }'
+}
+filters 2497 >"$work/deepest.json"
+filters 2498 >"$work/deeper.json"
+# small COMMAND..: runs it with 2 MB of stack, as threads often have
+# shellcheck disable=SC3045
+small() { (ulimit -s 2048 && "$@"); }
+# answers COMMAND..: the command prints one line, which is no refusal
+answers() { "$@" >"$work/out" 2>"$work/err" && [ "$(wc -l <"$work/out")" = 1 ] && ! grep -q refused "$work/out"; }
+
 c=$(command -v cc || command -v gcc || command -v clang)
 if [ -n "$c" ]; then
     if check 'the C example compiles' "$c" -std=c99 -Wall -Wextra -Werror -pedantic -O2 -o "$work/main" "$top/examples/c/main.c" "$library" "$heap"; then
@@ -92,6 +108,8 @@ if [ -n "$c" ]; then
         done
         check 'C, a session' prints "$work/twice" "$work/main" session "$top/examples/filter.json" "$again"
         check 'C, no document' ends 3 "$work/main" build "$work/bad.json"
+        check 'C, the deepest request in 2 MB of stack' answers small "$work/main" build "$work/deepest.json"
+        check 'C, a deeper request' ends 6 small "$work/main" build "$work/deeper.json"
     fi
     # So a handle may pass from thread to thread.
     check 'the library keeps nothing by thread' is_without_thread_storage

@@ -170,58 +170,117 @@ run read Pg <"$work/large"
 check 'a large text' is_empty 7 TooLarge
 # nested COUNT: a text with so many brackets, one in another
 nested() { awk -v count="$1" 'BEGIN { printf "SELECT "; for (i = 0; i < count; i++) printf "NOT ("; printf "$1"; for (i = 0; i < count; i++) printf ")"; print "" }'; }
-nested 1001 >"$work/deep"
+nested 2701 >"$work/deep"
 run read Pg <"$work/deep"
-check 'a text that nests 1001 deep' is_empty 6 NoMemory
-nested 1000 >"$work/deep"
+check 'a text that nests 2701 deep' is_empty 6 NoMemory
+nested 2700 >"$work/deep"
 # shellcheck disable=SC3045
 (ulimit -s 4096 && run read Pg <"$work/deep" && exit "$got")
 got=$?
 printf '{"placeholders":1,"sql":"%s"}\n' "$(cat "$work/deep")" >"$work/line"
-check 'a text that nests 1000 deep' writes "$work/line"
-# deep COUNT CALL: a document of two requests: the table's, and one with so many of this call on it
+check 'a text that nests 2700 deep' writes "$work/line"
+# What leaves a bracket open, or has a word that is no token, has no reading however deep it nests.
+echo '{"refused":"NotInGrammar"}' >"$work/line"
+head -c 1000000 /dev/zero | tr '\0' '(' >"$work/open"
+run read Pg <"$work/open"
+check 'a text of opening brackets' writes "$work/line"
+sed 's/(/)/g' "$work/open" >"$work/close"
+run read Pg <"$work/close"
+check 'a text of closing brackets' writes "$work/line"
+nested 5000 | sed 's/\$1/foo/' >"$work/word"
+run read Pg <"$work/word"
+check 'a deep text with a word of its own' writes "$work/line"
+{
+    printf '{"schema":{"tables":[{"name":"foo","columns":[{"name":"id","type":"Integer"}]}]},"texts":["SELECT \\"id\\" FROM \\"foo\\"","'
+    head -c 5000 "$work/open"
+    printf '","SELECT \\"id\\" FROM \\"foo\\""]}'
+} >"$work/texts"
+run audit Pg <"$work/texts"
+is_between() { ended 0 '' && [ "$(wc -l <"$work/out")" = 3 ] && [ "$(grep -n NotInGrammar "$work/out" | cut -d: -f1)" = 2 ]; }
+check 'an audit with a text of opening brackets' is_between
+# deep COUNT CALL [DIALECT]: a document of three requests: the table's, one with so many of this call on it, in which # stands for the
+# number of the call, and the table's again
 deep() {
-    awk -v count="$1" -v call="$2" 'BEGIN {
+    awk -v count="$1" -v call="$2" -v dialect="${3:-Pg}" 'BEGIN {
         table = "\"from\":{\"table\":\"foo\"}"
         printf "{\"schema\":{\"tables\":[{\"name\":\"foo\",\"columns\":[{\"name\":\"id\",\"type\":\"Integer\"}]}]},\"requests\":["
-        printf "{\"dialect\":\"Pg\",\"query\":{%s}},{\"dialect\":\"Pg\",\"query\":{%s,\"calls\":[", table, table
-        for (i = 0; i < count; i++) printf "%s%s", i ? "," : "", call
-        print "]}}]}" }'
+        plain = sprintf("{\"dialect\":\"%s\",\"query\":{%s}}", dialect, table)
+        printf "%s,{\"dialect\":\"%s\",\"query\":{%s,\"calls\":[", plain, dialect, table
+        for (i = 0; i < count; i++) {
+            one = call
+            gsub(/#/, i, one)
+            printf "%s%s", i ? "," : "", one
+        }
+        printf "]}},%s]}\n", plain }'
 }
-cat >"$work/line" <<'TXT'
-{"binds":[],"columns":["Integer"],"id":1,"safe":true,"sql":"SELECT \"foo\".\"id\" FROM \"foo\""}
-TXT
 # MAX_DEPTH (sql_depth) bounds what nests: out of memory, after the line of the request before, and never a signal.
-beyond() { ended 6 NoMemory && cmp "$work/out" "$work/line"; }
+beyond() { ended 6 NoMemory && [ "$(wc -l <"$work/out")" = 1 ] && ! grep -q refused "$work/out"; }
 # As many as nest within the bound are answered, also where the stack is half of what systems give.
-within() { ended 0 '' && [ "$(wc -l <"$work/out")" = 2 ] && ! grep -q refused "$work/out"; }
+within() { ended 0 '' && [ "$(wc -l <"$work/out")" = 3 ] && ! grep -q refused "$work/out"; }
+condition='{"eq":[{"col":["foo","id"]},{"bind":["Integer",1]}]}'
+join="[\"inner_join\",{\"alias\":\"a#\",\"of\":\"foo\"},$condition]"
 while read -r most many call; do
     deep "$many" "$call" >"$work/deep"
     run build <"$work/deep"
     check "$many calls $call" beyond
-    deep "$((most + 1))" "$call" >"$work/deep"
-    run build <"$work/deep"
-    check "one call $call too many" beyond
-    deep "$most" "$call" >"$work/deep"
-    # shellcheck disable=SC3045
-    (ulimit -s 4096 && run build <"$work/deep" && exit "$got")
-    got=$?
-    check "$most calls $call" within
-done <<'TXT'
-997 8000 ["filter",{"eq":[{"col":["foo","id"]},{"bind":["Integer",1]}]}]
-997 8000 ["or_filter",{"eq":[{"col":["foo","id"]},{"bind":["Integer",1]}]}]
-997 4000 ["union",{"from":{"table":"foo"}}]
-998 16000 ["nullable"]
+    for dialect in Pg Mysql Sqlite Bracket; do
+        deep "$((most + 1))" "$call" "$dialect" >"$work/deep"
+        run build <"$work/deep"
+        check "one call $call too many on $dialect" beyond
+        deep "$most" "$call" "$dialect" >"$work/deep"
+        # shellcheck disable=SC3045
+        (ulimit -s 4096 && run build <"$work/deep" && exit "$got")
+        got=$?
+        check "$most calls $call on $dialect" within
+    done
+done <<TXT
+2497 8000 ["filter",$condition]
+2497 8000 ["or_filter",$condition]
+1248 4000 ["union",{"from":{"table":"foo"}}]
+2497 16000 ["nullable"]
+2497 8000 $join
+2497 8000 ["filter",$condition],$join
 TXT
-# A guard nests deeper by its predicate, which JSON holds to some 120 levels.
+# A selection that is replaced, and the flag of a boxed statement, nest nothing.
+deep 5000 '["nullable"],["select",{"col":["foo","id"]}]' >"$work/deep"
+run build <"$work/deep"
+check 'selections that are replaced' within
+deep 1 "[\"into_boxed\"]$(awk 'BEGIN { for (i = 0; i < 5000; i++) printf ",[\"nullable\"]" }')" >"$work/deep"
+run build <"$work/deep"
+check 'flags' within
+# A guard nests deeper by its predicate, which JSON holds to some 120 levels, and by a level for each table that a select reads.
 predicate=$(awk 'BEGIN { for (i = 0; i < 110; i++) printf "{\"not\":"; printf "{\"eq\":[{\"col\":[\"foo\",\"id\"]},{\"bind\":[\"Integer\",1]}]}"
     for (i = 0; i < 110; i++) printf "}" }')
-deep 997 '["filter",{"eq":[{"col":["foo","id"]},{"bind":["Integer",1]}]}]' |
-    sed "s/}\$/,\"guard\":{\"table\":\"foo\",\"predicate\":$predicate}}/" >"$work/deep"
-# shellcheck disable=SC3045
-(ulimit -s 4096 && run guard <"$work/deep" && exit "$got")
-got=$?
-check 'a guard of 997 calls filter' within
+guarded() { sed "s/}\$/,\"guard\":{\"table\":\"foo\",\"predicate\":$predicate}}/"; }
+while read -r most call; do
+    deep "$((most + 1))" "$call" | guarded >"$work/deep"
+    run guard <"$work/deep"
+    check "one call $call too many for a guard" beyond
+    deep "$most" "$call" | guarded >"$work/deep"
+    # shellcheck disable=SC3045
+    (ulimit -s 4096 && run guard <"$work/deep" && exit "$got")
+    got=$?
+    check "a guard of $most calls $call" within
+done <<TXT
+2496 ["filter",$condition]
+1248 ["union",{"from":{"table":"foo"}}]
+1248 $join
+TXT
+# tables COUNT: a source of so many aliases, joined in pairs: it nests little, and a guard puts a condition beside WHERE for each
+tables() {
+    awk -v count="$1" -v condition="$condition" 'function source(from, to,   middle) {
+            if (to - from == 1) return sprintf("{\"alias\":\"a%d\",\"of\":\"foo\"}", from)
+            middle = int((from + to) / 2)
+            return "{\"join\":[\"inner\"," source(from, middle) "," source(middle, to) "],\"on\":" condition "}"
+        }
+        BEGIN {
+            printf "{\"schema\":{\"tables\":[{\"name\":\"foo\",\"columns\":[{\"name\":\"id\",\"type\":\"Integer\"}]}]},\"requests\":["
+            printf "{\"dialect\":\"Pg\",\"query\":{\"from\":{\"table\":\"foo\"}}},"
+            printf "{\"dialect\":\"Pg\",\"query\":{\"from\":%s}}]}\n", source(0, count) }'
+}
+tables 32768 | guarded >"$work/deep"
+run guard <"$work/deep"
+check 'a guard of 32768 tables' beyond
 for words in '' 'Build' 'build x' 'guard x' 'generate' 'generate 007' 'generate +7' 'generate 100001' 'read' 'read pg' 'audit' 'audit pg'; do
     # shellcheck disable=SC2086
     run $words </dev/null

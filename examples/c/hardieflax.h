@@ -51,7 +51,7 @@ enum hardieflax_status {
     HARDIEFLAX_DONE = 0,         /* the handle has the answer */
     HARDIEFLAX_USAGE = 2,        /* no such dialect: the handle is as it was; or on hardieflax_next no session */
     HARDIEFLAX_BAD_DOCUMENT = 3, /* the input is not what the call reads */
-    HARDIEFLAX_NO_MEMORY = 6,    /* out of memory, or a query or a text nests deeper than 1,000 levels */
+    HARDIEFLAX_NO_MEMORY = 6,    /* out of memory, or a request or a text nests too deep (below) */
     HARDIEFLAX_TOO_LARGE = 7     /* the input has more than 16777216 bytes */
 };
 
