@@ -34,6 +34,8 @@ pub struct BoxedSelectStatement {
 }
 
 impl Drop for BoxedSelectStatement {
+    // (not inlined: see `drop_expr`)
+    #[inline(never)]
     #[cycle(ast)]
     fn drop(self) {
         let BoxedSelectStatement {

@@ -10,7 +10,7 @@ ghost use Rattle.sql_node.specs.Pieces.{all_pieces, combinator_sql, pieces, posi
 ghost use Rattle.sql_node.specs.View.{combination_clause_tree, statement_tree};
 
 use crate::Statement;
-use crate::expr::clone_query;
+use crate::expr::{clone_query, drop_query};
 use crate::order::push_order_by;
 use sql_dialect::{Backend, Combinator, DuplicateRule};
 use sql_leaf::{LimitOffsetClause, PositionalItem};
@@ -31,16 +31,20 @@ pub struct CombinationClause {
 }
 
 impl Drop for CombinationClause {
+    // (not inlined: see `drop_expr`)
+    #[inline(never)]
     #[cycle(ast)]
     fn drop(self) {
         let CombinationClause {
             combinator: _,
             duplicate_rule: _,
-            source: _,
-            rhs: _,
+            source,
+            rhs,
             order: _,
             limit_offset: _,
         } = self;
+        drop_query(source);
+        drop_query(rhs);
     }
 }
 

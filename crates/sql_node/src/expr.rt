@@ -69,33 +69,80 @@ pub enum Expr {
 }
 
 impl Drop for Expr {
+    // (not inlined: see `drop_expr`)
+    #[inline(never)]
     #[cycle(ast)]
     fn drop(self) {
         match self {
-            Expr::Column(_) => {}
-            Expr::Field(_) => {}
-            Expr::Value(_, _) => {}
-            Expr::List(exprs) => drop(exprs),
+            Expr::Column(column) => drop_column(column),
+            Expr::Field(field) => drop_field(field),
+            Expr::Value(_, value) => drop_value(value),
+            Expr::List(exprs) => drop_list(exprs),
             Expr::CountStar => {}
-            Expr::Nullable(_) => {}
-            Expr::Not(_) => {}
-            Expr::IsNull(_) => {}
-            Expr::IsNotNull(_) => {}
-            Expr::Count(_) => {}
-            Expr::Eq(_, _) => {}
-            Expr::Ne(_, _) => {}
-            Expr::Gt(_, _) => {}
-            Expr::Ge(_, _) => {}
-            Expr::Lt(_, _) => {}
-            Expr::Le(_, _) => {}
-            Expr::And(_, _) => {}
-            Expr::Or(_, _) => {}
-            Expr::Exists(_) => {}
-            Expr::Subselect(_) => {}
-            Expr::EqAny(_, _) => {}
-            Expr::NeAll(_, _) => {}
+            Expr::Nullable(a)
+            | Expr::Not(a)
+            | Expr::IsNull(a)
+            | Expr::IsNotNull(a)
+            | Expr::Count(a) => drop_expr(a),
+            Expr::Eq(a, b)
+            | Expr::Ne(a, b)
+            | Expr::Gt(a, b)
+            | Expr::Ge(a, b)
+            | Expr::Lt(a, b)
+            | Expr::Le(a, b)
+            | Expr::And(a, b)
+            | Expr::Or(a, b) => {
+                drop_expr(a);
+                drop_expr(b);
+            }
+            Expr::Exists(query) | Expr::Subselect(query) => drop_query(query),
+            Expr::EqAny(a, among) | Expr::NeAll(a, among) => {
+                drop_expr(a);
+                drop_among(among);
+            }
         }
     }
+}
+
+// Drops and copies go down a statement level by level. What is not inlined keeps its values off the stack of the levels below.
+
+#[inline(never)]
+fn drop_column(column: Column) {
+    drop(column);
+}
+
+#[inline(never)]
+fn drop_field(field: AliasedField) {
+    drop(field);
+}
+
+#[inline(never)]
+fn drop_value(value: Value) {
+    drop(value);
+}
+
+#[inline(never)]
+#[cycle(ast)]
+fn drop_list(exprs: SqlList<Expr>) {
+    drop(exprs);
+}
+
+#[inline(never)]
+#[cycle(ast)]
+fn drop_expr(expr: Box<Expr>) {
+    drop(expr);
+}
+
+#[inline(never)]
+#[cycle(ast)]
+pub(crate) fn drop_query(query: Box<Statement>) {
+    drop(query);
+}
+
+#[inline(never)]
+#[cycle(ast)]
+fn drop_among(among: InValues) {
+    drop(among);
 }
 
 /// What a membership looks in.
@@ -117,6 +164,7 @@ impl Drop for InValues {
     }
 }
 
+#[inline(never)]
 fn clone_values(alloc: Global, values: &[Value]) -> Result<Vec<Value>, NoMemory>
     ensures { IfOk result (λ v. v.items ≡ values.now) }
 {
@@ -127,6 +175,7 @@ fn clone_values(alloc: Global, values: &[Value]) -> Result<Vec<Value>, NoMemory>
     Ok(all)
 }
 
+#[inline(never)]
 #[cycle(copy)]
 fn clone_exprs(alloc: Global, exprs: &[Expr]) -> Result<Vec<Expr>, NoMemory>
     ensures { IfOk result (λ v. map expr_tree v.items ≡ map expr_tree exprs.now) }
@@ -145,6 +194,7 @@ fn clone_boxed(alloc: Global, expr: &Expr) -> Result<Box<Expr>, NoMemory>
     Ok(Box::new(alloc, expr.try_clone(alloc)?)?)
 }
 
+#[inline(never)]
 #[cycle(copy)]
 pub(crate) fn clone_query(alloc: Global, query: &Statement) -> Result<Box<Statement>, NoMemory>
     ensures { IfOk result (λ b. statement_tree b.value ≡ statement_tree query.now) }

@@ -43,6 +43,8 @@ pub struct SelectStatement {
 }
 
 impl Drop for SelectStatement {
+    // (not inlined: see `drop_expr`)
+    #[inline(never)]
     #[cycle(ast)]
     fn drop(self) {
         let SelectStatement {
