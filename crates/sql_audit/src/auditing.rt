@@ -75,7 +75,7 @@ fn report(alloc: Global, schema: &Schema, query: &Query) -> Result<AuditReport, 
 /// the text. A leaf is a table or an alias in a FROM.
 ///
 /// It takes time in the text's length times the depth of its brackets, and for each path in the number of leaves that are sought.
-/// `NoMemory` may stand in place of any answer, and does where brackets nest deeper than `sql_read::MAX_DEPTH`.
+/// `NoMemory` may stand in place of any answer, and does where all brackets are closed and they nest deeper than `sql_read::MAX_DEPTH`.
 pub fn audit(
     alloc: Global,
     dialect: Dialect,

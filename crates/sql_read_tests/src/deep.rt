@@ -34,10 +34,16 @@ fn deepest_text_is_read(rt: HostRuntime) -> Result<(), Fail> {
 fn deeper_texts_are_out_of_memory(rt: HostRuntime) -> Result<(), Fail> {
     let text = nested(rt.alloc(), MAX_DEPTH + 1)?;
     assert!(rt; is_out_of_memory(rt.alloc(), text.as_str()));
+    Ok(())
+}
+
+#[test]
+fn brackets_that_stay_open_have_no_reading(rt: HostRuntime) -> Result<(), Fail> {
     let mut text = String::new(rt.alloc());
     for _ in 0..1000000 {
         text.push_str("(")?;
     }
-    assert!(rt; is_out_of_memory(rt.alloc(), text.as_str()));
+    let answer = read(rt.alloc(), Dialect::Sqlite, text.as_str());
+    assert!(rt; matches!(answer, Err(ReadError::NotInGrammar)));
     Ok(())
 }
