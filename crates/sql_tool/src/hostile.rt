@@ -105,7 +105,7 @@ const LINE_AFTER: &str = "\"}\n";
 fn built(alloc: Global, document: &str) -> Result<(Status, MemorySink), AllocError> {
     let words = vec![in alloc; String::from_str(alloc, "build")?]?;
     let mut source = SureSource::new(Vec::from_slice(alloc, document.as_bytes())?);
-    let mut sink = MemorySink::new(alloc, 100000, NonZeroUsize::MAX, Vec::new(alloc))?;
+    let mut sink = MemorySink::new(alloc, 1000000, NonZeroUsize::MAX, Vec::new(alloc))?;
     let status = run(alloc, words.as_slice(), &mut source, &mut sink);
     Ok((status, sink))
 }
