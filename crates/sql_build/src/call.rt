@@ -1,7 +1,5 @@
 //! Calls on a statement of any form. None where the statement's form lacks the call.
 //!
-//! None is inlined into the builder, which calls itself for each subselect, so that a level takes little stack.
-//!
 //! A statement is dropped by a call of `drop`: where it is dropped in place, the checker takes each form of a clause with each
 //! of all others, which takes minutes.
 #![tactic(auto, using(crate::proofs::Standing::standing))]
@@ -25,7 +23,6 @@ use sql_select::{PositionalOrderDsl, Query as _, QueryDsl};
 use sql_syntax::{ClauseCall, PlainCall};
 use std::alloc::Global;
 
-#[inline(never)]
 pub(crate) fn plain(
     alloc: Global,
     call: PlainCall,
@@ -71,7 +68,6 @@ fn clause_with(
     }
 }
 
-#[inline(never)]
 pub(crate) fn clause(
     alloc: Global,
     call: ClauseCall,
@@ -114,7 +110,6 @@ fn join_with(
     }
 }
 
-#[inline(never)]
 pub(crate) fn join(
     alloc: Global,
     schema: &Schema,
@@ -156,7 +151,6 @@ fn find_with(
     }
 }
 
-#[inline(never)]
 pub(crate) fn find(
     alloc: Global,
     key: Option<Vec<Expr>>,
@@ -187,7 +181,6 @@ fn order_with(items: Vec<OrderItem>, statement: Statement) -> Option<Statement>
     }
 }
 
-#[inline(never)]
 pub(crate) fn order(items: Option<Vec<OrderItem>>, statement: Statement) -> Option<Statement>
     ensures { option_map statement_tree result
         ≡ only_where
@@ -225,7 +218,6 @@ fn then_order_by_with(
     }
 }
 
-#[inline(never)]
 pub(crate) fn then_order_by(
     alloc: Global,
     items: Option<Vec<OrderItem>>,
@@ -243,7 +235,6 @@ pub(crate) fn then_order_by(
     }
 }
 
-#[inline(never)]
 pub(crate) fn limit(limit: i64, statement: Statement) -> Statement
     ensures { statement_tree result ≡ limited limit (statement_tree statement) }
 {
@@ -254,7 +245,6 @@ pub(crate) fn limit(limit: i64, statement: Statement) -> Statement
     }
 }
 
-#[inline(never)]
 pub(crate) fn offset(offset: i64, statement: Statement) -> Statement
     ensures { statement_tree result ≡ offset_by offset (statement_tree statement) }
 {
@@ -265,7 +255,6 @@ pub(crate) fn offset(offset: i64, statement: Statement) -> Statement
     }
 }
 
-#[inline(never)]
 pub(crate) fn into_boxed(dialect: Dialect, statement: Statement) -> Option<Statement>
     ensures { option_map statement_tree result
         ≡ only_where (Some (boxed_for dialect (statement_tree statement)))
@@ -298,7 +287,6 @@ fn combine_with(
     }
 }
 
-#[inline(never)]
 pub(crate) fn combine(
     alloc: Global,
     combinator: Combinator,
@@ -319,7 +307,6 @@ pub(crate) fn combine(
     }
 }
 
-#[inline(never)]
 pub(crate) fn positional_order_by(
     alloc: Global,
     places: &[PositionalItem],
