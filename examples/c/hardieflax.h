@@ -22,7 +22,9 @@
  * share nothing, so each thread may have its own.
  *
  * Memory. The library calls malloc, realloc and free. Where memory runs out a call returns HARDIEFLAX_NO_MEMORY, and the handle may be
- * used on. A call takes up to 2 MB of stack, for input that nests as deep as it may (bench/README.md).
+ * used on. A request that nests deeper than 2,500 levels, or a text whose brackets nest deeper than 2,700, is answered so too
+ * (docs/DOCUMENT.md). For input that nests as deep as it may hardieflax_build, _open and _next take up to 2 MB of stack (bench/README.md),
+ * hardieflax_guard, _read and _audit up to 6 MB.
  *
  * Signals. Call nothing here from a signal handler, nor in the forked child of a process with threads.
  */
