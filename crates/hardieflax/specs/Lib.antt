@@ -167,6 +167,7 @@ pub use Rattle.sql_resolution.specs.declared.column_use.ColumnUse
 -- Queries as documents write them, and the statements that they stand for.
 pub use Rattle.sql_build.specs.Built as QueryStatements
 pub use Rattle.sql_depth.specs.Depth as QueryDepth
+pub use Rattle.sql_depth.specs.Leaves as QueryLeaves
 pub use Rattle.sql_depth.specs.declared.depth.TheConstants as DepthConstants
 pub use Rattle.sql_syntax.specs.Forms as SyntaxForms
 pub use Rattle.sql_syntax.specs.Tree as SyntaxTree

@@ -125,8 +125,8 @@ pub use sql_audit_law::{accepted_are_reported, one_answer as one_audit_answer};
 
 /// Queries as documents write them, and the statements that they stand for over a schema.
 pub mod syntax {
-    pub use sql_build::{expression, statement};
-    pub use sql_depth::{MAX_DEPTH, is_expr_too_deep, is_too_deep};
+    pub use sql_build::{expression, statement, statement_to_restrict};
+    pub use sql_depth::{MAX_DEPTH, is_expr_too_deep, is_too_deep, is_too_deep_restricted};
     pub use sql_syntax::{
         AliasName, BinaryOperator, Call, ClauseCall, ColumnName, Expr, FieldName, Form, Join,
         Membership, OrderItem, PlainCall, Quantified, Query, QueryStart, Source, TableName,

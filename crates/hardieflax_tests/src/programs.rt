@@ -15,7 +15,7 @@ ghost use Rattle.hardieflax.specs.View.{expr_tree, statement_tree};
 use hardieflax::program::{Sink, Source, Status, run};
 use hardieflax::syntax::{
     Call, Expr as WrittenExpr, Query, all_stand, expression, is_expr_too_deep, is_too_deep,
-    statement,
+    is_too_deep_restricted, statement, statement_to_restrict,
 };
 use hardieflax::{Dialect, Expr, NoMemory, Schema, Statement};
 use std::alloc::Global;
@@ -50,6 +50,19 @@ pub fn statement_of(
     statement(alloc, schema, dialect, query)
 }
 
+/// The same, of a query whose statement a guard restricts.
+pub fn statement_to_restrict_of(
+    alloc: Global,
+    schema: &Schema,
+    dialect: Dialect,
+    query: &Query,
+) -> Result<Option<Statement>, NoMemory>
+    ensures { IfOk result (λ o. option_map statement_tree o
+        ≡ statement_in schema.now dialect (syntax.query_tree query.now)) }
+{
+    statement_to_restrict(alloc, schema, dialect, query)
+}
+
 /// The same of an expression.
 pub fn expression_of(
     alloc: Global,
@@ -73,6 +86,11 @@ pub fn stands(calls: &[Call]) -> bool
 /// Whether a query nests too deep to be built.
 pub fn is_deep(query: &Query) -> bool {
     is_too_deep(query)
+}
+
+/// Whether its statement nests too deep once a guard restricts it.
+pub fn is_deep_restricted(query: &Query) -> bool {
+    is_too_deep_restricted(query)
 }
 
 /// The same of an expression.
