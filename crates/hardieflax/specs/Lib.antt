@@ -86,10 +86,10 @@ pub use Rattle.sql_flat.specs.Flat as FlatLists
 pub use Rattle.sql_flat.specs.declared.kind.FlatKind
 pub use Rattle.sql_flat.specs.declared.kind.FlatNode
 pub use Rattle.sql_rose.specs.Rose
-pub use Rattle.sql_key.specs.Expressions as ExpressionKeys
-pub use Rattle.sql_key.specs.Ids
+pub use Rattle.sql_shape.specs.Expressions as ExpressionKeys
+pub use Rattle.sql_shape.specs.Ids
 pub use Rattle.sql_key.specs.Keys
-pub use Rattle.sql_key.specs.Shape
+pub use Rattle.sql_shape.specs.Shape
 -- Texts and their readings.
 pub use Rattle.sql_grammar.specs.Examples as GrammarExamples
 pub use Rattle.sql_grammar.specs.Fits

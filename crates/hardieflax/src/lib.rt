@@ -73,9 +73,9 @@ pub use sql_unflat::Unflatten;
 // Keys: by what a cache knows a statement.
 pub use sql_key::{
     QueryId, QueryKey, compared_keys_are_equal_keys, equal_expression_keys_are_equal_shapes,
-    equal_keys_are_equal_shapes, equal_keys_hash_alike, equal_shapes_have_ids_alike,
-    expression_key, flat_query_id,
+    equal_keys_are_equal_shapes, equal_keys_hash_alike, expression_key, flat_query_id,
 };
+pub use sql_shape::equal_shapes_have_ids_alike;
 
 // The rules, `compile`, and whether values fit.
 pub use sql_check::{
@@ -86,7 +86,7 @@ pub use sql_check::{
 // `compile` with column types that are right for NULL, a cache of its answers, and what statements answer.
 pub use sql_rows::{
     RequestKey, StatementCache, answered_pairs_come_first, calls_are_answered_alone, compile_sound,
-    compile_sound_by, first_is_any, last_writer_is_an_answer, left_join_has_two_answers,
+    compile_sound_by, equal_ids, first_is_any, last_writer_is_an_answer, left_join_has_two_answers,
     needs_nullable_is_needed, one_answer, operators_work, the_example_is_accepted, types_are_sound,
 };
 
@@ -101,7 +101,7 @@ pub use sql_grammar::{
     quoted_name, token_rules, worked_readings, worked_tokens, written,
 };
 pub use sql_law::{
-    a_statement_is_accepted, accepted_are_read, accepted_have_text, accepted_values_fit, equal_ids,
+    a_statement_is_accepted, accepted_are_read, accepted_have_text, accepted_values_fit,
     list_lengths_can_be_exchanged, lists_are_flat, names_one_leaf, premises_are_needed,
     safe_without_value_lists, values_can_be_exchanged,
 };

@@ -11,7 +11,7 @@ use Rattle.sql_leaf.specs.declared.locking.LockingClause.TheVariants.{NoLockingC
 use Rattle.sql_leaf.specs.declared.marks.Marks.{Marks}
 use Rattle.sql_node.specs.Pieces.{pieces, expr_pieces, from_pieces, distinct_pieces, maybe_pieces, order_pieces, group_by}
 use Rattle.sql_node.specs.Tree.{Form, unboxed, boxed}
-use Rattle.sql_key.specs.Ids.{has_id}
+use Rattle.sql_shape.specs.Ids.{has_id}
 use Rattle.sql_select.specs.Changes.{boxed_for}
 use Rattle.sql_select.specs.Clauses.{Clauses, statement_of}
 use Rattle.sql_rules.specs.Rules.{Accepted, IsMysql, misuse}

@@ -4,7 +4,7 @@
 ghost use Rattle.std.specs.Prelude.{◌≡◌, false};
 ghost use Rattle.sql_schema.specs.Declarations.{Declarations};
 ghost use Rattle.sql_dialect.specs.declared.backend.Dialect.{Dialect};
-ghost use Rattle.sql_key.specs.Ids.{has_id};
+ghost use Rattle.sql_shape.specs.Ids.{has_id};
 ghost use Rattle.sql_select.specs.Changes.{boxed_for};
 ghost use Rattle.sql_select.specs.Clauses.{Clauses, statement_of};
 ghost use Rattle.sql_rules.specs.Rules.{Accepted};

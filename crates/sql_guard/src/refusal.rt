@@ -17,10 +17,10 @@ ghost use Rattle.sql_places.specs.Parted.{part_of};
 ghost use Rattle.sql_tenant.specs.Tenant.{IsBeyond, IsOutOfKind, IsOwn, IsPredicate, LacksRelation};
 
 use sql_node::{Expr, FromClause, InValues, JoinOn, Source};
-use sql_places::{Clause, Inner, SelectView, clauses, nodes, own_view, widest_view};
+use sql_places::{Clause, Inner, SelectView, clauses, nodes, own_view, type_of, widest_view};
 use sql_schema::{Base, Column, ColumnDecl, NoMemory, SizeRestrictedColumn, SqlType, Table};
 use sql_source::Origin;
-use sql_types::{fits, type_of};
+use sql_types::fits;
 use std::alloc::Global;
 
 fn is_declared_so(column: &Column, decl: &ColumnDecl) -> bool

@@ -21,7 +21,7 @@ use Rattle.sql_flat.specs.declared.kind.FlatKind.{FlatKind}
 use Rattle.sql_flat.specs.declared.kind.FlatKind.TheVariants as K
 use Rattle.sql_flat.specs.declared.kind.FlatNode.{FlatNode}
 use Rattle.sql_flat.specs.declared.kind.Selecting.{Selecting}
-use Rattle.sql_key.specs.Expressions.{expr_shape}
+use Rattle.sql_shape.specs.Expressions.{expr_shape}
 use Rattle.sql_key.specs.Blank.{blank_kind}
 use Rattle.sql_key.specs.inside.Thin.{goes, swept}
 use Rattle.sql_key.proofs.ExactNodes.{same-key}

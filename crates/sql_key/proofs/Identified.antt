@@ -10,7 +10,7 @@ use Rattle.sql_flat.specs.Flat.{expr_rose, exprs_roses, items_roses, maybe_roses
 use Rattle.sql_flat.specs.declared.kind.FlatKind.{FlatKind}
 use Rattle.sql_flat.specs.declared.kind.FlatKind.TheVariants as K
 use Rattle.sql_flat.specs.declared.kind.FlatNode.{FlatNode}
-use Rattle.sql_key.specs.Ids.{lacks_sample, lacks_places, is_plain_form, expr_keeps_id, exprs_keep_id, items_keep_id, maybe_keeps_id, source_keeps_id, from_keeps_id, distinct_keeps_id, order_keeps_id, has_id}
+use Rattle.sql_shape.specs.Ids.{lacks_sample, lacks_places, is_plain_form, expr_keeps_id, exprs_keep_id, items_keep_id, maybe_keeps_id, source_keeps_id, from_keeps_id, distinct_keeps_id, order_keeps_id, has_id}
 use Rattle.sql_key.specs.Keys.{id_of, key}
 use Rattle.sql_key.specs.Blank.{blank_node}
 use Rattle.sql_key.specs.inside.Kept.{is_unboxed, keeps_id, node_keeps_id}

@@ -1,10 +1,6 @@
-pub mod Among
 pub mod ExactNodes
-pub mod IdLaws
 pub mod Identified
 pub mod Mapping
-pub mod Positions
 pub mod Shapes
 pub mod Sweeping
 pub mod Thinning
-pub mod Twice

@@ -7,7 +7,7 @@ use Rattle.sql_flat.specs.Flat.{flat_node, flat_of, rose}
 use Rattle.sql_flat.specs.declared.kind.FlatKind.{FlatKind}
 use Rattle.sql_flat.specs.declared.kind.FlatKind.TheVariants as K
 use Rattle.std.proofs.Common.{map, List, []}
-use Rattle.sql_key.specs.Shape.{nulls, shape}
+use Rattle.sql_shape.specs.Shape.{nulls, shape}
 use Rattle.sql_key.specs.Keys.{key}
 use Rattle.sql_key.specs.Blank.{blank_kind, blank_node}
 use Rattle.sql_key.specs.inside.Thin.{goes, swept, swept_each}

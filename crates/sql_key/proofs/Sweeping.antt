@@ -10,7 +10,7 @@ use Rattle.sql_flat.specs.Flat.{expr_rose, exprs_roses, items_roses, maybe_roses
 use Rattle.sql_flat.specs.declared.kind.FlatKind.{FlatKind}
 use Rattle.sql_flat.specs.declared.kind.FlatKind.TheVariants as K
 use Rattle.sql_flat.specs.declared.kind.Uniqueness.{Uniqueness}
-use Rattle.sql_key.specs.Shape.{blank_rows, erased_expr, erased_exprs, erased_items, erased_maybe, erased_source, erased_from, erased_distinct, erased_order, erased}
+use Rattle.sql_shape.specs.Shape.{blank_rows, erased_expr, erased_exprs, erased_items, erased_maybe, erased_source, erased_from, erased_distinct, erased_order, erased}
 use Rattle.sql_key.specs.Blank.{blank_kind}
 use Rattle.sql_key.specs.inside.Thin.{many, swept, swept_each}
 

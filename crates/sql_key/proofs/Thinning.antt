@@ -7,7 +7,7 @@ use Rattle.sql_flat.specs.Flat.{expr_rose, flat_node}
 use Rattle.sql_flat.specs.declared.kind.FlatKind.{FlatKind}
 use Rattle.sql_flat.specs.declared.kind.FlatKind.TheVariants as K
 use Rattle.sql_flat.specs.declared.kind.FlatNode.{FlatNode}
-use Rattle.sql_key.specs.Expressions.{expr_key}
+use Rattle.sql_key.specs.Keys.{expr_key}
 use Rattle.sql_key.specs.Blank.{blank_kind}
 use Rattle.sql_key.specs.inside.Thin.{counts_from, goes, is_element, swept, swept_each, thin, thinned, weight}
 use Rattle.sql_key.proofs.Sweeping.{expr-swept}

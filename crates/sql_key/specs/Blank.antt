@@ -7,7 +7,7 @@ use Rattle.sql_flat.specs.declared.kind.FlatKind.{FlatKind}
 use Rattle.sql_flat.specs.declared.kind.FlatKind.TheVariants as K
 use Rattle.sql_flat.specs.declared.kind.FlatNode.{FlatNode}
 use Rattle.sql_flat.specs.declared.kind.Selecting.{Selecting}
-use Rattle.sql_key.specs.Shape.{blank_rows, blank_sample}
+use Rattle.sql_shape.specs.Shape.{blank_rows, blank_sample}
 
 abbrev pub blank_source : TableSource → TableSource
 blank_source s = record { table = s.table; only = s.only; sample = option_map blank_sample s.sample }

@@ -3,7 +3,7 @@
 
 ghost use Rattle.std.specs.Prelude.{◌≡◌, IfOk, map};
 ghost use Rattle.std.specs.Option.{option_map};
-ghost use Rattle.sql_key.specs.Shape.{blank, blank_rows, blank_sample};
+ghost use Rattle.sql_shape.specs.Shape.{blank, blank_rows, blank_sample};
 ghost use Rattle.sql_key.specs.Blank.{blank_combining, blank_kind, blank_node, blank_selecting, blank_source};
 
 use sql_flat::{Combining, FlatKind, FlatNode, Selecting};

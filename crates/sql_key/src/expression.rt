@@ -4,7 +4,7 @@
 ghost use Rattle.std.specs.Prelude.{◌≡◌, ◌++◌, [], ◌∷◌, IfOk, get_or};
 ghost use Rattle.sql_node.specs.Tree.{under};
 ghost use Rattle.sql_node.specs.View.{expr_tree};
-ghost use Rattle.sql_key.specs.Expressions.{expr_key};
+ghost use Rattle.sql_key.specs.Keys.{expr_key};
 ghost use Rattle.sql_key.specs.inside.Thin.{counts_from, is_element, thin};
 
 use crate::QueryKey;

@@ -6,16 +6,16 @@ ghost use Rattle.sql_node.specs.Tree as t;
 ghost use Rattle.sql_node.specs.View.{statement_tree};
 ghost use Rattle.sql_flat.specs.Flat.{flat_of};
 ghost use Rattle.sql_key.specs.Keys.{id_of};
-ghost use Rattle.sql_key.specs.Ids.{has_id, lacks_sample};
+ghost use Rattle.sql_shape.specs.Ids.{has_id, lacks_sample};
 ghost use Rattle.sql_key.specs.inside.Kept.{is_unboxed, keeps_id, node_keeps_id};
 
 use crate::QueryKey;
 use crate::erased::erased_nodes;
-use crate::plain::statement_leaves_id;
 use sql_flat::{Flat, FlatKind, FlatNode, Form, flatten};
 use sql_leaf::TableSource;
 use sql_node::Statement;
 use sql_schema::NoMemory;
+use sql_shape::statement_leaves_id;
 use std::alloc::Global;
 
 /// How a cache identifies a query.

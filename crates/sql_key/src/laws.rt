@@ -1,9 +1,8 @@
 ghost use Rattle.std.specs.Prelude.{◌≡◌, ◌↔◌, List, true};
 ghost use Rattle.sql_node.specs.Tree.{Expr, Statement};
-ghost use Rattle.sql_key.specs.Expressions.{expr_key, expr_shape};
-ghost use Rattle.sql_key.specs.Ids.{has_id};
-ghost use Rattle.sql_key.specs.Keys.{key};
-ghost use Rattle.sql_key.specs.Shape.{shape};
+ghost use Rattle.sql_shape.specs.Expressions.{expr_shape};
+ghost use Rattle.sql_shape.specs.Shape.{shape};
+ghost use Rattle.sql_key.specs.Keys.{expr_key, key};
 ghost use Rattle.sql_flat.specs.declared.kind.FlatNode.{FlatNode};
 
 use crate::QueryKey;
@@ -27,12 +26,6 @@ pub fn compared_keys_are_equal_keys()
 pub fn equal_keys_hash_alike()
     ensures { (a b : List FlatNode) → ⟦<QueryKey as PartialEq>⟧.eq a b ≡ true
         → ⟦<QueryKey as Hash>⟧.hash_input a ≡ ⟦<QueryKey as Hash>⟧.hash_input b }
-{}
-
-/// Statements of one shape have an id, or none of them has.
-#[tactic(auto, using(crate::proofs::IdLaws::ids))]
-pub fn equal_shapes_have_ids_alike()
-    ensures { (a b : Statement) → shape a ≡ shape b → has_id a ≡ has_id b }
 {}
 
 /// Two expressions have equal keys exactly where they are one expression but for values and the lengths of lists of values.

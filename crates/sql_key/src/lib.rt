@@ -6,7 +6,6 @@ mod expression;
 mod id;
 mod key;
 mod laws;
-mod plain;
 
 pub use erased::erased_kind;
 pub use expression::expression_key;
@@ -14,5 +13,5 @@ pub use id::{QueryId, flat_query_id};
 pub use key::QueryKey;
 pub use laws::{
     compared_keys_are_equal_keys, equal_expression_keys_are_equal_shapes,
-    equal_keys_are_equal_shapes, equal_keys_hash_alike, equal_shapes_have_ids_alike,
+    equal_keys_are_equal_shapes, equal_keys_hash_alike,
 };

@@ -8,7 +8,7 @@ use Rattle.sql_schema.specs.declared.types.SqlType.{SqlType}
 use Rattle.sql_pass.specs.declared.value.Value.{Value}
 use Rattle.sql_node.specs.Tree.{Origin, Form, unboxed, boxed, Expr, column, list, count_star, nullable, not_of, null_test, count, compared, joined, exists, single, among_values, among_rows, Exprs, no_exprs, more_exprs, Items, no_items, more_items, MaybeExpr, no_expr, an_expr, Source, of_table, of_alias, join, From, no_source, from, Distinct, distinct_on, Order, no_order, order_by, Statement, select, combination}
 use Rattle.sql_source.specs.Leaves.{leaves, in_right_side}
-use Rattle.sql_key.specs.Shape.{blank_rows}
+use Rattle.sql_shape.specs.Shape.{blank_rows}
 use Rattle.sql_rules.specs.Rules.{bare, bare_of}
 use Rattle.sql_rules.specs.Scope.{View, origins, leaves_of, origins_of, widest, Select, Combination, Part, a_select, a_combination, parts, in_expr, in_exprs, in_items, in_maybe, in_source, in_from, in_distinct, in_order, Place, in_selection, in_order_by, in_on, in_where, in_group_by, in_having, Clause, clauses, clauses_by, maybe_clause, ons, ons_of, distinct_clause, item_clauses, order_clauses, own, nodes, nodes_of, flat, flat_of, flat_items}
 use Rattle.sql_rules.specs.Types.{all_fit, one, many, given, given_each, columns, only_type, element_types, all_nullable, as_nullable, single_type, not_type, if_typed, bool_type, big_type, compared_type, joined_type, form_columns}

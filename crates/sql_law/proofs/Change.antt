@@ -10,7 +10,7 @@ use Rattle.sql_pass.specs.declared.value.Value.TheVariants as V
 use Rattle.sql_leaf.specs.declared.limit_offset.LimitOffsetClause.{LimitOffsetClause}
 use Rattle.sql_leaf.specs.declared.table_source.Tablesample.{Tablesample}
 use Rattle.sql_node.specs.Tree.{Expr, column, value, list, count_star, nullable, not_of, null_test, count, compared, joined, exists, single, among_values, among_rows, Exprs, no_exprs, more_exprs, Items, no_items, more_items, MaybeExpr, no_expr, an_expr, Source, of_table, of_alias, join, From, no_source, from, Distinct, every, distinct, distinct_on, Order, no_order, order_by, Statement, select, combination}
-use Rattle.sql_key.specs.Shape.{blank, blank_rows, blank_sample, erased_expr, erased_exprs, erased_items, erased_maybe, erased_source, erased_from, erased_distinct, erased_order, erased}
+use Rattle.sql_shape.specs.Shape.{blank, blank_rows, blank_sample, erased_expr, erased_exprs, erased_items, erased_maybe, erased_source, erased_from, erased_distinct, erased_order, erased}
 use Rattle.sql_rules.specs.Types.{fits, all_fit}
 use Rattle.sql_law.specs.Lengths.{shape_without_lengths}
 use Rattle.sql_law.specs.inside.Fits.{fit_expr, fit_exprs, fit_items, fit_maybe, fit_source, fit_from, fit_distinct, fit_order, fit_statement}

@@ -6,8 +6,8 @@ use Rattle.sql_dialect.specs.declared.backend.Dialect.{Dialect}
 use Rattle.sql_pass.specs.Pieces.{values_of, text_of}
 use Rattle.sql_node.specs.Pieces.{pieces}
 use Rattle.sql_node.specs.Tree.{Expr, value, list, nullable, among_values, Exprs, no_exprs, more_exprs, Statement}
-use Rattle.sql_key.specs.Shape.{shape}
-use Rattle.sql_key.proofs.Twice.{same-loosely}
+use Rattle.sql_shape.specs.Shape.{shape}
+use Rattle.sql_shape.proofs.Twice.{same-loosely}
 use Rattle.sql_rules.specs.Lists.{AnyOf, Each}
 use Rattle.sql_rules.specs.Rules.{tops, IsIllTyped, IsIllTypedClause, PartBreaks, Broken, Accepted}
 use Rattle.sql_rules.specs.Safety.{IsSafeIn, is_safe_in}

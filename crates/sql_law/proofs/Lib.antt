@@ -18,5 +18,4 @@ pub mod Change
 pub mod Blind
 pub mod RulesLaws
 pub mod Exchange
-pub mod EqualIds
 pub mod Needed

@@ -7,7 +7,7 @@ use Rattle.sql_pass.specs.declared.value.Value.{Value}
 use Rattle.sql_pass.specs.declared.value.Value.TheVariants.{Integer, Null}
 use Rattle.sql_node.specs.Pieces.{pieces}
 use Rattle.sql_node.specs.Tree.{Statement}
-use Rattle.sql_key.specs.Shape.{shape}
+use Rattle.sql_shape.specs.Shape.{shape}
 use Rattle.sql_rules.specs.Rules.{Accepted, Broken}
 use Rattle.sql_rules.specs.Types.{all_fit}
 use Rattle.sql_rules.specs.declared.rule.Rule.TheVariants as R

@@ -11,7 +11,7 @@ use Rattle.sql_pass.specs.declared.value.Value.{Value}
 use Rattle.sql_pass.specs.declared.value.Value.TheVariants.{Null}
 use Rattle.sql_node.specs.Pieces.{pieces}
 use Rattle.sql_node.specs.Tree.{Statement}
-use Rattle.sql_key.specs.Shape.{nulls, shape}
+use Rattle.sql_shape.specs.Shape.{nulls, shape}
 use Rattle.sql_law.specs.Blank.{erased_bound, erased_pieces, blank_bound}
 use Rattle.sql_law.specs.Lengths.{shape_without_lengths}
 use Rattle.sql_law.proofs.Alike.{Alike, one_text, like_values}

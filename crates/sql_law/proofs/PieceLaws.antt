@@ -21,7 +21,7 @@ use Rattle.sql_leaf.specs.declared.table_source.Tablesample.{Tablesample}
 use Rattle.sql_node.specs.Pieces.{spread, each, one_by_one, among_pieces, among_sql, null_test_sql, comparison_sql, logic_sql, leaf_pieces, joined_by, join_sql, combinator_sql, all_pieces, positions_pieces, end_pieces, group_by, order_by_sql, distinct_on_open, expr_parts, exprs_parts, items_pieces, maybe_pieces, source_pieces, on_pieces, from_pieces, distinct_pieces, order_pieces, pieces}
 use Rattle.sql_node.specs.Tree.{Form, unboxed, boxed, Expr, column, value, list, count_star, nullable, not_of, null_test, count, compared, joined, exists, single, among_values, among_rows, Exprs, no_exprs, more_exprs, Items, no_items, more_items, MaybeExpr, no_expr, an_expr, Source, of_table, of_alias, join, From, no_source, from, Distinct, every, distinct, distinct_on, Order, no_order, order_by, Statement, select, combination}
 use Rattle.sql_rules.specs.Rules.{IsNotPg}
-use Rattle.sql_key.specs.Shape.{blank, blank_rows, blank_sample, erased_expr, erased_exprs, erased_items, erased_maybe, erased_source, erased_from, erased_distinct, erased_order, erased}
+use Rattle.sql_shape.specs.Shape.{blank, blank_rows, blank_sample, erased_expr, erased_exprs, erased_items, erased_maybe, erased_source, erased_from, erased_distinct, erased_order, erased}
 use Rattle.sql_law.proofs.Alike.{Alike, alike-same, alike-append, alike-bind, alike-behind, alike-before, alike-around, AlikeLists, lists-append, commas-alike, AlikeWritten, spread-alike, each-alike, unsafe}
 
 -- ## Values

@@ -38,7 +38,7 @@ use Rattle.sql_rules.specs.Lists.{AnyOf}
 use Rattle.sql_rules.specs.Safety.{IsAmongValues, IsSafeIn, is_among_values, clause_holds_value_list, part_holds_value_list, is_pg, is_safe_in}
 use Rattle.sql_rules.specs.Scope.{View, origins, origins_of, widest, Part, a_select, a_combination, parts, in_expr, in_exprs, in_items, in_maybe, in_source, in_from, in_distinct, in_order, Place, in_selection, in_distinct_on, in_on, in_where, in_group_by, in_having, in_order_by, maybe_clause, ons, ons_of, distinct_clause, item_clauses, order_clauses, clauses, nodes, nodes_of, AnyExprIn}
 use Rattle.sql_rules.proofs.Loops.{any-decides}
-use Rattle.sql_key.specs.Shape.{shape}
+use Rattle.sql_shape.specs.Shape.{shape}
 use Rattle.sql_law.proofs.OneText.{safe}
 
 -- ## Pieces that are safe whatever the dialect

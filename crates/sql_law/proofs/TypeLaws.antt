@@ -3,9 +3,9 @@ use Rattle.std.proofs.Common.{◌≡◌, true, false, ◌&&◌, ◌++◌, IsTrue
 use Rattle.std.proofs.lemmas.Bool.{false≢true}
 use Rattle.std.specs.Cmp.{first_so, second_so}
 use Rattle.sql_node.specs.Tree.{Expr, column, value, list, count_star, nullable, not_of, null_test, count, compared, joined, exists, single, among_values, among_rows, Exprs, no_exprs, more_exprs, Statement, select, combination}
-use Rattle.sql_key.specs.Ids.{expr_keeps_id, exprs_keep_id, from_keeps_id, distinct_keeps_id, maybe_keeps_id, order_keeps_id, is_plain_form, lacks_places, has_id}
-use Rattle.sql_key.specs.Shape.{nulls, erased_expr, erased_exprs, shape}
-use Rattle.sql_key.proofs.IdLaws.{same-id}
+use Rattle.sql_shape.specs.Ids.{expr_keeps_id, exprs_keep_id, from_keeps_id, distinct_keeps_id, maybe_keeps_id, order_keeps_id, is_plain_form, lacks_places, has_id}
+use Rattle.sql_shape.specs.Shape.{nulls, erased_expr, erased_exprs, shape}
+use Rattle.sql_shape.proofs.IdLaws.{same-id}
 use Rattle.sql_rules.specs.Types.{many, one, given, given_each, columns, only_type, element_types, all_nullable, as_nullable, single_type, not_type, if_typed, bool_type, big_type, compared_type, joined_type, form_columns}
 
 mutual

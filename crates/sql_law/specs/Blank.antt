@@ -5,7 +5,7 @@ use Rattle.sql_pass.specs.declared.value.Bound.{Bound}
 use Rattle.sql_pass.specs.declared.value.Bound.TheVariants.{Value as OneValue, List as ManyValues}
 use Rattle.sql_pass.specs.declared.value.Value.{Value}
 use Rattle.sql_pass.specs.declared.value.Value.TheVariants.{Null}
-use Rattle.sql_key.specs.Shape.{nulls}
+use Rattle.sql_shape.specs.Shape.{nulls}
 
 -- without values, where `many` says what stands for a list of them
 module _ (many : List Value → List Value) where

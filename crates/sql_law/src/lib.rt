@@ -3,7 +3,7 @@
 //! Each function carries laws about the definitions in `specs/` of the crates below. None does anything when it runs.
 #![tactic(auto)]
 
-ghost use Rattle.std.specs.Prelude.{◌≡◌, ◌≢◌, ◌↔◌, Bool, None, Some, IsTrue, List, length, map, pos};
+ghost use Rattle.std.specs.Prelude.{◌≡◌, ◌≢◌, ◌↔◌, Bool, None, IsTrue, length, map, pos};
 ghost use Rattle.sql_schema.specs.Declarations.{Declarations};
 ghost use Rattle.sql_schema.specs.Refusals.{least_refusal};
 ghost use Rattle.sql_schema.specs.declared.declaration.ColumnDecl.{ColumnDecl};
@@ -19,10 +19,8 @@ ghost use Rattle.sql_leaf.specs.declared.limit_offset.LimitOffsetClause.{LimitOf
 ghost use Rattle.sql_leaf.specs.declared.marks.Marks.{Marks};
 ghost use Rattle.sql_node.specs.Pieces.{pieces};
 ghost use Rattle.sql_node.specs.Tree.{Distinct, Expr, Form, From, MaybeExpr, Order, Origin, Statement, select};
-ghost use Rattle.sql_key.specs.Ids.{has_id};
-ghost use Rattle.sql_key.specs.Keys.{id_of};
-ghost use Rattle.sql_key.specs.Shape.{shape};
-ghost use Rattle.sql_flat.specs.declared.kind.FlatNode.{FlatNode};
+ghost use Rattle.sql_shape.specs.Ids.{has_id};
+ghost use Rattle.sql_shape.specs.Shape.{shape};
 ghost use Rattle.sql_reading.specs.Filled.{column_path, filled, lead, normal, trees};
 ghost use Rattle.sql_reading.specs.inside.HasText.{HasNumbers, HasText};
 ghost use Rattle.sql_rules.specs.Names.{IsNamed, path};
@@ -150,38 +148,6 @@ pub fn list_lengths_can_be_exchanged()
     ensures one_shape { (a b : Statement)
         → shape a ≡ shape b
         → shape_without_lengths a ≡ shape_without_lengths b }
-{}
-
-/// Statements of one id, which is their key, have one shape; so they have one text in each dialect, bind values of the same
-/// types in the same order, and have columns of the same types. Where one breaks no rule, each other whose values fit
-/// breaks none either: what was told of the one serves for it.
-pub fn equal_ids()
-    ensures shapes { (a b : Statement) (k : List FlatNode)
-        → id_of a ≡ Some k
-        → id_of b ≡ Some k
-        → shape a ≡ shape b }
-    ensures text { (d : Dialect) (a b : Statement) (k : List FlatNode)
-        → id_of a ≡ Some k
-        → id_of b ≡ Some k
-        → text_of d 0 (pieces d a) ≡ text_of d 0 (pieces d b) }
-    ensures bind_types { (d : Dialect) (a b : Statement) (k : List FlatNode)
-        → id_of a ≡ Some k
-        → id_of b ≡ Some k
-        → map bind_type (values_of (pieces d a)) ≡ map bind_type (values_of (pieces d b)) }
-    ensures column_types { (a b : Statement) (k : List FlatNode)
-        → id_of a ≡ Some k
-        → id_of b ≡ Some k
-        → columns a ≡ columns b }
-    ensures safe { (d : Dialect) (a b : Statement) (k : List FlatNode)
-        → id_of a ≡ Some k
-        → id_of b ≡ Some k
-        → is_safe_in d a ≡ is_safe_in d b }
-    ensures accepted { (schema : Declarations) (d : Dialect) (a b : Statement) (k : List FlatNode)
-        → id_of a ≡ Some k
-        → id_of b ≡ Some k
-        → ValuesFit b
-        → Accepted schema d a
-        → Accepted schema d b }
 {}
 
 /// The values of a statement that breaks no rule fit their types; and the test of `values_fit` says what it has to.

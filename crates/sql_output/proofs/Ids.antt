@@ -7,9 +7,9 @@ use Rattle.sql_schema.specs.declared.types.SqlType.{SqlType}
 use Rattle.sql_dialect.specs.declared.backend.Dialect.{Dialect}
 use Rattle.sql_node.specs.Tree.{Statement}
 use Rattle.sql_key.specs.Keys.{key}
-use Rattle.sql_key.specs.Ids.{has_id}
-use Rattle.sql_key.specs.Shape.{shape}
-use Rattle.sql_key.proofs.IdLaws.{same-id}
+use Rattle.sql_shape.specs.Ids.{has_id}
+use Rattle.sql_shape.specs.Shape.{shape}
+use Rattle.sql_shape.proofs.IdLaws.{same-id}
 use Rattle.sql_key.proofs.Shapes.{same-shape}
 use Rattle.sql_law.specs.Blank.{blank_bound}
 use Rattle.sql_rules.specs.Lists.{AnyOf}

@@ -3,8 +3,8 @@
 use Rattle.std.specs.Prelude.{◌≡◌, ◌<◌, ◌+◌, ℕ, List, Option, Some, None, if◌then◌else◌}
 use Rattle.std.specs.List.{slice_get}
 use Rattle.sql_dialect.specs.declared.backend.Dialect.{Dialect}
-use Rattle.sql_key.specs.Ids.{has_id}
-use Rattle.sql_key.specs.Shape.{shape}
+use Rattle.sql_shape.specs.Ids.{has_id}
+use Rattle.sql_shape.specs.Shape.{shape}
 use Rattle.sql_node.specs.Tree.{Statement}
 use Rattle.sql_output.specs.Judgement.{Judgement, refuses, accepts}
 

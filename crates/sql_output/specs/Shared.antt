@@ -3,7 +3,7 @@ use Rattle.std.specs.Prelude.{◌≡◌, ℕ, List, map, Option, Some}
 use Rattle.sql_schema.specs.declared.types.SqlType.{SqlType}
 use Rattle.sql_dialect.specs.declared.backend.Dialect.{Dialect}
 use Rattle.sql_node.specs.Tree.{Statement}
-use Rattle.sql_key.specs.Shape.{shape}
+use Rattle.sql_shape.specs.Shape.{shape}
 use Rattle.sql_law.specs.Blank.{blank_bound}
 use Rattle.sql_rules.specs.Lists.{AnyOf}
 use Rattle.sql_rules.specs.Types.{columns}

@@ -6,3 +6,5 @@ pub mod Parted
 -- Devices of proofs.
 pub mod Gathers
 pub mod Inside
+-- Types as the walk over a statement meets them.
+pub mod Typed

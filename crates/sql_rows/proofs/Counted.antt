@@ -3,7 +3,7 @@ use Rattle.std.proofs.Common.{◌≡◌, Bool, true, false, List, [], ◌∷◌,
 use Rattle.std.specs.Cmp.{first_so, second_so}
 use Rattle.sql_leaf.specs.declared.position.PositionalItem.{PositionalItem}
 use Rattle.sql_node.specs.Tree.{Expr, column, value, list, count_star, nullable, not_of, null_test, count, compared, joined, exists, single, among_values, among_rows, Exprs, no_exprs, more_exprs, Items, no_items, more_items, MaybeExpr, no_expr, an_expr, Source, of_table, of_alias, join, From, no_source, from, Distinct, every, distinct, distinct_on, Order, no_order, order_by, Statement, select, combination}
-use Rattle.sql_key.specs.Ids.{is_plain_form, lacks_places, expr_keeps_id, exprs_keep_id, items_keep_id, maybe_keeps_id, source_keeps_id, from_keeps_id, distinct_keeps_id, order_keeps_id, has_id}
+use Rattle.sql_shape.specs.Ids.{is_plain_form, lacks_places, expr_keeps_id, exprs_keep_id, items_keep_id, maybe_keeps_id, source_keeps_id, from_keeps_id, distinct_keeps_id, order_keeps_id, has_id}
 use Rattle.sql_key.specs.Keys.{key, id_of}
 use Rattle.sql_flat.specs.declared.kind.FlatNode.{FlatNode}
 use Rattle.sql_rules.specs.Counted.{OrderIsCounted, PartIsCounted, PlacesAreCounted}

@@ -1,3 +1,4 @@
+pub mod EqualIds
 pub mod Alone
 pub mod Counted
 pub mod Exact

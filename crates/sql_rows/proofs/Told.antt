@@ -5,7 +5,7 @@ use Rattle.sql_dialect.specs.declared.backend.Dialect.{Dialect}
 use Rattle.sql_node.specs.Tree.{Statement}
 use Rattle.sql_check.specs.Compiled.{IsBuilt}
 use Rattle.sql_check.specs.declared.built.Built.{Built}
-use Rattle.sql_law.proofs.EqualIds as ids
+use Rattle.sql_rows.proofs.EqualIds as ids
 use Rattle.lru.specs.LruCache.{LruCache}
 use Rattle.lru.proofs.CallerLemmas.{IsPut}
 use Rattle.sql_rows.specs.declared.cache.Kept.{Kept}

@@ -1,13 +1,21 @@
-//! Laws on statement caches. None does anything when it runs.
+//! Laws on ids and on statement caches. None does anything when it runs.
 
-ghost use Rattle.std.specs.Prelude.{◌≡◌, List, Ok, Some, slice_get};
+ghost use Rattle.std.specs.Prelude.{◌≡◌, List, Ok, Some, map, slice_get};
 ghost use Rattle.sql_schema.specs.Declarations.{Declarations};
 ghost use Rattle.sql_dialect.specs.declared.backend.Dialect.{Dialect};
+ghost use Rattle.sql_pass.specs.Bounds.{type_of as bind_type};
+ghost use Rattle.sql_pass.specs.Pieces.{text_of, values_of};
+ghost use Rattle.sql_node.specs.Pieces.{pieces};
 ghost use Rattle.sql_node.specs.Tree.{Statement};
+ghost use Rattle.sql_shape.specs.Shape.{shape};
 ghost use Rattle.sql_key.specs.Keys.{id_of};
 ghost use Rattle.sql_flat.specs.declared.kind.FlatNode.{FlatNode};
 ghost use Rattle.sql_rules.specs.Lists.{Each};
+ghost use Rattle.sql_rules.specs.Rules.{Accepted};
+ghost use Rattle.sql_rules.specs.Safety.{is_safe_in};
+ghost use Rattle.sql_rules.specs.Types.{columns};
 ghost use Rattle.sql_rules.specs.declared.rule.Rule.{Rule};
+ghost use Rattle.sql_law.specs.Fitting.{ValuesFit};
 ghost use Rattle.sql_check.specs.Compiled.{IsBuilt, IsLeast};
 ghost use Rattle.sql_check.specs.declared.built.Built.{Built};
 ghost use Rattle.sql_rows.specs.Calls.{AreCalls, Call, IsAnswer, IsCall};
@@ -42,4 +50,36 @@ pub fn answered_pairs_come_first()
         → id_of s ≡ Some k
         → IsCall before (record { dialect = d; statement = s; answer = Ok b }) after
         → slice_get after.keys 0 ≡ Some (record { dialect = d; key = k }) }
+{}
+
+/// Statements of one id, which is their key, have one shape; so they have one text in each dialect, bind values of the same
+/// types in the same order, and have columns of the same types. Where one breaks no rule, each other whose values fit
+/// breaks none either: what was told of the one serves for it.
+pub fn equal_ids()
+    ensures shapes { (a b : Statement) (k : List FlatNode)
+        → id_of a ≡ Some k
+        → id_of b ≡ Some k
+        → shape a ≡ shape b }
+    ensures text { (d : Dialect) (a b : Statement) (k : List FlatNode)
+        → id_of a ≡ Some k
+        → id_of b ≡ Some k
+        → text_of d 0 (pieces d a) ≡ text_of d 0 (pieces d b) }
+    ensures bind_types { (d : Dialect) (a b : Statement) (k : List FlatNode)
+        → id_of a ≡ Some k
+        → id_of b ≡ Some k
+        → map bind_type (values_of (pieces d a)) ≡ map bind_type (values_of (pieces d b)) }
+    ensures column_types { (a b : Statement) (k : List FlatNode)
+        → id_of a ≡ Some k
+        → id_of b ≡ Some k
+        → columns a ≡ columns b }
+    ensures safe { (d : Dialect) (a b : Statement) (k : List FlatNode)
+        → id_of a ≡ Some k
+        → id_of b ≡ Some k
+        → is_safe_in d a ≡ is_safe_in d b }
+    ensures accepted { (schema : Declarations) (d : Dialect) (a b : Statement) (k : List FlatNode)
+        → id_of a ≡ Some k
+        → id_of b ≡ Some k
+        → ValuesFit b
+        → Accepted schema d a
+        → Accepted schema d b }
 {}

@@ -8,7 +8,7 @@ mod laws;
 mod sound;
 
 pub use cache::{RequestKey, StatementCache};
-pub use laws::{answered_pairs_come_first, calls_are_answered_alone, one_answer};
+pub use laws::{answered_pairs_come_first, calls_are_answered_alone, equal_ids, one_answer};
 pub use sound::{compile_sound, compile_sound_by};
 pub use sql_check::Names;
 pub use sql_meaning::{

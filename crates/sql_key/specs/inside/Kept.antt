@@ -5,7 +5,7 @@ use Rattle.sql_flat.specs.declared.kind.FlatKind.TheVariants as K
 use Rattle.sql_flat.specs.declared.kind.FlatNode.{FlatNode}
 use Rattle.sql_flat.specs.declared.kind.Form.{Form}
 use Rattle.sql_flat.specs.declared.kind.Form.TheVariants as form
-use Rattle.sql_key.specs.Ids.{lacks_sample}
+use Rattle.sql_shape.specs.Ids.{lacks_sample}
 
 abbrev pub is_unboxed : Form → Bool
 is_unboxed (form.Unboxed l) = true

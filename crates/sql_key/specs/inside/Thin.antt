@@ -6,7 +6,7 @@ use Rattle.sql_flat.specs.Flat.{flat_node}
 use Rattle.sql_flat.specs.declared.kind.FlatKind.{FlatKind}
 use Rattle.sql_flat.specs.declared.kind.FlatKind.TheVariants as K
 use Rattle.sql_flat.specs.declared.kind.FlatNode.{FlatNode}
-use Rattle.sql_key.specs.Shape.{nulls}
+use Rattle.sql_shape.specs.Shape.{nulls}
 use Rattle.sql_key.specs.Blank.{blank_kind}
 
 -- what stands for a list of values

@@ -1,4 +1,4 @@
-use Rattle.sql_key.proofs.IdLaws.{same-id}
+use Rattle.sql_shape.proofs.IdLaws.{same-id}
 use Rattle.sql_law.proofs.Exchange as exchange
 use Rattle.sql_law.proofs.OneText as texts
 use Rattle.sql_law.proofs.SafeLaws.{safe_alike}

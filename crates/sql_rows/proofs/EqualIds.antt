@@ -6,9 +6,9 @@ use Rattle.sql_pass.specs.Bounds.{type_of}
 use Rattle.sql_pass.specs.Pieces.{text_of, values_of}
 use Rattle.sql_node.specs.Pieces.{pieces}
 use Rattle.sql_node.specs.Tree.{Statement}
-use Rattle.sql_key.specs.Ids.{has_id}
+use Rattle.sql_shape.specs.Ids.{has_id}
 use Rattle.sql_key.specs.Keys.{key, id_of}
-use Rattle.sql_key.specs.Shape.{shape}
+use Rattle.sql_shape.specs.Shape.{shape}
 use Rattle.sql_flat.specs.declared.kind.FlatNode.{FlatNode}
 use Rattle.sql_key.proofs.Shapes.{same-shape}
 use Rattle.sql_rules.specs.Rules.{Accepted}

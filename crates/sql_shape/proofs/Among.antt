@@ -2,7 +2,7 @@
 use Rattle.std.proofs.Common.{◌≡◌, Bool, true, false, ◌&&◌, refl}
 use Rattle.sql_node.specs.Tree.{Expr}
 use Rattle.sql_node.specs.View.{Among, among_list, among_query, among_of}
-use Rattle.sql_key.specs.Ids.{expr_keeps_id, among_keeps_id}
+use Rattle.sql_shape.specs.Ids.{expr_keeps_id, among_keeps_id}
 
 no_id : (b : Bool) → false ≡ (b && false)
 no_id true = refl

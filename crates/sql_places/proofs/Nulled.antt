@@ -4,7 +4,7 @@ use Rattle.sql_schema.specs.declared.types.SqlType.{SqlType}
 use Rattle.sql_node.specs.Tree.{Expr, nullable}
 use Rattle.sql_rules.specs.Types.{Given, one, many, given, all_nullable, as_nullable, element_types}
 use Rattle.sql_places.specs.Gathers.{Gathers}
-use Rattle.sql_types.specs.Typed.{nulled, nulled_one}
+use Rattle.sql_places.specs.Typed.{nulled, nulled_one}
 use Rattle.sql_places.proofs.Gathering.{gathers-none, gathers-more}
 
 twice : (t : Option SqlType) → as_nullable (as_nullable t) ≡ as_nullable t

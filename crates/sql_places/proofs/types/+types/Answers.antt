@@ -1,10 +1,10 @@
 use Rattle.std.proofs.Common.{map, refl, rules}
 use Rattle.sql_node.specs.View.{expr_tree, exprs_of}
 use Rattle.sql_rules.specs.Types.{element_types, given, given_each}
-use Rattle.sql_types.specs.Typed.{nulled}
+use Rattle.sql_places.specs.Typed.{nulled}
 use Rattle.sql_places.proofs.Gathering.{each-next, each-end}
-use Rattle.sql_types.proofs.Nulled.{nulled-more, nulled-none}
-use Rattle.sql_types.proofs.types.+types.Goals as goal
+use Rattle.sql_places.proofs.Nulled.{nulled-more, nulled-none}
+use Rattle.sql_places.proofs.types.+types.Goals as goal
 
 pub gather_each-loop-expr-preserved : goal.gather_each-loop-expr-preserved
 gather_each-loop-expr-preserved t c =

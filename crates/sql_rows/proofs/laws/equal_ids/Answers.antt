@@ -1,5 +1,5 @@
-use Rattle.sql_law.proofs.EqualIds as ids
-use Rattle.sql_law.proofs.equal_ids.Goals as goal
+use Rattle.sql_rows.proofs.EqualIds as ids
+use Rattle.sql_rows.proofs.laws.equal_ids.Goals as goal
 
 pub returns : goal.returns
 returns c =

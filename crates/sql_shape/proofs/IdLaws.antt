@@ -2,8 +2,8 @@
 use Rattle.std.proofs.Common.{◌≡◌, ◌&&◌, refl, sym, ap, ◌∙◌, option_map, Option, None, Some}
 use Rattle.sql_leaf.specs.declared.table_source.Tablesample.{Tablesample}
 use Rattle.sql_node.specs.Tree.{Expr, column, value, list, count_star, nullable, not_of, null_test, count, compared, joined, exists, single, among_values, among_rows, Exprs, no_exprs, more_exprs, Items, no_items, more_items, MaybeExpr, no_expr, an_expr, Source, of_table, of_alias, join, From, no_source, from, Distinct, every, distinct, distinct_on, Order, no_order, order_by, Statement, select, combination}
-use Rattle.sql_key.specs.Ids.{lacks_sample, lacks_places, is_plain_form, expr_keeps_id, exprs_keep_id, items_keep_id, maybe_keeps_id, source_keeps_id, from_keeps_id, distinct_keeps_id, order_keeps_id, has_id}
-use Rattle.sql_key.specs.Shape.{blank_sample, nulls, erased_expr, erased_exprs, erased_items, erased_maybe, erased_source, erased_from, erased_distinct, erased_order, shape}
+use Rattle.sql_shape.specs.Ids.{lacks_sample, lacks_places, is_plain_form, expr_keeps_id, exprs_keep_id, items_keep_id, maybe_keeps_id, source_keeps_id, from_keeps_id, distinct_keeps_id, order_keeps_id, has_id}
+use Rattle.sql_shape.specs.Shape.{blank_sample, nulls, erased_expr, erased_exprs, erased_items, erased_maybe, erased_source, erased_from, erased_distinct, erased_order, shape}
 
 sample-id : (s : Option Tablesample) → lacks_sample (option_map blank_sample s) ≡ lacks_sample s
 sample-id None = refl

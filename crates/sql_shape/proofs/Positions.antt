@@ -2,7 +2,7 @@
 use Rattle.std.proofs.Common.{◌≡◌, ◌==◌, Some, List, [], ◌∷◌, length, refl, sym}
 use Rattle.std.proofs.Math.Dec.{eqb-suc-zero}
 use Rattle.sql_leaf.specs.declared.position.PositionalItem.{PositionalItem}
-use Rattle.sql_key.specs.Ids.{lacks_places}
+use Rattle.sql_shape.specs.Ids.{lacks_places}
 
 pub positions-empty : (ps : List PositionalItem) → lacks_places (Some ps) ≡ (length ps == 0)
 positions-empty [] = refl

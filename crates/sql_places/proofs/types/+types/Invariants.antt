@@ -1,8 +1,8 @@
 use Rattle.std.proofs.Common.{◌≡◌, ◌++◌, drop, map}
 use Rattle.sql_node.specs.View.{expr_tree, exprs_of}
 use Rattle.sql_rules.specs.Types.{given_each}
-use Rattle.sql_types.specs.Typed.{nulled}
-use Rattle.sql_types.proofs.types.+types.Given as goal
+use Rattle.sql_places.specs.Typed.{nulled}
+use Rattle.sql_places.proofs.types.+types.Given as goal
 
 abbrev pub invariant-gather_each-loop-expr : goal.invariant-gather_each-loop-expr
 invariant-gather_each-loop-expr l =

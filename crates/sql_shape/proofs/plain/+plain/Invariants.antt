@@ -1,7 +1,7 @@
 use Rattle.std.proofs.Common.{◌≡◌, map, drop}
 use Rattle.sql_node.specs.View.{expr_tree, exprs_of, items_of, order_item_tree}
-use Rattle.sql_key.specs.Ids.{exprs_keep_id, items_keep_id}
-use Rattle.sql_key.proofs.plain.+plain.Given as goal
+use Rattle.sql_shape.specs.Ids.{exprs_keep_id, items_keep_id}
+use Rattle.sql_shape.proofs.plain.+plain.Given as goal
 
 abbrev pub invariant-exprs_leave_id-loop-expr : goal.invariant-exprs_leave_id-loop-expr
 invariant-exprs_leave_id-loop-expr l =

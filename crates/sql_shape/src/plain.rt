@@ -4,7 +4,7 @@
 ghost use Rattle.std.specs.Prelude.{◌≡◌, map};
 ghost use Rattle.std.specs.Option.{option_map};
 ghost use Rattle.sql_node.specs.View.{boxed_select_statement_tree, combination_clause_tree, distinct_clause_tree, expr_tree, exprs_of, from_clause_tree, group_by_clause_tree, having_clause_tree, in_values_tree, items_of, join_on_tree, maybe_of, order_clause_tree, order_item_tree, select_clause_tree, select_statement_tree, source_tree, statement_tree, where_clause_tree};
-ghost use Rattle.sql_key.specs.Ids.{among_keeps_id, distinct_keeps_id, expr_keeps_id, exprs_keep_id, from_keeps_id, has_id, items_keep_id, lacks_places, maybe_keeps_id, order_keeps_id, source_keeps_id};
+ghost use Rattle.sql_shape.specs.Ids.{among_keeps_id, distinct_keeps_id, expr_keeps_id, exprs_keep_id, from_keeps_id, has_id, items_keep_id, lacks_places, maybe_keeps_id, order_keeps_id, source_keeps_id};
 
 use sql_leaf::PositionalItem;
 use sql_node::{
@@ -227,9 +227,10 @@ fn combination_leaves_id(both: &CombinationClause) -> bool
         && positions_leave_id(&both.order)
 }
 
+/// Whether the statement has an id: it holds no boxed part, no `OrderColumn`, no `Tablesample` and no list of values.
 #[tactic(auto, using(sql_node::proofs::Trees::opens_statement, sql_node::proofs::Trees::opens_boxed_select_statement))]
 #[cycle(plain)]
-pub(crate) fn statement_leaves_id(statement: &Statement) -> bool
+pub fn statement_leaves_id(statement: &Statement) -> bool
     ensures { result ≡ has_id (statement_tree statement.now) }
 {
     match statement {

@@ -1,0 +1,4 @@
+pub mod Among
+pub mod IdLaws
+pub mod Positions
+pub mod Twice
