@@ -1,20 +1,19 @@
-//! Each public call that tells something of a statement, made once with memory to spare: keys, views, places, types, rules, and what
-//! `compile` gives.
+//! Each public call that tells something of a statement, made once with memory to spare: keys, conditions, rules, and what `compile`
+//! gives.
 
 mod flat;
 
 use sql_call_tests::fixture::{id, ids, one};
 use sql_check::{broken, compile};
 use sql_dialect::Pg;
-use sql_expr::{Expr, ExpressionMethods, FromClause, LockingClause, SelectStatement, Statement};
+use sql_expr::{Expr, ExpressionMethods, Statement};
 use sql_fixture::{INTEGER, beside, is, schema};
-use sql_flat::flatten;
-use sql_judge::{Names, judge};
+use sql_flat::{expression_nodes, flatten};
+use sql_judge::{Names, is_condition_of, judge};
 use sql_key::{QueryId, QueryKey, expression_key};
-use sql_places::{Form, Inner, clauses, columns, nodes, own_view, parts, type_of, widest_view};
 use sql_rows::{StatementCache, compile_sound};
 use sql_schema::Schema;
-use sql_select::{Query, QueryDsl};
+use sql_select::Query;
 use std::alloc::Global;
 use std::num::NonZeroUsize;
 use std::test::Fail;
@@ -23,9 +22,7 @@ use std::test::Fail;
 fn every_call_once(rt: HostRuntime) -> Result<(), Fail> {
     let alloc = rt.alloc();
     keys(alloc)?;
-    views(alloc)?;
-    places(alloc)?;
-    types(alloc)?;
+    conditions(alloc)?;
     verdicts(alloc)?;
     sound_types(alloc)?;
     cached(alloc)?;
@@ -48,59 +45,16 @@ fn keys(alloc: Global) -> Result<(), Fail> {
     )
 }
 
-fn views_of(alloc: Global, from: &FromClause) -> Result<(), Fail> {
-    is(own_view(alloc, from)?.len() == 1, "a view")?;
-    let outer = own_view(alloc, from)?;
-    let form = Form::Unboxed(LockingClause::NoLockingClause);
-    let widest = widest_view(alloc, outer.as_slice(), form, from)?;
-    is(widest.len() == 2, "a widest view")
-}
-
-fn views(alloc: Global) -> Result<(), Fail> {
-    let users: SelectStatement = ids(alloc)?;
-    let seen = views_of(alloc, &users.from);
-    drop(users);
-    seen
-}
-
-fn places_in(alloc: Global, statement: &Statement) -> Result<(), Fail> {
-    let all = parts(alloc, statement)?;
-    is(all.len() == 1, "one statement")?;
-    match all.first() {
-        Some(Inner::Select(_, select)) => is(
-            clauses(alloc, &[], &[], *select)?.len() == 2,
-            "two clauses",
-        ),
-        _ => Err("no select statement")?,
-    }
-}
-
 fn equal(alloc: Global) -> Result<Expr, Fail> {
     let (id, one) = beside(id(alloc)?, one(alloc))?;
     Ok(id.eq(alloc, one)?)
 }
 
-fn places(alloc: Global) -> Result<(), Fail> {
-    is(
-        nodes(alloc, &equal(alloc)?)?.len() == 3,
-        "three expressions",
-    )?;
-    let (ids, equal) = beside(ids(alloc)?, equal(alloc))?;
-    let statement = ids.filter(alloc, equal)?.into_statement();
-    let found = places_in(alloc, &statement);
-    drop(statement);
-    found
-}
-
-fn types(alloc: Global) -> Result<(), Fail> {
-    is(type_of(alloc, &id(alloc)?)? == Some(INTEGER), "a type")?;
-    let ids = ids(alloc)?.into_statement();
-    let types = columns(alloc, &ids);
-    drop(ids);
-    is(
-        types?.as_slice() == [Some(INTEGER)].as_slice(),
-        "a column's type",
-    )
+fn conditions(alloc: Global) -> Result<(), Fail> {
+    let equal = expression_nodes(alloc, 0, &equal(alloc)?)?;
+    is(is_condition_of(alloc, &equal)?, "a condition")?;
+    let id = expression_nodes(alloc, 0, &id(alloc)?)?;
+    is(!is_condition_of(alloc, &id)?, "no condition")
 }
 
 fn verdicts_of(alloc: Global, schema: &Schema, statement: &Statement) -> Result<(), Fail> {

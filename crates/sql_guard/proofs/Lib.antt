@@ -1,2 +1,5 @@
+pub mod Foreign
+pub mod OutOfKind
 pub mod Refusing
 pub mod Predicates
+pub mod Unrelated

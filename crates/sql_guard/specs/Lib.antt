@@ -1,1 +1,3 @@
 pub mod Refused
+-- Devices: tests of the nodes of a flat list.
+pub mod inside

@@ -9,9 +9,8 @@ ghost use Rattle.sql_guard.specs.Refused.{IsRefusal, MayRestrict};
 
 use crate::RestrictError;
 use crate::guard::Guard;
-use crate::refusal::{any_lacks_relation, any_out_of_kind, is_predicate};
+use crate::refusal::{is_predicate, kept_from};
 use sql_node::{Expr, Statement};
-use sql_places::parts;
 use sql_schema::Table;
 use sql_tenant::{restriction_is_exact, restriction_keeps_the_rules};
 use std::alloc::Global;
@@ -46,11 +45,11 @@ pub fn restrict(
     if !is_predicate(alloc, table, predicate)? {
         return Err(RestrictError::BadPredicate);
     }
-    let parts = parts(alloc, statement)?;
-    if any_out_of_kind(alloc, parts.as_slice())? {
+    let kept = kept_from(alloc, statement)?;
+    if kept.out_of_kind {
         return Err(RestrictError::OutOfKind);
     }
-    if any_lacks_relation(parts.as_slice()) {
+    if kept.unrelated {
         return Err(RestrictError::NoRelation);
     }
     restriction_is_exact();

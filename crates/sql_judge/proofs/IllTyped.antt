@@ -113,7 +113,7 @@ any-none ts = any-decides IsUntyped is_none untyped ts
 truth : (b : Bool) → Decides b (b ≡ true)
 truth b = (λ e. e, λ h. h)
 
-condition : (t : Option SqlType) → Decides (is_condition t) (IsBool t)
+pub condition : (t : Option SqlType) → Decides (is_condition t) (IsBool t)
 condition None = never
 condition (Some t) = equal-bases t.base BoolBase
 

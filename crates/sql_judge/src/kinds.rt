@@ -43,7 +43,8 @@ fn lacks_on(kind: &FlatKind) -> bool
     }
 }
 
-pub(crate) fn any_lacks_on(nodes: &[FlatNode]) -> bool
+/// Whether one of the nodes is a join that has no condition.
+pub fn any_lacks_on(nodes: &[FlatNode]) -> bool
     ensures { result ≡ list_any (λ x. kind_lacks_on x.kind) nodes.now }
 {
     nodes.iter().any(|node| lacks_on(&node.kind))

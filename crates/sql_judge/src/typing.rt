@@ -2,22 +2,24 @@
 //! node to the first.
 #![tactic(auto, using(crate::proofs::Stacking::stacking))]
 
-ghost use Rattle.std.specs.Prelude.{◌≡◌, ◌∷◌, ◌||◌, IfOk, OnOk};
+ghost use Rattle.std.specs.Prelude.{◌≡◌, [], ◌∷◌, ◌||◌, IfOk, OnOk};
 ghost use Rattle.std.specs.Bool.{Decides};
 ghost use Rattle.sql_schema.specs.Declarations.{Declarations};
 ghost use Rattle.sql_dialect.specs.declared.backend.Dialect.{Dialect};
-ghost use Rattle.sql_node.specs.Tree.{Statement};
-ghost use Rattle.sql_rules.specs.Rules.{Broken};
-ghost use Rattle.sql_rules.specs.Types.{columns as columns_of};
+ghost use Rattle.sql_rose.specs.Rose.{flat};
+ghost use Rattle.sql_node.specs.Tree.{Expr, Statement};
+ghost use Rattle.sql_rules.specs.Rules.{Broken, IsBool};
+ghost use Rattle.sql_rules.specs.Types.{columns as columns_of, type_of};
 ghost use Rattle.sql_rules.specs.declared.rule.Rule.TheVariants as rule;
-ghost use Rattle.sql_flat.specs.Flat.{flat_of};
+ghost use Rattle.sql_flat.specs.Flat.{expr_rose, flat_node, flat_of};
 ghost use Rattle.sql_judge.specs.inside.Lists.{any_empty_from, any_ill_from, typed_from};
 ghost use Rattle.sql_judge.specs.inside.Stacks.{split, stack};
 ghost use Rattle.sql_judge.specs.inside.Typing.{empty as is_empty, ill, typing};
 
 use crate::given::Judged;
 use crate::judging::judged_at;
-use crate::stack::{Done, leave, next};
+use crate::stack::{Done, leave, next, next_type};
+use crate::types::is_condition;
 use sql_flat::{Flat, FlatNode};
 use sql_schema::{NoMemory, SqlType};
 use std::alloc::Global;
@@ -107,4 +109,19 @@ pub(crate) fn types_of_flat(alloc: Global, flat: &Flat) -> Result<Typed, NoMemor
         mismatched,
         empty,
     })
+}
+
+/// Whether the expression whose nodes these are is a condition: whether its type is Bool, nullable or not. Of `("users"."id" = $1)` it
+/// is. One pass over the nodes. Fails only for memory.
+#[tactic(auto, using(crate::proofs::Stacking::stacking))]
+pub fn is_condition_of(alloc: Global, nodes: &[FlatNode]) -> Result<bool, NoMemory>
+    ensures { (e : Expr) → nodes.now ≡ flat flat_node 0 (expr_rose e) []
+        → IfOk result (λ b. Decides b (IsBool (type_of e))) }
+{
+    let Found {
+        mut done,
+        mismatched: _,
+        empty: _,
+    } = judge_each(alloc, nodes)?;
+    Ok(is_condition(next_type(&mut done, 1)))
 }

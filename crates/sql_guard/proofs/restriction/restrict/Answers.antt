@@ -1,9 +1,8 @@
-use Rattle.std.proofs.Common.{[], sym, ap, subst, map, ◌∙◌}
+use Rattle.std.proofs.Common.{[], sym, subst, ◌∙◌}
 use Rattle.std.proofs.lemmas.Bool.{false≢true}
 use Rattle.sql_node.specs.View.{expr_tree, statement_tree}
 use Rattle.sql_rules.specs.Lists.{AnyOf}
 use Rattle.sql_rules.specs.Scope.{parts}
-use Rattle.sql_places.specs.Parted.{part_of}
 use Rattle.sql_tenant.specs.Tenant.{AnswersAsCut, BreaksAtMostTooManyBinds, IsOutOfKind}
 use Rattle.sql_guard.proofs.restriction.restrict.Goals as goal
 
@@ -13,9 +12,7 @@ returns-clause-exact c = λ schema d h.
     let p = expr_tree c.args.predicate.now in
     let s = statement_tree c.args.statement.now in
     let kind : ¬ AnyOf IsOutOfKind (parts [] s) =
-    λ i. false≢true (sym c.if-branch.false
-    ∙ c.in_ok-any_out_of_kind.ensures.1
-    (subst (AnyOf IsOutOfKind) (sym (ap (map part_of) c.as_slice.ensures.value ∙ c.in_ok-parts.ensures)) i)) in
+    λ i. false≢true (sym c.if-kept.false ∙ c.in_ok-kept.ensures.kind.1 i) in
     subst (λ r. AnswersAsCut r s t p) (sym c.in_ok-restricted.ensures)
     (c.restriction_is_exact.ensures schema d s t p h kind (c.in_ok-is_predicate.ensures.0 c.if-not-branch.false))
 
@@ -25,9 +22,7 @@ returns-clause-rules c = λ schema d h.
     let p = expr_tree c.args.predicate.now in
     let s = statement_tree c.args.statement.now in
     let kind : ¬ AnyOf IsOutOfKind (parts [] s) =
-    λ i. false≢true (sym c.if-branch.false
-    ∙ c.in_ok-any_out_of_kind.ensures.1
-    (subst (AnyOf IsOutOfKind) (sym (ap (map part_of) c.as_slice.ensures.value ∙ c.in_ok-parts.ensures)) i)) in
+    λ i. false≢true (sym c.if-kept.false ∙ c.in_ok-kept.ensures.kind.1 i) in
     subst (λ r. BreaksAtMostTooManyBinds schema d r) (sym c.in_ok-restricted.ensures)
     (c.restriction_keeps_the_rules.ensures schema d s t p h kind
     (c.in_ok-is_predicate.ensures.0 c.if-not-branch.false))

@@ -1,0 +1,2 @@
+-- Devices: tests of the nodes of a flat list.
+pub mod Kinds
