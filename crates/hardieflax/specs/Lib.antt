@@ -61,12 +61,12 @@ pub use Rattle.sql_leaf.specs.declared.table_source.TablesampleMethod
 -- Sources and calls.
 pub use Rattle.sql_expr.specs.Calls
 pub use Rattle.sql_expr.specs.Joining
-pub use Rattle.sql_source.specs.Borrowed as BorrowedOrigins
+pub use Rattle.sql_origin.specs.Borrowed as BorrowedOrigins
 pub use Rattle.sql_source.specs.Counts
 pub use Rattle.sql_source.specs.Fields
 pub use Rattle.sql_source.specs.Joins as SourceJoins
-pub use Rattle.sql_source.specs.Leaves
-pub use Rattle.sql_source.specs.Origins
+pub use Rattle.sql_origin.specs.Leaves
+pub use Rattle.sql_origin.specs.Origins
 pub use Rattle.sql_source.specs.Samples
 pub use Rattle.sql_source.specs.Selections
 pub use Rattle.sql_source.specs.declared.count.Count

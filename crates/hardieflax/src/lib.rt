@@ -41,10 +41,11 @@ pub use sql_expr::{
 };
 
 // Aliases, joins and default selections.
+pub use sql_origin::Origin;
 pub use sql_source::{
     AliasFields, AliasSource, AppearsInFromClause, AppendSelection, Count, InternalJoinDsl,
-    JoinDsl, JoinOnDsl, JoinTo, NewAlias, NewOnClauseWrapper, NewTableSource, OnlyDsl, Origin,
-    Plus, QuerySource, Side, TablesampleDsl, ToInnerJoin, counts_add_up, fields_of_the_table_alone,
+    JoinDsl, JoinOnDsl, JoinTo, NewAlias, NewOnClauseWrapper, NewTableSource, OnlyDsl, Plus,
+    QuerySource, Side, TablesampleDsl, ToInnerJoin, counts_add_up, fields_of_the_table_alone,
     fields_twice_as_once, inner_joins_pad_nothing, pick, related_tables_have_a_condition,
     same_origins_are_equal,
 };

@@ -11,7 +11,7 @@ use Rattle.sql_schema.specs.declared.declaration.TableDecl.{TableDecl}
 use Rattle.sql_schema.proofs.ExactTypes.{exact-text}
 use Rattle.sql_schema.specs.Refusals.{any_two, tables_clash, columns_clash}
 use Rattle.sql_node.specs.Tree.{Origin}
-use Rattle.sql_source.specs.Origins.{exposed_path}
+use Rattle.sql_origin.specs.Origins.{exposed_path}
 use Rattle.sql_rules.specs.Lists.{AnyOf, IsSuffix}
 use Rattle.sql_rules.specs.Names.{path, Names, NamesOnly}
 use Rattle.sql_rules.specs.Scope.{View}

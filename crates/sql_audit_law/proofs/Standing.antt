@@ -12,7 +12,7 @@ use Rattle.sql_pass.specs.declared.value.Bound.{Bound}
 use Rattle.sql_pass.specs.declared.value.Bound.TheVariants.{Value as OneValue}
 use Rattle.sql_pass.specs.declared.value.Value.{Value}
 use Rattle.sql_node.specs.Tree.{Origin, Expr}
-use Rattle.sql_source.specs.Origins.{exposed_path}
+use Rattle.sql_origin.specs.Origins.{exposed_path}
 use Rattle.sql_reading.specs.Filled.{first_name, more_names, column_path, lead, expressions_from, expressions_of, Item, items_from, items_of, among_as, trees}
 use Rattle.sql_reading.specs.inside.HasText.{IsSingle}
 use Rattle.sql_resolution.specs.Leaves as l

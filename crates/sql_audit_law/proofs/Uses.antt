@@ -14,8 +14,8 @@ use Rattle.sql_pass.specs.declared.value.Bound.TheVariants.{Value as OneValue, L
 use Rattle.sql_leaf.specs.declared.table_source.JoinKind.{JoinKind}
 use Rattle.sql_leaf.specs.declared.table_source.JoinKind.TheVariants.{Inner, LeftOuter}
 use Rattle.sql_node.specs.Tree.{Origin, Form, unboxed, boxed, Expr, column, value, list, count_star, nullable, not_of, null_test, count, compared, joined, exists, single, among_values, among_rows, Exprs, no_exprs, more_exprs, Items, no_items, more_items, MaybeExpr, no_expr, an_expr, Source, of_table, of_alias, join, From, no_source, from, Distinct, every, distinct, distinct_on, Order, no_order, order_by, Statement, select, combination}
-use Rattle.sql_source.specs.Leaves.{Leaf, leaves, in_right_side}
-use Rattle.sql_source.specs.Origins.{a_table, an_alias}
+use Rattle.sql_origin.specs.Leaves.{Leaf, leaves, in_right_side}
+use Rattle.sql_origin.specs.Origins.{a_table, an_alias}
 use Rattle.sql_reading.specs.Filled.{first_name, more_names, column_path, lead, expressions_of, among_as, trees, trees_in, item_trees, maybe_tree, group_tree, on_tree, source_tree, from_tree, distinct_tree, order_tree, filled}
 use Rattle.sql_reading.specs.Words.{comparison_of, logic_of}
 use Rattle.sql_reading.specs.inside.HasText.{IsSingle, ExprHasText, ExprsHaveText, ItemsHaveText, MaybeHasText, GroupHasText, OnHasText, SourceHasText, FromHasText, DistinctHasText, OrderHasText, HasText}

@@ -3,7 +3,7 @@ use Rattle.std.specs.Prelude.{ℕ, List, Bool, true, false, Option, Some, None, 
 use Rattle.sql_schema.specs.Columns.{DeclaredColumn, table_named, column_in}
 use Rattle.sql_schema.specs.declared.declaration.TableDecl.{TableDecl}
 use Rattle.sql_node.specs.Tree.{Expr, Source, of_table as table_source, of_alias as alias_source}
-use Rattle.sql_source.specs.Origins.{column_under}
+use Rattle.sql_origin.specs.Origins.{column_under}
 use Rattle.sql_syntax.specs.declared.name.AliasName.{AliasName}
 use Rattle.sql_syntax.specs.declared.name.ColumnName.{ColumnName}
 use Rattle.sql_syntax.specs.declared.name.FieldName.{FieldName}

@@ -10,8 +10,8 @@ use Rattle.sql_rose.specs.Rose.{Roses, flat}
 use Rattle.sql_loops.specs.Folds.{sites}
 use Rattle.sql_node.specs.Tree.{Origin, Expr, column, value, list, count_star, nullable, not_of, null_test, count, compared, joined, exists, single, among_values, among_rows, Exprs, no_exprs, more_exprs}
 use Rattle.sql_schema.specs.Equality.{same_column}
-use Rattle.sql_source.specs.Origins.{a_table, same_origin}
-use Rattle.sql_source.proofs.OriginLaws.{origin-decides}
+use Rattle.sql_origin.specs.Origins.{a_table, same_origin}
+use Rattle.sql_origin.proofs.OriginLaws.{origin-decides}
 use Rattle.sql_rules.specs.Lists.{AnyOf}
 use Rattle.sql_rules.specs.Rules.{IsColumn}
 use Rattle.sql_rules.specs.Scope.{View, in_expr, in_exprs, nodes, nodes_of}

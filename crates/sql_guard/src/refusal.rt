@@ -15,8 +15,8 @@ ghost use Rattle.sql_guard.specs.inside.Kinds.{is_beyond as kind_is_beyond, is_f
 use sql_flat::{FlatKind, FlatNode, expression_nodes, flatten};
 use sql_judge::{any_lacks_on, is_condition_of};
 use sql_node::{Expr, Statement};
+use sql_origin::Origin;
 use sql_schema::{Column, ColumnDecl, NoMemory, SizeRestrictedColumn, SqlText, Table};
-use sql_source::Origin;
 use sql_types::fits;
 use std::alloc::Global;
 

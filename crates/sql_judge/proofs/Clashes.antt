@@ -8,8 +8,8 @@ use Rattle.std.proofs.lemmas.Slice.Eq.{bytes_eq-Decides}
 use Rattle.sql_schema.specs.Equality.{same_table}
 use Rattle.sql_schema.specs.declared.declaration.TableDecl.{TableDecl}
 use Rattle.sql_node.specs.Tree.{Origin}
-use Rattle.sql_source.proofs.OriginLaws.{origin-decides, table-decides}
-use Rattle.sql_source.specs.Origins.{same_origin, table_path, path_under, exposed_path}
+use Rattle.sql_origin.proofs.OriginLaws.{origin-decides, table-decides}
+use Rattle.sql_origin.specs.Origins.{same_origin, table_path, path_under, exposed_path}
 use Rattle.sql_rules.specs.Lists.{IsSuffix}
 use Rattle.sql_schema.specs.Declarations.{Declarations}
 use Rattle.sql_schema.specs.Together.{may_stand_together}

@@ -8,8 +8,8 @@ use Rattle.sql_schema.specs.Declarations.{Declarations}
 use Rattle.sql_dialect.specs.declared.backend.Dialect.{Dialect}
 use Rattle.sql_rose.specs.Rose.{Roses}
 use Rattle.sql_node.specs.Tree.{Origin, Expr, column, Statement}
-use Rattle.sql_source.proofs.OriginLaws.{origin-decides}
-use Rattle.sql_source.specs.Origins.{same_origin}
+use Rattle.sql_origin.proofs.OriginLaws.{origin-decides}
+use Rattle.sql_origin.specs.Origins.{same_origin}
 use Rattle.sql_rules.specs.Lists.{AnyOf, AnyPair}
 use Rattle.sql_rules.specs.Rules.{AnyTwoLeaves, Broken, Clash, MayNotMeet, PartBreaks}
 use Rattle.sql_rules.specs.Scope.{View, Part, a_select, a_combination, parts}

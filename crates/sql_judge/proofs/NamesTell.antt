@@ -12,8 +12,8 @@ use Rattle.sql_dialect.specs.declared.backend.Dialect.{Dialect}
 use Rattle.sql_rose.specs.Rose.{Rose, node, Roses, none, more}
 use Rattle.sql_loops.specs.Folds.{gathered, sites, sites_of}
 use Rattle.sql_node.specs.Tree.{Origin, Statement}
-use Rattle.sql_source.proofs.OriginLaws.{origin-decides}
-use Rattle.sql_source.specs.Origins.{same_origin}
+use Rattle.sql_origin.proofs.OriginLaws.{origin-decides}
+use Rattle.sql_origin.specs.Origins.{same_origin}
 use Rattle.sql_rules.specs.Lists.{Each}
 use Rattle.sql_rules.specs.Rules.{Broken, IsTable}
 use Rattle.sql_rules.specs.Scope.{View}

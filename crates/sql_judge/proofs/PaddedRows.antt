@@ -13,9 +13,9 @@ use Rattle.sql_leaf.specs.declared.table_source.JoinKind.TheVariants.{Inner, Lef
 use Rattle.sql_rose.specs.Rose.{Roses}
 use Rattle.sql_loops.specs.Folds.{folded, folded_each}
 use Rattle.sql_node.specs.Tree.{Origin, Expr, column, value, list, count_star, nullable, not_of, null_test, count, compared, joined, exists, single, among_values, among_rows, Exprs, no_exprs, more_exprs, MaybeExpr, no_expr, an_expr, Source, of_table, of_alias, join, From, no_source, from, Distinct, every, distinct, distinct_on, Order, no_order, order_by, Statement, select, combination}
-use Rattle.sql_source.proofs.OriginLaws.{origin-decides}
-use Rattle.sql_source.specs.Leaves.{Leaf, in_right_side, is_padded, leaves}
-use Rattle.sql_source.specs.Origins.{same_origin}
+use Rattle.sql_origin.proofs.OriginLaws.{origin-decides}
+use Rattle.sql_origin.specs.Leaves.{Leaf, in_right_side, is_padded, leaves}
+use Rattle.sql_origin.specs.Origins.{same_origin}
 use Rattle.sql_rules.specs.Lists.{AnyOf, AnyPair}
 use Rattle.sql_rules.specs.Rules.{Broken, IsPadded, PartBreaks, bare, bare_of}
 use Rattle.sql_rules.specs.Scope.{View, Part, a_select, a_combination, Select, leaves_of, own, parts}

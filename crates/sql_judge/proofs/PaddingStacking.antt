@@ -1,7 +1,7 @@
 -- The stack of the loop for padded rows, when its top is taken.
 use Rattle.std.proofs.Common.{◌≡◌, ℕ, ◌<◌, ◌≤◌, List, [], ◌∷◌, ◌++◌, map, true, false, ltb, refl, ap, ◌∙◌, arith}
 use Rattle.std.proofs.lemmas.List.{reverse-append}
-use Rattle.sql_source.specs.Borrowed.{origin_of}
+use Rattle.sql_origin.specs.Borrowed.{origin_of}
 use Rattle.sql_judge.specs.declared.padding.Padded.{Padded}
 use Rattle.sql_judge.specs.declared.padding.Part.{Part}
 use Rattle.sql_judge.specs.inside.Padding.{Held, all_bare, all_leaves, first_held, other_held}

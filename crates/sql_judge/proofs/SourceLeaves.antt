@@ -5,8 +5,8 @@ use Rattle.sql_leaf.specs.declared.table_source.JoinKind.TheVariants.{Inner, Lef
 use Rattle.sql_rose.specs.Rose.{Rose, Roses, none, more}
 use Rattle.sql_loops.specs.Folds.{gathered}
 use Rattle.sql_node.specs.Tree.{Origin, Form, unboxed, boxed, Expr, column, value, list, count_star, nullable, not_of, null_test, count, compared, joined, exists, single, among_values, among_rows, MaybeExpr, no_expr, an_expr, Source, of_table, of_alias, join, From, no_source, from, Distinct, every, distinct, distinct_on, Order, no_order, order_by}
-use Rattle.sql_source.specs.Leaves.{Leaf, leaves, in_right_side}
-use Rattle.sql_source.specs.Origins.{a_table, an_alias}
+use Rattle.sql_origin.specs.Leaves.{Leaf, leaves, in_right_side}
+use Rattle.sql_origin.specs.Origins.{a_table, an_alias}
 use Rattle.sql_rules.specs.Scope.{View, origins, origins_of, widest}
 use Rattle.sql_flat.specs.Flat.{expr_rose, maybe_roses, source_rose, from_roses, distinct_roses, order_roses, form_of}
 use Rattle.sql_flat.specs.declared.kind.FlatKind.{FlatKind}

@@ -4,7 +4,7 @@ use Rattle.std.proofs.lemmas.Bool.{and_left, and_right, or_from, or_parts, trueâ
 use Rattle.sql_leaf.specs.declared.table_source.JoinKind.TheVariants.{Inner, LeftOuter}
 use Rattle.sql_loops.specs.Backward.{before, first, run}
 use Rattle.sql_node.specs.Tree.{Origin}
-use Rattle.sql_source.specs.Origins.{same_origin}
+use Rattle.sql_origin.specs.Origins.{same_origin}
 use Rattle.sql_rules.specs.Lists.{Each}
 use Rattle.sql_rules.specs.Scope.{View}
 use Rattle.sql_flat.specs.declared.kind.FlatKind.{FlatKind}

@@ -8,8 +8,8 @@ ghost use Rattle.std.specs.Str.{bytes_eq};
 ghost use Rattle.sql_schema.specs.Declarations.{Declarations};
 ghost use Rattle.sql_dialect.specs.declared.backend.Dialect.{Dialect};
 ghost use Rattle.sql_node.specs.Tree.{Statement};
-ghost use Rattle.sql_source.specs.Borrowed.{origin_of};
-ghost use Rattle.sql_source.specs.Origins.{same_origin};
+ghost use Rattle.sql_origin.specs.Borrowed.{origin_of};
+ghost use Rattle.sql_origin.specs.Origins.{same_origin};
 ghost use Rattle.sql_rules.specs.Rules.{Broken};
 ghost use Rattle.sql_rules.specs.Verdicts.{holds_column, holds_key as holds_whole_key, mix as mixed};
 ghost use Rattle.sql_rules.specs.declared.rule.Rule.TheVariants as rule;
@@ -21,8 +21,8 @@ ghost use Rattle.sql_judge.specs.inside.Kids.{kids_from};
 use crate::jump::past;
 use crate::names::origin_under;
 use sql_flat::{Flat, FlatKind, FlatNode, Form, Selecting};
+use sql_origin::Origin;
 use sql_schema::Column;
-use sql_source::Origin;
 
 /// Whether an expression has a value for each row, one for each group, either, or neither.
 #[derive(Debug, Clone, Copy, PartialEq, Eq)]

@@ -4,7 +4,7 @@
 ghost use Rattle.std.specs.Prelude.{◌≡◌, IfOk, IsTrue, map, option_map};
 ghost use Rattle.std.specs.Bool.{Decides};
 ghost use Rattle.sql_schema.specs.Refusals.{any_two};
-ghost use Rattle.sql_source.specs.Borrowed.{origin_of};
+ghost use Rattle.sql_origin.specs.Borrowed.{origin_of};
 ghost use Rattle.sql_rules.specs.Lists.{AnyPair};
 ghost use Rattle.sql_rules.specs.Rules.{Clash as clash, MayNotMeet};
 ghost use Rattle.sql_judge.specs.inside.Ends.{front_under, last_under, leaf_ends, leaves_clash, path_ends, tables_part};
@@ -12,8 +12,8 @@ ghost use Rattle.sql_judge.specs.inside.Tables.{Cover, Holds, last_alike, named_
 
 use crate::pair::{PairTest, any_pair};
 use crate::tables::is_one_table;
+use sql_origin::Origin;
 use sql_schema::{NoMemory, Schema, Table, TableNotEqual};
-use sql_source::Origin;
 use std::alloc::Global;
 use std::collections::{BTreeMap, BTreeSet};
 

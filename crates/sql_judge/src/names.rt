@@ -6,7 +6,7 @@ ghost use Rattle.std.specs.Bool.{Decides};
 ghost use Rattle.std.specs.List.{list_any};
 ghost use Rattle.sql_dialect.specs.declared.backend.Dialect.{Dialect};
 ghost use Rattle.sql_node.specs.Tree.{Statement};
-ghost use Rattle.sql_source.specs.Borrowed.{origin_of};
+ghost use Rattle.sql_origin.specs.Borrowed.{origin_of};
 ghost use Rattle.sql_rules.specs.Rules.{Broken};
 ghost use Rattle.sql_rules.specs.declared.rule.Rule.TheVariants as rule;
 ghost use Rattle.sql_flat.specs.Flat.{flat_of};
@@ -20,8 +20,8 @@ use crate::leaves::{any_ambiguous, any_apart, any_clash};
 use crate::scope::{Open, close, enter};
 use crate::tables::names_differ;
 use sql_flat::{Flat, FlatKind, FlatNode};
+use sql_origin::Origin;
 use sql_schema::{Column, NoMemory, Schema, SqlText};
-use sql_source::Origin;
 use std::alloc::Global;
 
 /// Whether the names of a statement are looked up in a schema, or known to be the schema's.

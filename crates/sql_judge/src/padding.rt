@@ -7,8 +7,8 @@ ghost use Rattle.std.specs.List.{list_any};
 ghost use Rattle.sql_schema.specs.Declarations.{Declarations};
 ghost use Rattle.sql_dialect.specs.declared.backend.Dialect.{Dialect};
 ghost use Rattle.sql_node.specs.Tree.{Statement};
-ghost use Rattle.sql_source.specs.Borrowed.{origin_of};
-ghost use Rattle.sql_source.specs.Origins.{same_origin};
+ghost use Rattle.sql_origin.specs.Borrowed.{origin_of};
+ghost use Rattle.sql_origin.specs.Origins.{same_origin};
 ghost use Rattle.sql_rules.specs.Rules.{Broken};
 ghost use Rattle.sql_rules.specs.declared.rule.Rule.TheVariants as rule;
 ghost use Rattle.sql_flat.specs.Flat.{flat_of};
@@ -18,8 +18,8 @@ ghost use Rattle.sql_judge.specs.inside.PaddingStacks.{any_lacking_from, held_of
 use crate::names::origin_under;
 use sql_flat::{Flat, FlatKind, FlatNode};
 use sql_leaf::JoinKind;
+use sql_origin::Origin;
 use sql_schema::NoMemory;
-use sql_source::Origin;
 use std::alloc::Global;
 
 /// A leaf of a source, and whether an outer join may lack its rows.

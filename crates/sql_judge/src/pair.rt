@@ -4,10 +4,10 @@
 ghost use Rattle.std.specs.Prelude.{map};
 ghost use Rattle.std.specs.Bool.{Decides};
 ghost use Rattle.sql_node.specs.Tree as tree;
-ghost use Rattle.sql_source.specs.Borrowed.{origin_of};
+ghost use Rattle.sql_origin.specs.Borrowed.{origin_of};
 ghost use Rattle.sql_rules.specs.Lists.{AnyOf, AnyPair};
 
-use sql_source::Origin;
+use sql_origin::Origin;
 
 /// A test of two leaves.
 pub(crate) trait PairTest {

@@ -2,13 +2,13 @@
 #![tactic(auto, using(crate::proofs::Opening::opening))]
 
 ghost use Rattle.std.specs.Prelude.{◌≡◌, ◌<◌, ◌+◌, ◌++◌, IfOk, OnOk, map, option_map};
-ghost use Rattle.sql_source.specs.Borrowed.{origin_of};
+ghost use Rattle.sql_origin.specs.Borrowed.{origin_of};
 ghost use Rattle.sql_judge.specs.inside.Views.{is_passed as kind_is_passed, keeps as kind_keeps, leaf_at, widened as widened_view, within as views_within};
 ghost use Rattle.sql_judge.specs.inside.Walks.{after_node, around as around_of, entered_at, leaves_from, opened_at, opens, option_list, views_of};
 
 use sql_flat::{FlatKind, FlatNode, Form};
+use sql_origin::Origin;
 use sql_schema::NoMemory;
-use sql_source::Origin;
 use std::alloc::Global;
 
 /// What is known within a node: what its clauses see, and the condition of the innermost select statement.

@@ -7,8 +7,8 @@ ghost use Rattle.sql_schema.specs.Equality.{same_table};
 ghost use Rattle.sql_schema.specs.Refusals.{any_two, tables_clash};
 ghost use Rattle.sql_rules.specs.Rules.{IsColumn, IsTable};
 
+use sql_origin::Origin;
 use sql_schema::{Column, Schema, Table};
-use sql_source::Origin;
 
 pub(crate) fn is_one_table(one: &Table, other: &Table) -> bool
     ensures { result ≡ same_table one.now other.now }

@@ -14,7 +14,7 @@ use Rattle.sql_node.specs.Tree.{Origin, Form, unboxed, boxed, Expr, Items, no_it
 use Rattle.sql_expr.specs.Calls.{beside}
 use Rattle.sql_expr.specs.Joining.{Side}
 use Rattle.sql_source.specs.Joins.{alone, joined_by}
-use Rattle.sql_source.specs.Origins.{column_under}
+use Rattle.sql_origin.specs.Origins.{column_under}
 use Rattle.sql_select.specs.Changes.{columns_as_selected, selected, nulled_in, nulled, with_distinct, filtered, grouped, with_having, items_then, items_in, ordered, ordered_then, locked_in, locked, modified_in, modified, boxed_in, boxed_for, ordered_by_places}
 use Rattle.sql_select.specs.Clauses.{Clauses, changed, rows_changed}
 use Rattle.sql_select.specs.Finding.{single_leaf, only_leaf, in_front, columns_named, key_columns, equal_each, and_then, all_before, has_key, and_maybe, found_by, found_in, found}

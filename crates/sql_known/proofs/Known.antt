@@ -6,7 +6,7 @@ use Rattle.sql_schema.specs.Declarations.{Declarations}
 use Rattle.sql_node.specs.Tree.{Origin, Expr, column, value, list, count_star, nullable, not_of, null_test, count, compared, joined, exists, single, among_values, among_rows, Exprs, no_exprs, more_exprs, Items, no_items, more_items, MaybeExpr, no_expr, an_expr, Source, of_table, of_alias, join, From, no_source, from, Distinct, every, distinct, distinct_on, Order, no_order, order_by, Statement, select, combination}
 use Rattle.sql_node.specs.View.{Among, among_list, among_query}
 use Rattle.sql_expr.specs.Joining.{Side}
-use Rattle.sql_source.specs.Leaves.{Leaf}
+use Rattle.sql_origin.specs.Leaves.{Leaf}
 use Rattle.sql_select.specs.Clauses.{Clauses, statement_of}
 use Rattle.sql_rules.specs.Rules.{IsTable, IsColumn}
 

@@ -12,8 +12,8 @@ use Rattle.sql_node.specs.Tree.{Origin, Expr, under, Source, of_table, of_alias,
 use Rattle.sql_node.specs.View.{Item, exprs_of, items_of, maybe_of}
 use Rattle.sql_expr.specs.Joining.{Side}
 use Rattle.sql_source.specs.Joins.{is_declared, refers_from, relation, key_column, equal_keys, equal_by, on_relation, on_between, implicit_on, given_or, on_for, joined_by}
-use Rattle.sql_source.specs.Leaves.{Leaf, leaves, leftmost, in_right_side}
-use Rattle.sql_source.specs.Origins.{column_under}
+use Rattle.sql_origin.specs.Leaves.{Leaf, leaves, leftmost, in_right_side}
+use Rattle.sql_origin.specs.Origins.{column_under}
 use Rattle.sql_source.specs.Selections.{origin_columns, leaf_columns, selected, default_list}
 use Rattle.sql_rules.specs.Lists.{Each}
 use Rattle.sql_rules.specs.Rules.{IsTable, IsColumn}

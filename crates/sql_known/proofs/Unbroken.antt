@@ -3,7 +3,7 @@ use Rattle.std.proofs.Common.{[], ◌++◌, true, inl, inr}
 use Rattle.sql_schema.specs.Declarations.{Declarations}
 use Rattle.sql_dialect.specs.declared.backend.Dialect.{Dialect}
 use Rattle.sql_node.specs.Tree.{Expr, column, value, list, count_star, nullable, not_of, null_test, count, compared, joined, exists, single, among_values, among_rows, Exprs, no_exprs, more_exprs, Items, no_items, more_items, MaybeExpr, no_expr, an_expr, Source, of_table, of_alias, join, From, no_source, from, Distinct, every, distinct, distinct_on, Order, no_order, order_by, Statement, select, combination}
-use Rattle.sql_source.specs.Leaves.{leaves}
+use Rattle.sql_origin.specs.Leaves.{leaves}
 use Rattle.sql_rules.specs.Lists.{Each}
 use Rattle.sql_rules.specs.Rules.{IsUnknownColumn, PartBreaks, Broken}
 use Rattle.sql_rules.specs.Scope.{View, origins, origins_of, widest, Select, Part, a_select, a_combination, parts, in_expr, in_exprs, in_items, in_maybe, in_source, in_from, in_distinct, in_order, Place, in_on, in_where, in_group_by, in_having, Clause, clauses, maybe_clause, ons, ons_of, distinct_clause, item_clauses, order_clauses, own, nodes, nodes_of}

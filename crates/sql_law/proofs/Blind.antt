@@ -7,7 +7,7 @@ use Rattle.sql_schema.specs.declared.declaration.ColumnDecl.{ColumnDecl}
 use Rattle.sql_schema.specs.declared.types.SqlType.{SqlType}
 use Rattle.sql_pass.specs.declared.value.Value.{Value}
 use Rattle.sql_node.specs.Tree.{Origin, Form, unboxed, boxed, Expr, column, list, count_star, nullable, not_of, null_test, count, compared, joined, exists, single, among_values, among_rows, Exprs, no_exprs, more_exprs, Items, no_items, more_items, MaybeExpr, no_expr, an_expr, Source, of_table, of_alias, join, From, no_source, from, Distinct, distinct_on, Order, no_order, order_by, Statement, select, combination}
-use Rattle.sql_source.specs.Leaves.{leaves, in_right_side}
+use Rattle.sql_origin.specs.Leaves.{leaves, in_right_side}
 use Rattle.sql_shape.specs.Shape.{blank_rows}
 use Rattle.sql_rules.specs.Rules.{bare, bare_of}
 use Rattle.sql_rules.specs.Scope.{View, origins, leaves_of, origins_of, widest, Select, Combination, Part, a_select, a_combination, parts, in_expr, in_exprs, in_items, in_maybe, in_source, in_from, in_distinct, in_order, Place, in_selection, in_order_by, in_on, in_where, in_group_by, in_having, Clause, clauses, clauses_by, maybe_clause, ons, ons_of, distinct_clause, item_clauses, order_clauses, own, nodes, nodes_of, flat, flat_of, flat_items}

@@ -9,8 +9,8 @@ use Rattle.sql_schema.specs.Declarations.{Declarations}
 use Rattle.sql_schema.specs.declared.declaration.ColumnDecl.{ColumnDecl}
 use Rattle.sql_dialect.specs.declared.backend.Dialect.{Dialect}
 use Rattle.sql_node.specs.Tree.{Origin, Expr, column, Statement}
-use Rattle.sql_source.specs.Origins.{exposed_path, same_origin}
-use Rattle.sql_source.proofs.OriginLaws.{same-equal}
+use Rattle.sql_origin.specs.Origins.{exposed_path, same_origin}
+use Rattle.sql_origin.proofs.OriginLaws.{same-equal}
 use Rattle.sql_rules.specs.Lists.{AnyOf, AnyPair, IsSuffix}
 use Rattle.sql_rules.specs.Names.{path, Names, NamesOnly, IsNamed}
 use Rattle.sql_rules.specs.Rules.{IsUnknownColumn, Clash, IsSeen, IsOutOfScope, PartBreaks, Broken}

@@ -4,7 +4,7 @@ use Rattle.sql_schema.specs.declared.declaration.ColumnDecl.{ColumnDecl}
 use Rattle.sql_schema.specs.declared.declaration.TableDecl.{TableDecl}
 use Rattle.sql_grammar.specs.Tree as g
 use Rattle.sql_node.specs.Tree.{Origin}
-use Rattle.sql_source.specs.Origins.{table_path, path_under}
+use Rattle.sql_origin.specs.Origins.{table_path, path_under}
 use Rattle.sql_reading.specs.Filled.{column_path, first_name, more_names}
 use Rattle.sql_rules.specs.Names.{path}
 use Rattle.sql_law.specs.Paths.{names_in}

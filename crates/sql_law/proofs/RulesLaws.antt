@@ -9,7 +9,7 @@ use Rattle.sql_leaf.specs.declared.limit_offset.LimitOffsetClause.{LimitOffsetCl
 use Rattle.sql_node.specs.Tree.{Origin, Form, unboxed, Expr, column, value, count, Items, no_items, more_items, MaybeExpr, no_expr, an_expr, Source, of_table, of_alias, join, From, no_source, from, Distinct, distinct_on, Order, no_order, order_by, Statement}
 use Rattle.sql_shape.specs.Expressions.{expr_shape}
 use Rattle.sql_shape.specs.Shape.{blank_rows}
-use Rattle.sql_source.specs.Leaves.{is_padded}
+use Rattle.sql_origin.specs.Leaves.{is_padded}
 use Rattle.sql_rules.specs.Lists.{AnyOf, AnyPair, Differ}
 use Rattle.sql_rules.specs.Rules.{AnyClause, AnyTwoLeaves, IsTable, IsUnknownColumn, IsOutOfScope, Present, IsDistinct, HasLock, misuse, IsEmptyList, IsEmptyOrder, LacksOn, FromLacksOn, tops, IsIllTyped, IsCondition, IsBool, IsIllTypedClause, bare, IsPadded, LacksNullable, CountsAggregate, HasAggregate, items_verdict, order_verdict, distinct_verdict, IsUnboxed, OrderDiffers, IsOffsetAlone, IsDistinctOn, HasTableMarks, FromHasMarks, SelectBreaks, PartBreaks}
 use Rattle.sql_rules.specs.Scope.{View, Select, Part, a_select, a_combination, parts, Place, in_selection, in_distinct_on, in_on, in_where, in_group_by, in_having, in_order_by, Clause, clauses, nodes, flat, flat_items, AnyExpr}

@@ -4,7 +4,7 @@ use Rattle.std.proofs.lemmas.List.{append-nil}
 use Rattle.sql_leaf.specs.declared.table_source.JoinKind.{JoinKind}
 use Rattle.sql_leaf.specs.declared.table_source.JoinKind.TheVariants.{Inner, LeftOuter}
 use Rattle.sql_node.specs.Tree.{Origin, Items, no_items, more_items, MaybeExpr, no_expr, an_expr, Source, of_table, of_alias, join, From, no_source, from, Distinct, every, distinct, distinct_on, Order, no_order, order_by, Form, unboxed, boxed}
-use Rattle.sql_source.specs.Leaves.{Leaf, leaves, in_right_side}
+use Rattle.sql_origin.specs.Leaves.{Leaf, leaves, in_right_side}
 use Rattle.sql_rules.specs.Lists.{Each, AnyPair}
 use Rattle.sql_rules.specs.Scope.{View, origins, origins_of, widest, Select, Place, in_on, in_where, in_group_by, in_having, Clause, clauses, maybe_clause, ons, ons_of, distinct_clause, item_clauses, order_clauses, own}
 use Rattle.sql_law.proofs.Lists.{each_map, each_append, pair_left, pair_right}

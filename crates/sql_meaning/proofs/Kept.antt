@@ -6,8 +6,8 @@ use Rattle.sql_schema.specs.Declarations.{Declarations}
 use Rattle.sql_schema.specs.declared.declaration.TableDecl.{TableDecl}
 use Rattle.sql_dialect.specs.declared.backend.Dialect.{Dialect}
 use Rattle.sql_node.specs.Tree.{Origin, Form, unboxed, boxed, Expr, column, value, list, count_star, nullable, not_of, null_test, count, compared, joined, exists, single, among_values, among_rows, Exprs, no_exprs, more_exprs, From, no_source, from, Statement}
-use Rattle.sql_source.specs.Leaves.{Leaf}
-use Rattle.sql_source.specs.Origins.{same_origin}
+use Rattle.sql_origin.specs.Leaves.{Leaf}
+use Rattle.sql_origin.specs.Origins.{same_origin}
 use Rattle.sql_rules.specs.Lists.{AnyOf, AnyPair, Each}
 use Rattle.sql_rules.specs.Rules.{Accepted, PartBreaks, SelectBreaks, IsTable, IsColumn, IsSeen, IsUnknownColumn, IsOutOfScope, IsIllTyped, IsIllTypedClause, IsPadded, LacksNullable, bare}
 use Rattle.sql_rules.specs.Scope.{View, Part, a_select, a_combination, parts, Select, Clause, in_selection, clauses, own, origins, origins_of, leaves_of, widest, nodes, nodes_of, flat, flat_of, distinct_clause}
@@ -16,7 +16,7 @@ use Rattle.sql_rules.specs.declared.rule.Rule.{Rule}
 use Rattle.sql_rules.specs.declared.rule.Rule.TheVariants as R
 use Rattle.sql_rules.proofs.Lists.{any_left, any_right}
 use Rattle.sql_rules.proofs.Loops.{any_split, any_each, map_any, any-decides}
-use Rattle.sql_source.proofs.OriginLaws.{origin-decides}
+use Rattle.sql_origin.proofs.OriginLaws.{origin-decides}
 use Rattle.sql_rules.proofs.Tests.{table-any, column-any}
 use Rattle.sql_meaning.proofs.Sources.{AreDeclared, IsMissing}
 

@@ -6,7 +6,7 @@ use Rattle.sql_dialect.specs.declared.backend.Dialect.TheVariants.{Pg, Mysql, Sq
 use Rattle.sql_pass.specs.Pieces.{one, values_of}
 use Rattle.sql_node.specs.Pieces.{pieces}
 use Rattle.sql_node.specs.Tree.{Statement}
-use Rattle.sql_source.specs.Origins.{a_table}
+use Rattle.sql_origin.specs.Origins.{a_table}
 use Rattle.sql_rules.specs.Lists.{AnyPair}
 use Rattle.sql_rules.specs.Rules.{Accepted, Broken, Clash}
 use Rattle.sql_rules.specs.declared.rule.Rule.{Rule}

@@ -14,7 +14,7 @@ use Rattle.sql_leaf.specs.declared.marks.Marks.{Marks}
 use Rattle.sql_pass.specs.declared.value.Value.{Value}
 use Rattle.sql_pass.specs.declared.value.Value.TheVariants as V
 use Rattle.sql_node.specs.Tree.{Form, Expr, column, value, list, count_star, nullable, not_of, null_test, count, compared, joined, exists, single, among_values, among_rows, Exprs, no_exprs, more_exprs, MaybeExpr, From, Distinct, Order, Statement, select, combination}
-use Rattle.sql_source.specs.Leaves.{Leaf}
+use Rattle.sql_origin.specs.Leaves.{Leaf}
 use Rattle.sql_rules.specs.Lists.{AnyOf, Each}
 use Rattle.sql_rules.specs.Rules.{Accepted, bare, bare_of}
 use Rattle.sql_rules.specs.Scope.{View, Select, parts, in_expr, in_exprs, in_distinct, in_maybe, in_from, in_order, nodes, nodes_of, leaves_of, origins_of, widest}

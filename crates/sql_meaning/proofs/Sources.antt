@@ -13,12 +13,12 @@ use Rattle.sql_pass.specs.declared.value.Value.TheVariants as V
 use Rattle.sql_leaf.specs.declared.table_source.JoinKind.{JoinKind}
 use Rattle.sql_leaf.specs.declared.table_source.JoinKind.TheVariants.{Inner, LeftOuter}
 use Rattle.sql_node.specs.Tree.{Origin, Source, of_table, of_alias, join, From, no_source, from}
-use Rattle.sql_source.specs.Leaves.{Leaf, leaves, in_right_side, is_padded}
-use Rattle.sql_source.specs.Origins.{a_table, an_alias, same_origin}
+use Rattle.sql_origin.specs.Leaves.{Leaf, leaves, in_right_side, is_padded}
+use Rattle.sql_origin.specs.Origins.{a_table, an_alias, same_origin}
 use Rattle.sql_rules.specs.Lists.{AnyOf, Each}
 use Rattle.sql_rules.specs.Rules.{IsTable, IsColumn, IsSeen}
 use Rattle.sql_rules.specs.Scope.{leaves_of}
-use Rattle.sql_source.proofs.OriginLaws.{origin-decides, column-decides}
+use Rattle.sql_origin.proofs.OriginLaws.{origin-decides, column-decides}
 use Rattle.sql_meaning.specs.Answers.{SourceRows, FromRows, rows_as, is_partial}
 use Rattle.sql_meaning.specs.Fitting.{RowFits, Conforms}
 use Rattle.sql_meaning.specs.Frames.{Database, Frame, row_of, value_in, value_of, nulls}

@@ -2,7 +2,7 @@
 use Rattle.std.proofs.Common.{ℕ, pos, true, false, List, [], ◌∷◌, refl, arith, codes}
 use Rattle.std.proofs.lemmas.List.Sorted.{IsPermutation-refl}
 use Rattle.sql_pass.specs.declared.value.Value.TheVariants as V
-use Rattle.sql_source.specs.Origins.{a_table}
+use Rattle.sql_origin.specs.Origins.{a_table}
 use Rattle.sql_meaning.specs.Answers.{Answers, Line}
 use Rattle.sql_meaning.specs.Example.{users, posts, database}
 use Rattle.sql_meaning.specs.LastWriter.{posts_of_user, HasLastWriter}

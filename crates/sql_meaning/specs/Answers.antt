@@ -13,8 +13,8 @@ use Rattle.sql_leaf.specs.declared.table_source.JoinKind.{JoinKind}
 use Rattle.sql_leaf.specs.declared.table_source.JoinKind.TheVariants.{Inner, LeftOuter}
 use Rattle.sql_leaf.specs.declared.table_source.Tablesample.{Tablesample}
 use Rattle.sql_node.specs.Tree.{Origin, Form, unboxed, Expr, column, value, list, count_star, nullable, not_of, null_test, count, compared, joined, exists, single, among_values, among_rows, Exprs, no_exprs, more_exprs, Items, no_items, more_items, MaybeExpr, no_expr, an_expr, Source, of_table, of_alias, join, From, no_source, from, Distinct, every, distinct, distinct_on, Order, no_order, order_by, Statement, select, combination}
-use Rattle.sql_source.specs.Leaves.{leaves}
-use Rattle.sql_source.specs.Origins.{a_table, an_alias}
+use Rattle.sql_origin.specs.Leaves.{leaves}
+use Rattle.sql_origin.specs.Origins.{a_table, an_alias}
 use Rattle.sql_meaning.specs.Frames.{Database, Frame, value_of, nulls, where_sees}
 use Rattle.sql_meaning.specs.Rows.{Row, same_row, Filtered, IsPart, IsOrdered, values_at, page, count_row, combined}
 use Rattle.sql_meaning.specs.Values.{is_true, compared_value, joined_value, not_value, null_test_value, among_value}

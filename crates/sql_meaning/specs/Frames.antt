@@ -7,8 +7,8 @@ use Rattle.sql_schema.specs.declared.declaration.TableDecl.{TableDecl}
 use Rattle.sql_pass.specs.declared.value.Value.{Value}
 use Rattle.sql_pass.specs.declared.value.Value.TheVariants as V
 use Rattle.sql_node.specs.Tree.{Origin, Form, unboxed, boxed, From, no_source, from}
-use Rattle.sql_source.specs.Leaves.{Leaf}
-use Rattle.sql_source.specs.Origins.{same_origin}
+use Rattle.sql_origin.specs.Leaves.{Leaf}
+use Rattle.sql_origin.specs.Origins.{same_origin}
 use Rattle.sql_meaning.specs.Rows.{Row}
 
 -- the rows of each table, an order among them being of no account

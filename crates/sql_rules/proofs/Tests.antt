@@ -7,8 +7,8 @@ use Rattle.sql_schema.specs.Equality.{same_table, same_column}
 use Rattle.sql_schema.specs.declared.declaration.ColumnDecl.{ColumnDecl}
 use Rattle.sql_schema.specs.declared.declaration.TableDecl.{TableDecl}
 use Rattle.sql_node.specs.Tree.{Origin}
-use Rattle.sql_source.proofs.OriginLaws.{table-decides, origin-decides, column-decides}
-use Rattle.sql_source.specs.Origins.{same_origin}
+use Rattle.sql_origin.proofs.OriginLaws.{table-decides, origin-decides, column-decides}
+use Rattle.sql_origin.specs.Origins.{same_origin}
 use Rattle.sql_rules.specs.Lists.{AnyOf}
 use Rattle.sql_rules.proofs.Loops.{any-decides}
 

@@ -2,7 +2,7 @@
 use Rattle.std.specs.Prelude.{◌≡◌, ℕ, List, [], ◌∷◌, ◌++◌, Some, slice_get}
 use Rattle.sql_schema.specs.declared.declaration.ColumnDecl.{ColumnDecl}
 use Rattle.sql_node.specs.Tree.{Origin, Expr, column}
-use Rattle.sql_source.specs.Origins.{exposed_path}
+use Rattle.sql_origin.specs.Origins.{exposed_path}
 use Rattle.sql_rules.specs.Lists.{AnyOf, IsSuffix}
 use Rattle.sql_rules.specs.Scope.{View}
 

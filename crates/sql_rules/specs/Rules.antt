@@ -19,8 +19,8 @@ use Rattle.sql_leaf.specs.declared.locking.LockingClause.TheVariants.{NoLockingC
 use Rattle.sql_leaf.specs.declared.marks.Marks.{Marks}
 use Rattle.sql_node.specs.Pieces.{pieces}
 use Rattle.sql_node.specs.Tree.{Origin, Form, unboxed, boxed, Expr, column, value, list, count_star, nullable, not_of, null_test, count, compared, joined, exists, single, among_values, among_rows, Exprs, no_exprs, more_exprs, Items, no_items, more_items, MaybeExpr, no_expr, an_expr, Source, of_table, of_alias, join, From, no_source, from, Distinct, every, distinct, distinct_on, Order, no_order, order_by, Statement}
-use Rattle.sql_source.specs.Leaves.{is_padded}
-use Rattle.sql_source.specs.Origins.{exposed_path}
+use Rattle.sql_origin.specs.Leaves.{is_padded}
+use Rattle.sql_origin.specs.Origins.{exposed_path}
 use Rattle.sql_shape.specs.Expressions.{expr_shape}
 use Rattle.sql_rules.specs.Lists.{AnyOf, AnyPair, IsSuffix, Differ}
 use Rattle.sql_rules.specs.Scope.{View, leaves_of, widest, Select, Combination, Part, a_select, a_combination, parts, Place, in_selection, in_distinct_on, in_on, in_where, in_group_by, in_having, in_order_by, Clause, clauses, own, nodes, flat, flat_items, AnyExpr}

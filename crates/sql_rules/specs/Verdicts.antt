@@ -5,7 +5,7 @@ use Rattle.std.specs.List.{list_any, list_all}
 use Rattle.std.specs.Str.{bytes_eq}
 use Rattle.sql_schema.specs.declared.declaration.ColumnDecl.{ColumnDecl}
 use Rattle.sql_node.specs.Tree.{Origin, Expr, column, value, list, count_star, nullable, not_of, null_test, count, compared, joined, exists, single, among_values, among_rows, Exprs, no_exprs, more_exprs, MaybeExpr, no_expr, an_expr}
-use Rattle.sql_source.specs.Origins.{same_origin}
+use Rattle.sql_origin.specs.Origins.{same_origin}
 use Rattle.sql_rules.specs.Scope.{nodes}
 
 abbrev pub is_aggregate : Expr → Bool

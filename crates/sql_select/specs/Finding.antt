@@ -4,7 +4,7 @@ use Rattle.sql_schema.specs.Columns.{column_in}
 use Rattle.sql_node.specs.Words.{Eq, And}
 use Rattle.sql_node.specs.Tree.{Statement, Expr, compared, joined, MaybeExpr, no_expr, an_expr, From, no_source, from, Source, of_table, of_alias, join, Origin}
 use Rattle.sql_expr.specs.Calls.{beside}
-use Rattle.sql_source.specs.Origins.{a_table, an_alias, column_under}
+use Rattle.sql_origin.specs.Origins.{a_table, an_alias, column_under}
 use Rattle.sql_select.specs.Clauses.{Clauses, changed}
 
 -- the table or alias that is the whole source

@@ -4,15 +4,15 @@ ghost use Rattle.std.specs.Prelude.{◌≡◌, IfOk, length, map, option_map};
 ghost use Rattle.sql_node.specs.Tree.{compared, no_expr};
 ghost use Rattle.sql_node.specs.Words.{Eq};
 ghost use Rattle.sql_node.specs.View.{expr_tree, from_clause_tree, maybe_of};
-ghost use Rattle.sql_source.specs.Borrowed.{origin_of};
+ghost use Rattle.sql_origin.specs.Borrowed.{origin_of};
 ghost use Rattle.sql_select.specs.Finding.{all_before, and_then, equal_each, found, key_columns as columns_of_key, only_leaf};
 
 use crate::beside::beside;
 use crate::condition::FilterDsl;
 use crate::query::Query;
 use sql_expr::{Expr, ExpressionMethods, FromClause, SelectStatement, Source};
+use sql_origin::Origin;
 use sql_schema::NoMemory;
-use sql_source::Origin;
 use std::alloc::Global;
 
 /// Rows by their key.

@@ -18,7 +18,7 @@ use Rattle.sql_node.specs.Tree.{Expr, Source, Statement}
 use Rattle.sql_node.specs.Words.{Eq, And}
 use Rattle.sql_node.specs.View.{exprs_of}
 use Rattle.sql_source.specs.Joins.{alone}
-use Rattle.sql_source.specs.Origins.{a_table}
+use Rattle.sql_origin.specs.Origins.{a_table}
 use Rattle.sql_select.specs.Changes.{selected, filtered, limited, offset_by, locked, boxed_for, combined}
 use Rattle.sql_select.specs.Joins.{joined}
 use Rattle.sql_select.specs.Simple.{simple}

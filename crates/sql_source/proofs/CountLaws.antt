@@ -9,8 +9,8 @@ use Rattle.sql_leaf.specs.declared.table_source.JoinKind.TheVariants.{Inner, Lef
 use Rattle.sql_leaf.specs.declared.table_source.Tablesample.{Tablesample}
 use Rattle.sql_node.specs.Tree.{Origin, Source, of_table, of_alias, join, MaybeExpr}
 use Rattle.sql_source.specs.Counts.{appearances, cut, number, once_if, sum_of}
-use Rattle.sql_source.specs.Leaves.{Leaf, leaves, in_right_side}
-use Rattle.sql_source.specs.Origins.{a_table, an_alias, same_origin}
+use Rattle.sql_origin.specs.Leaves.{Leaf, leaves, in_right_side}
+use Rattle.sql_origin.specs.Origins.{a_table, an_alias, same_origin}
 use Rattle.sql_source.specs.declared.count.Count.{Count}
 use Rattle.sql_source.specs.declared.count.Count.TheVariants.{Never, Once, MoreThanOnce}
 

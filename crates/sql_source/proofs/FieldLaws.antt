@@ -5,8 +5,8 @@ use Rattle.sql_schema.specs.declared.declaration.TableDecl.{TableDecl}
 use Rattle.sql_node.specs.Tree.{Origin, Expr, column, value, list, count_star, nullable, not_of, null_test, count, compared, joined, exists, single, among_values, among_rows, Exprs, no_exprs, more_exprs}
 use Rattle.sql_node.specs.View.{exprs_of}
 use Rattle.sql_source.specs.Fields.{aliased, fields_in, fields_in_each}
-use Rattle.sql_source.specs.Origins.{a_table, an_alias, same_origin}
-use Rattle.sql_source.proofs.OriginLaws.{same-origin_itself, other-origin}
+use Rattle.sql_origin.specs.Origins.{a_table, an_alias, same_origin}
+use Rattle.sql_origin.proofs.OriginLaws.{same-origin_itself, other-origin}
 
 -- an alias is no table
 aliased-twice : (a : List ℕ) (t : TableDecl) (o : Origin) → aliased a t (aliased a t o) ≡ aliased a t o

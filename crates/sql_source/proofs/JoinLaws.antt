@@ -18,7 +18,7 @@ use Rattle.sql_leaf.specs.declared.table_source.JoinKind.{JoinKind}
 use Rattle.sql_leaf.specs.declared.table_source.JoinKind.TheVariants.{Inner, LeftOuter}
 use Rattle.sql_node.specs.Tree.{Origin, Source, of_table, of_alias, join}
 use Rattle.sql_source.specs.Joins.{all_inner, equal_by, equal_keys, is_declared, is_the, on_relation, refers_from, related_on, relation}
-use Rattle.sql_source.specs.Leaves.{Leaf, leaves, leftmost, in_right_side, unpadded}
+use Rattle.sql_origin.specs.Leaves.{Leaf, leaves, leftmost, in_right_side, unpadded}
 use Rattle.sql_schema.proofs.EqualityLaws.{exact-table}
 
 -- the leftmost leaf of a join is that of its left side

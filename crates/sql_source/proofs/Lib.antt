@@ -1,5 +1,4 @@
 pub mod CountLaws
 pub mod FieldLaws
 pub mod JoinLaws
-pub mod OriginLaws
 pub mod SelectionLaws

@@ -10,8 +10,8 @@ use Rattle.sql_schema.specs.declared.declaration.TableDecl.{TableDecl}
 use Rattle.sql_node.specs.Tree.{Expr, nullable, under, Source, of_table, of_alias, join, MaybeExpr}
 use Rattle.sql_node.specs.View.{expr_tree}
 use Rattle.sql_node.specs.declared.expr.Expr.{Expr as Rust}
-use Rattle.sql_source.specs.Leaves.{Leaf, leaves, in_right_side}
-use Rattle.sql_source.specs.Origins.{a_table, an_alias}
+use Rattle.sql_origin.specs.Leaves.{Leaf, leaves, in_right_side}
+use Rattle.sql_origin.specs.Origins.{a_table, an_alias}
 use Rattle.sql_source.specs.Selections.{leaf_columns, origin_columns, padded, selected}
 
 once_more : (l : Leaf) (es : List Expr)

@@ -1,8 +1,8 @@
 -- How often something appears in a source, cut at two (diesel, `AppearsInFromClause`, `Plus`, `Pick`).
 use Rattle.std.specs.Prelude.{ℕ, Bool, true, false, zero, suc, ◌+◌, List, Option, None, Some, count_by}
 use Rattle.sql_node.specs.Tree.{Origin, Source}
-use Rattle.sql_source.specs.Leaves.{Leaf, leaves}
-use Rattle.sql_source.specs.Origins.{same_origin}
+use Rattle.sql_origin.specs.Leaves.{Leaf, leaves}
+use Rattle.sql_origin.specs.Origins.{same_origin}
 use Rattle.sql_source.specs.declared.count.Count.{Count}
 use Rattle.sql_source.specs.declared.count.Count.TheVariants.{Never, Once, MoreThanOnce}
 use Rattle.sql_source.specs.declared.count.Side.{Side}

@@ -2,7 +2,7 @@
 use Rattle.std.specs.Prelude.{ℕ, List, if◌then◌else◌}
 use Rattle.sql_schema.specs.declared.declaration.TableDecl.{TableDecl}
 use Rattle.sql_node.specs.Tree.{Origin, Expr, column, value, list, count_star, nullable, not_of, null_test, count, compared, joined, exists, single, among_values, among_rows, Exprs, no_exprs, more_exprs}
-use Rattle.sql_source.specs.Origins.{a_table, an_alias, same_origin}
+use Rattle.sql_origin.specs.Origins.{a_table, an_alias, same_origin}
 
 -- the table itself becomes the alias, all else stays
 abbrev pub aliased : List ℕ → TableDecl → Origin → Origin

@@ -14,8 +14,8 @@ use Rattle.sql_node.specs.Words.{Eq}
 use Rattle.sql_node.specs.Tree.{Origin, Expr, nullable, compared, Source, of_table, of_alias, join}
 use Rattle.sql_node.specs.View.{Sides, maybe_of}
 use Rattle.sql_expr.specs.Joining.{Side}
-use Rattle.sql_source.specs.Leaves.{leaves, leftmost}
-use Rattle.sql_source.specs.Origins.{column_under}
+use Rattle.sql_origin.specs.Leaves.{leaves, leftmost}
+use Rattle.sql_origin.specs.Origins.{column_under}
 
 -- the same source with each join an inner one
 abbrev pub all_inner : Source → Source

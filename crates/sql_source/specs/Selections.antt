@@ -6,8 +6,8 @@ use Rattle.sql_leaf.specs.declared.table_source.JoinKind.{JoinKind}
 use Rattle.sql_leaf.specs.declared.table_source.JoinKind.TheVariants.{Inner, LeftOuter}
 use Rattle.sql_node.specs.Tree.{Origin, Expr, nullable, list, under, Source}
 use Rattle.sql_node.specs.View.{exprs_of}
-use Rattle.sql_source.specs.Leaves.{Leaf, leaves}
-use Rattle.sql_source.specs.Origins.{column_under}
+use Rattle.sql_origin.specs.Leaves.{Leaf, leaves}
+use Rattle.sql_origin.specs.Origins.{column_under}
 
 -- the columns of a table, or the fields of an alias
 abbrev pub origin_columns : Origin → List Expr

@@ -6,9 +6,9 @@ ghost use Rattle.sql_leaf.specs.declared.alias.Alias.{Alias as Seen};
 ghost use Rattle.sql_node.specs.View.{column_of, expr_tree};
 ghost use Rattle.sql_source.specs.Fields.{fields_in};
 
-use crate::origin::same_table;
 use sql_leaf::{Alias, AliasedField};
 use sql_node::Expr;
+use sql_origin::same_table;
 use sql_schema::{Column, NoMemory, SqlList, SqlText, Table};
 use std::alloc::Global;
 

@@ -4,13 +4,13 @@ ghost use Rattle.std.specs.Prelude.{◌≡◌};
 ghost use Rattle.sql_node.specs.Tree.{Origin as Wanted};
 ghost use Rattle.sql_node.specs.View.{source_tree};
 ghost use Rattle.sql_source.specs.Counts.{appearances, once_if};
-ghost use Rattle.sql_source.specs.Borrowed.{origin_of};
-ghost use Rattle.sql_source.specs.Origins.{a_table, an_alias, column_origin, field_origin, same_origin};
+ghost use Rattle.sql_origin.specs.Borrowed.{origin_of};
+ghost use Rattle.sql_origin.specs.Origins.{a_table, an_alias, column_origin, field_origin, same_origin};
 
-use crate::origin::Origin;
 use crate::{Count, Plus};
 use sql_leaf::{Alias, AliasedField, TableSource};
 use sql_node::Source;
+use sql_origin::Origin;
 use sql_schema::Column;
 
 /// What can appear in a source: tables and aliases, and what belongs to one of them.

@@ -9,8 +9,8 @@ ghost use Rattle.sql_node.specs.Tree.{Expr, Origin, Source, column};
 ghost use Rattle.sql_source.specs.Counts.{sum_of};
 ghost use Rattle.sql_source.specs.Fields.{fields_in};
 ghost use Rattle.sql_source.specs.Joins.{all_inner, is_declared, related_on, relation};
-ghost use Rattle.sql_source.specs.Leaves.{leaves, unpadded};
-ghost use Rattle.sql_source.specs.Origins.{a_table, an_alias, same_origin};
+ghost use Rattle.sql_origin.specs.Leaves.{leaves, unpadded};
+ghost use Rattle.sql_origin.specs.Origins.{a_table, an_alias, same_origin};
 ghost use Rattle.sql_source.specs.declared.count.Count.{Count};
 ghost use Rattle.sql_source.specs.declared.count.Count.TheVariants.{Never};
 

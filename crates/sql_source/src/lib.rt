@@ -7,7 +7,6 @@ mod appearance;
 mod count;
 mod join;
 mod laws;
-mod origin;
 mod relation;
 mod selection;
 mod table_source;
@@ -20,6 +19,5 @@ pub use laws::{
     counts_add_up, fields_of_the_table_alone, fields_twice_as_once, inner_joins_pad_nothing,
     related_tables_have_a_condition, same_origins_are_equal,
 };
-pub use origin::Origin;
 pub use selection::{AppendSelection, QuerySource};
 pub use table_source::{NewTableSource, OnlyDsl, TablesampleDsl};

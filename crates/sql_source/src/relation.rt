@@ -5,13 +5,13 @@ ghost use Rattle.sql_node.specs.Tree as tree;
 ghost use Rattle.sql_node.specs.View.{expr_tree, source_tree};
 ghost use Rattle.sql_node.specs.Words as by;
 ghost use Rattle.sql_source.specs.Joins.{equal_by, implicit_on as implicit, is_declared as stands_in, key_column as key_of, refers_from as goes, related_on as on_of, relation as related};
-ghost use Rattle.sql_source.specs.Leaves.{leaves, leftmost as first_leaf};
-ghost use Rattle.sql_source.specs.Borrowed.{origin_of};
-ghost use Rattle.sql_source.specs.Origins.{column_under};
+ghost use Rattle.sql_origin.specs.Leaves.{leaves, leftmost as first_leaf};
+ghost use Rattle.sql_origin.specs.Borrowed.{origin_of};
+ghost use Rattle.sql_origin.specs.Origins.{column_under};
 
-use crate::origin::{Origin, same_table};
 use sql_expr::ExpressionMethods;
 use sql_node::{Expr, Source};
+use sql_origin::{Origin, same_table};
 use sql_schema::{Column, JoinableDecl, NoMemory, Schema, Table};
 use std::alloc::Global;
 

@@ -3,12 +3,12 @@
 ghost use Rattle.std.specs.Prelude.{◌≡◌, IfOk, map};
 ghost use Rattle.sql_node.specs.Tree as tree;
 ghost use Rattle.sql_node.specs.View.{expr_tree, source_tree};
-ghost use Rattle.sql_source.specs.Borrowed.{origin_of};
+ghost use Rattle.sql_origin.specs.Borrowed.{origin_of};
 ghost use Rattle.sql_source.specs.Selections.{appended_list, default_list, origin_columns, padded, selected};
 
-use crate::origin::Origin;
 use sql_leaf::JoinKind;
 use sql_node::{Expr, Source};
+use sql_origin::Origin;
 use sql_schema::{NoMemory, SqlList};
 use std::alloc::Global;
 

@@ -7,8 +7,8 @@ use Rattle.sql_schema.specs.declared.declaration.TableDecl.{TableDecl}
 use Rattle.sql_pass.specs.declared.value.Value.{Value}
 use Rattle.sql_node.specs.Tree.{Origin, Expr, column, value, list, count_star, nullable, not_of, null_test, count, compared, joined, exists, single, among_values, among_rows, Exprs, no_exprs, more_exprs, MaybeExpr, no_expr, an_expr}
 use Rattle.sql_source.specs.Fields.{fields_in, fields_in_each, aliased}
-use Rattle.sql_source.specs.Origins.{a_table, an_alias}
-use Rattle.sql_source.proofs.OriginLaws.{same-origin_itself}
+use Rattle.sql_origin.specs.Origins.{a_table, an_alias}
+use Rattle.sql_origin.proofs.OriginLaws.{same-origin_itself}
 use Rattle.sql_rules.specs.Lists.{AnyOf, Each}
 use Rattle.sql_rules.specs.Scope.{nodes, nodes_of}
 use Rattle.sql_rules.specs.Types.{given, given_each, element_types, only_type, is_bool, type_of, all_nullable, not_type, if_typed, bool_type, compared_type, joined_type, among_type, one, many}

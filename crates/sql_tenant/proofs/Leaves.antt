@@ -9,10 +9,10 @@ use Rattle.sql_leaf.specs.declared.table_source.JoinKind.{JoinKind}
 use Rattle.sql_leaf.specs.declared.table_source.JoinKind.TheVariants.{Inner, LeftOuter}
 use Rattle.sql_node.specs.Tree.{Origin, Expr, joined, MaybeExpr, no_expr, an_expr, Source, of_table, of_alias, join}
 use Rattle.sql_node.specs.Words.{And}
-use Rattle.sql_source.specs.Leaves.{Leaf, leaves, in_right_side}
-use Rattle.sql_source.specs.Origins.{a_table, an_alias, same_origin}
+use Rattle.sql_origin.specs.Leaves.{Leaf, leaves, in_right_side}
+use Rattle.sql_origin.specs.Origins.{a_table, an_alias, same_origin}
 use Rattle.sql_schema.proofs.EqualityLaws.{exact-table}
-use Rattle.sql_source.proofs.OriginLaws.{same-origin_itself}
+use Rattle.sql_origin.proofs.OriginLaws.{same-origin_itself}
 use Rattle.sql_rules.specs.Lists.{Each}
 use Rattle.sql_rules.specs.Scope.{nodes}
 use Rattle.sql_rules.specs.Types.{bool_type, joined_type}

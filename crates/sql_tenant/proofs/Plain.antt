@@ -7,8 +7,8 @@ use Rattle.sql_schema.specs.declared.types.SqlType.{SqlType}
 use Rattle.sql_dialect.specs.declared.backend.Dialect.{Dialect}
 use Rattle.sql_node.specs.Tree.{Origin, Expr, Items, no_items, more_items, MaybeExpr, no_expr, an_expr, Source, of_table, of_alias, join, From, no_source, from, Distinct, every, distinct, distinct_on, Order, no_order, order_by, Statement, select, combination}
 use Rattle.sql_schema.specs.Refusals.{same_base}
-use Rattle.sql_source.specs.Origins.{same_origin}
-use Rattle.sql_source.proofs.OriginLaws.{exact-origin}
+use Rattle.sql_origin.specs.Origins.{same_origin}
+use Rattle.sql_origin.proofs.OriginLaws.{exact-origin}
 use Rattle.sql_rules.specs.Lists.{AnyOf, AnyPair, Each}
 use Rattle.sql_rules.specs.Rules.{IsBool, IsIllTypedClause}
 use Rattle.sql_rules.specs.Scope.{View, Clause, Select, parts, clauses, own, origins, origins_of, ons, ons_of, in_on, in_where, maybe_clause, distinct_clause, item_clauses, order_clauses, nodes, widest}

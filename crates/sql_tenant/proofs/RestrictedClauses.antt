@@ -7,7 +7,7 @@ use Rattle.sql_schema.specs.declared.types.Base.TheVariants as base
 use Rattle.sql_leaf.specs.declared.table_source.JoinKind.TheVariants.{Inner, LeftOuter}
 use Rattle.sql_node.specs.Tree.{Origin, Form, unboxed, boxed, Expr, column, value, list, count_star, nullable, not_of, null_test, count, compared, joined, exists, single, among_values, among_rows, Exprs, no_exprs, more_exprs, Items, no_items, more_items, MaybeExpr, no_expr, an_expr, Source, of_table, of_alias, join, From, no_source, from, Distinct, every, distinct, distinct_on, Order, no_order, order_by}
 use Rattle.sql_node.specs.Words.{And}
-use Rattle.sql_source.specs.Leaves.{leaves}
+use Rattle.sql_origin.specs.Leaves.{leaves}
 use Rattle.sql_rules.specs.Lists.{AnyOf, Each}
 use Rattle.sql_rules.specs.Rules.{IsTable, IsColumn, IsSeen, IsUnknownColumn, IsOutOfScope, Present, CountsAggregate, HasAggregate}
 use Rattle.sql_rules.specs.Scope.{View, Part, Select, Clause, Place, in_selection, in_on, in_where, in_group_by, in_having, clauses, clauses_by, own, origins, origins_of, leaves_of, ons, ons_of, maybe_clause, distinct_clause, order_clauses, nodes, nodes_of, widest, in_expr, in_exprs, in_items, in_maybe, in_source, in_from, in_distinct, in_order}

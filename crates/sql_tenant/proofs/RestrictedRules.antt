@@ -11,7 +11,7 @@ use Rattle.sql_dialect.specs.declared.backend.Dialect.{Dialect}
 use Rattle.sql_leaf.specs.declared.table_source.JoinKind.TheVariants.{Inner, LeftOuter}
 use Rattle.sql_node.specs.Tree.{Origin, Expr, joined, MaybeExpr, no_expr, an_expr, Source, of_table, of_alias, join, From, no_source, from, Statement, select, combination}
 use Rattle.sql_node.specs.Words.{Logic, And}
-use Rattle.sql_source.specs.Leaves.{Leaf, leaves, is_padded}
+use Rattle.sql_origin.specs.Leaves.{Leaf, leaves, is_padded}
 use Rattle.sql_rules.specs.Lists.{AnyOf, AnyPair, Each}
 use Rattle.sql_rules.specs.Rules.{Accepted, Broken, PartBreaks, SelectBreaks, CombinationBreaks, IsTable, IsUnknownColumn, IsOutOfScope, IsIllTyped, IsIllTypedClause, IsEmptyList, IsBool, IsSelected, LacksOn, FromLacksOn, Present, LacksNullable, CountsAggregate, HasTableMarks, FromHasMarks, bare}
 use Rattle.sql_rules.specs.Scope.{View, parts, Select, Combination, Clause, Place, in_selection, in_distinct_on, in_on, in_where, in_group_by, in_having, in_order_by, clauses, own, origins_of, leaves_of, nodes, widest, in_expr, in_maybe, in_from, in_distinct}

@@ -7,12 +7,12 @@ use Rattle.sql_schema.specs.declared.declaration.TableDecl.{TableDecl}
 use Rattle.sql_leaf.specs.declared.table_source.JoinKind.{JoinKind}
 use Rattle.sql_leaf.specs.declared.table_source.JoinKind.TheVariants.{Inner, LeftOuter}
 use Rattle.sql_node.specs.Tree.{Origin, Expr, MaybeExpr, an_expr, Source, of_table, of_alias, join}
-use Rattle.sql_source.specs.Leaves.{leaves, in_right_side}
-use Rattle.sql_source.specs.Origins.{a_table, an_alias}
+use Rattle.sql_origin.specs.Leaves.{leaves, in_right_side}
+use Rattle.sql_origin.specs.Origins.{a_table, an_alias}
 use Rattle.sql_schema.proofs.EqualityLaws.{exact-table}
-use Rattle.sql_source.proofs.OriginLaws.{same-origin_itself}
+use Rattle.sql_origin.proofs.OriginLaws.{same-origin_itself}
 use Rattle.sql_rules.specs.Lists.{Each}
-use Rattle.sql_source.proofs.OriginLaws.{table-decides}
+use Rattle.sql_origin.proofs.OriginLaws.{table-decides}
 use Rattle.sql_meaning.specs.Answers.{SourceRows, Holds, Joined, rows_as, is_partial, first_value}
 use Rattle.sql_meaning.specs.Frames.{Database, Frame, row_of, nulls}
 use Rattle.sql_tenant.specs.Restricted.{predicates, with_all, open_leaves, if_same, restricted_source}

@@ -8,7 +8,7 @@ use Rattle.sql_leaf.specs.declared.table_source.JoinKind.TheVariants.{Inner, Lef
 use Rattle.sql_node.specs.Tree.{Origin, Expr, joined, MaybeExpr, no_expr, an_expr, Source, of_table, of_alias, join, From, no_source, from, Statement, select, combination}
 use Rattle.sql_node.specs.Words.{And}
 use Rattle.sql_source.specs.Fields.{fields_in}
-use Rattle.sql_source.specs.Origins.{a_table, an_alias}
+use Rattle.sql_origin.specs.Origins.{a_table, an_alias}
 
 -- the predicate on the rows of the table, or of an alias of it, whose fields stand in place of the table's columns
 abbrev pub predicate_under : Expr → Option (List ℕ) → TableDecl → Expr

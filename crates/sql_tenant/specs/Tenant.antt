@@ -5,7 +5,7 @@ use Rattle.sql_schema.specs.Declarations.{Declarations}
 use Rattle.sql_schema.specs.declared.declaration.TableDecl.{TableDecl}
 use Rattle.sql_dialect.specs.declared.backend.Dialect.{Dialect}
 use Rattle.sql_node.specs.Tree.{Expr, column, value, count_star, count, exists, single, among_rows, an_expr, Statement}
-use Rattle.sql_source.specs.Origins.{a_table}
+use Rattle.sql_origin.specs.Origins.{a_table}
 use Rattle.sql_rules.specs.Lists.{Each}
 use Rattle.sql_rules.specs.Rules.{Broken, FromLacksOn, IsBool, IsColumn, Present}
 use Rattle.sql_rules.specs.Scope.{Part, a_select, a_combination, nodes, AnyExpr}

@@ -4,7 +4,7 @@ use Rattle.std.specs.List.{list_any}
 use Rattle.sql_schema.specs.Columns.{DeclaredColumn}
 use Rattle.sql_schema.specs.declared.declaration.TableDecl.{TableDecl}
 use Rattle.sql_schema.specs.Equality.{same_column}
-use Rattle.sql_source.specs.Origins.{a_table, same_origin}
+use Rattle.sql_origin.specs.Origins.{a_table, same_origin}
 use Rattle.sql_rules.specs.Types.{fits}
 use Rattle.sql_flat.specs.declared.kind.FlatKind.{FlatKind}
 use Rattle.sql_flat.specs.declared.kind.FlatKind.TheVariants as K

@@ -6,7 +6,7 @@ use Rattle.sql_schema.specs.Declarations.{Declarations}
 use Rattle.sql_schema.specs.Together.{may_stand_together}
 use Rattle.sql_schema.specs.declared.declaration.TableDecl.{TableDecl}
 use Rattle.sql_node.specs.Tree.{Origin}
-use Rattle.sql_source.specs.Origins.{same_origin}
+use Rattle.sql_origin.specs.Origins.{same_origin}
 
 -- whether a path of one name or two is the end of another
 abbrev pub path_ends : Option (List ℕ) → List ℕ → Option (List ℕ) → List ℕ → Bool

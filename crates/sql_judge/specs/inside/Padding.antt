@@ -5,7 +5,7 @@ use Rattle.std.specs.List.{list_any}
 use Rattle.sql_leaf.specs.declared.table_source.JoinKind.{JoinKind}
 use Rattle.sql_leaf.specs.declared.table_source.JoinKind.TheVariants.{Inner, LeftOuter}
 use Rattle.sql_node.specs.Tree.{Origin}
-use Rattle.sql_source.specs.Origins.{a_table, an_alias, same_origin}
+use Rattle.sql_origin.specs.Origins.{a_table, an_alias, same_origin}
 use Rattle.sql_rules.specs.Scope.{View}
 use Rattle.sql_flat.specs.declared.kind.FlatKind.{FlatKind}
 use Rattle.sql_flat.specs.declared.kind.FlatKind.TheVariants as K

@@ -1,7 +1,7 @@
 -- The stack of the loop for padded rows.
 use Rattle.std.specs.Prelude.{ℕ, List, Bool, map, reverse}
 use Rattle.sql_loops.specs.Backward.{before, run}
-use Rattle.sql_source.specs.Borrowed.{origin_of}
+use Rattle.sql_origin.specs.Borrowed.{origin_of}
 use Rattle.sql_flat.specs.declared.kind.FlatNode.{FlatNode}
 use Rattle.sql_judge.specs.inside.Lists.{kind_of, end_of}
 use Rattle.sql_judge.specs.inside.Padding.{Held, PaddedLeaf, holding, lacks_nullable}

@@ -2,7 +2,7 @@
 use Rattle.std.specs.Prelude.{[], ◌∷◌, ◌++◌, Bool, true, false}
 use Rattle.sql_rose.specs.Rose.{Roses}
 use Rattle.sql_loops.specs.Folds.{gathered_each}
-use Rattle.sql_source.specs.Origins.{a_table, an_alias}
+use Rattle.sql_origin.specs.Origins.{a_table, an_alias}
 use Rattle.sql_rules.specs.Scope.{View}
 use Rattle.sql_flat.specs.declared.kind.FlatKind.{FlatKind}
 use Rattle.sql_flat.specs.declared.kind.FlatKind.TheVariants as K

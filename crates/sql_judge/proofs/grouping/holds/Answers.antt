@@ -1,5 +1,5 @@
 use Rattle.std.proofs.Common.{inl, sym, ap, ◌∙◌, arith}
-use Rattle.sql_source.specs.Borrowed.{origin_of}
+use Rattle.sql_origin.specs.Borrowed.{origin_of}
 use Rattle.sql_rules.specs.Verdicts.{holds_column}
 use Rattle.sql_judge.proofs.GroupTurns.{fields-end, holds-later}
 use Rattle.sql_judge.proofs.grouping.holds.Goals as goal

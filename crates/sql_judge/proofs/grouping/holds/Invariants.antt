@@ -1,5 +1,5 @@
 use Rattle.std.proofs.Common.{◌≡◌, ◌-◌}
-use Rattle.sql_source.specs.Borrowed.{origin_of}
+use Rattle.sql_origin.specs.Borrowed.{origin_of}
 use Rattle.sql_rules.specs.Verdicts.{holds_column}
 use Rattle.sql_judge.specs.inside.Grouping.{fields_from}
 use Rattle.sql_judge.proofs.grouping.holds.Given as goal

@@ -1,6 +1,6 @@
 use Rattle.std.proofs.Common.{sym, ◌∙◌}
 use Rattle.std.proofs.lemmas.Bool.{false≢true}
-use Rattle.sql_source.specs.Borrowed.{origin_of}
+use Rattle.sql_origin.specs.Borrowed.{origin_of}
 use Rattle.sql_rules.specs.Rules.{Clash}
 use Rattle.sql_rules.proofs.Loops.{pair_map}
 use Rattle.sql_judge.specs.inside.Tables.{last_alike}

@@ -3,7 +3,7 @@ use Rattle.std.specs.Str.{bytes_eq}
 use Rattle.sql_schema.specs.inside.NameSets.{has_name}
 use Rattle.sql_schema.proofs.NameSets.{no-name, name-added}
 use Rattle.sql_schema.proofs.Repeats.{repeats-none, turn, found}
-use Rattle.sql_source.specs.Borrowed.{origin_of}
+use Rattle.sql_origin.specs.Borrowed.{origin_of}
 use Rattle.sql_judge.specs.inside.Ends.{last_under}
 use Rattle.sql_judge.specs.inside.Tables.{last_alike}
 use Rattle.sql_judge.proofs.Alike.{was-known, was-new}

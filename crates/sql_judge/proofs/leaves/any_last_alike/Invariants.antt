@@ -2,7 +2,7 @@ use Rattle.std.proofs.Common.{◌≡◌, drop}
 use Rattle.sql_schema.specs.Refusals.{any_two}
 use Rattle.sql_schema.specs.inside.NameSets.{has_name}
 use Rattle.sql_schema.proofs.Repeats.{repeats}
-use Rattle.sql_source.specs.Borrowed.{origin_of}
+use Rattle.sql_origin.specs.Borrowed.{origin_of}
 use Rattle.sql_judge.specs.inside.Ends.{last_under}
 use Rattle.sql_judge.specs.inside.Tables.{last_alike}
 use Rattle.sql_judge.proofs.leaves.any_last_alike.Given as goal

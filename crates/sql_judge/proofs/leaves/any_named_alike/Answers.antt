@@ -4,7 +4,7 @@ use Rattle.std.specs.Str.{bytes_eq}
 use Rattle.sql_schema.specs.inside.NameSets.{has_path}
 use Rattle.sql_schema.proofs.NameSets.{no-path, path-added, path-read}
 use Rattle.sql_schema.proofs.Repeats.{repeats-none, turn, found}
-use Rattle.sql_source.specs.Borrowed.{origin_of}
+use Rattle.sql_origin.specs.Borrowed.{origin_of}
 use Rattle.sql_judge.specs.inside.Tables.{named_alike}
 use Rattle.sql_judge.proofs.Alike.{was-known, was-new}
 use Rattle.sql_judge.proofs.leaves.any_named_alike.Goals as goal

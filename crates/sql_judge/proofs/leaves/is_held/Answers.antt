@@ -1,6 +1,6 @@
 use Rattle.std.proofs.Common.{ap, sym, ◌∙◌}
 use Rattle.std.specs.Option.{option_copied}
-use Rattle.sql_source.proofs.OriginLaws.{table-decides}
+use Rattle.sql_origin.proofs.OriginLaws.{table-decides}
 use Rattle.sql_judge.proofs.leaves.is_held.Goals as goal
 
 pub returns-in-Some : goal.returns-in-Some

@@ -1,6 +1,6 @@
 use Rattle.std.proofs.Common.{◌≡◌, ◌+◌, ◌++◌, [], ◌∷◌, map, take, refl, sym, ap, ◌∙◌, subst, inl}
 use Rattle.std.proofs.lemmas.List.{take_more}
-use Rattle.sql_source.specs.Borrowed.{origin_of}
+use Rattle.sql_origin.specs.Borrowed.{origin_of}
 use Rattle.sql_rules.specs.Lists.{AnyOf}
 use Rattle.sql_rules.proofs.Lists.{any_left, any_right}
 use Rattle.sql_rules.proofs.Loops.{here_any}

@@ -1,6 +1,6 @@
 use Rattle.std.proofs.Common.{◌≡◌, drop, map}
 use Rattle.std.specs.List.{list_any}
-use Rattle.sql_source.specs.Borrowed.{origin_of}
+use Rattle.sql_origin.specs.Borrowed.{origin_of}
 use Rattle.sql_judge.specs.inside.Sites.{is_alike}
 use Rattle.sql_judge.proofs.names.is_seen.Given as goal
 

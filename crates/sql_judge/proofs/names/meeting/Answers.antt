@@ -1,6 +1,6 @@
 use Rattle.std.proofs.Common.{ap, sym, ◌∙◌, arith}
-use Rattle.sql_source.specs.Borrowed.{origin_of}
-use Rattle.sql_source.specs.Origins.{same_origin}
+use Rattle.sql_origin.specs.Borrowed.{origin_of}
+use Rattle.sql_origin.specs.Origins.{same_origin}
 use Rattle.sql_judge.specs.inside.Ends.{leaves_clash, tables_part}
 use Rattle.sql_judge.proofs.OneLeaf.{pair-alone}
 use Rattle.sql_judge.proofs.names.meeting.Goals as goal

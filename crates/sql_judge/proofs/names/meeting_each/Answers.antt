@@ -1,6 +1,6 @@
 use Rattle.std.proofs.Common.{map}
 use Rattle.std.specs.Bool.{one_answer}
-use Rattle.sql_source.specs.Borrowed.{origin_of}
+use Rattle.sql_origin.specs.Borrowed.{origin_of}
 use Rattle.sql_judge.specs.inside.Sites.{is_ambiguous, is_apart, is_clashing}
 use Rattle.sql_judge.proofs.LeafPairs.{ambiguous-decides, apart-any, clash-any}
 use Rattle.sql_judge.proofs.names.meeting_each.Goals as goal

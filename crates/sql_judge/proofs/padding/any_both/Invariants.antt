@@ -1,7 +1,7 @@
 use Rattle.std.proofs.Common.{◌≡◌, ◌&&◌, drop, map}
 use Rattle.std.specs.List.{list_any}
-use Rattle.sql_source.specs.Borrowed.{origin_of}
-use Rattle.sql_source.specs.Origins.{same_origin}
+use Rattle.sql_origin.specs.Borrowed.{origin_of}
+use Rattle.sql_origin.specs.Origins.{same_origin}
 use Rattle.sql_judge.proofs.padding.any_both.Given as goal
 
 abbrev pub invariant-loop-other : goal.invariant-loop-other

@@ -1,5 +1,5 @@
 use Rattle.std.proofs.Common.{◌≡◌, drop, map}
-use Rattle.sql_source.specs.Borrowed.{origin_of}
+use Rattle.sql_origin.specs.Borrowed.{origin_of}
 use Rattle.sql_judge.specs.inside.Padding.{any_lacking}
 use Rattle.sql_judge.specs.inside.PaddingStacks.{leaf_of}
 use Rattle.sql_judge.proofs.padding.any_lacking.Given as goal

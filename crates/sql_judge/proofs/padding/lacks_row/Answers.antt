@@ -1,5 +1,5 @@
 use Rattle.std.proofs.Common.{◌≡◌, ◌&&◌, not, true, map, sym, ap, ◌∙◌}
-use Rattle.sql_source.specs.Borrowed.{origin_of}
+use Rattle.sql_origin.specs.Borrowed.{origin_of}
 use Rattle.sql_judge.specs.inside.Padding.{is_lacking, stands_twice}
 use Rattle.sql_judge.specs.inside.PaddingStacks.{leaf_of}
 use Rattle.sql_judge.proofs.PaddingStacking.{origins-of}

@@ -1,5 +1,5 @@
 use Rattle.std.proofs.Common.{refl}
-use Rattle.sql_source.specs.Borrowed.{origin_of}
+use Rattle.sql_origin.specs.Borrowed.{origin_of}
 use Rattle.sql_rules.proofs.Loops.{here_any}
 use Rattle.sql_judge.proofs.pair.any_right.Goals as goal
 

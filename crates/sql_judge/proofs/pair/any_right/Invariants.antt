@@ -1,5 +1,5 @@
 use Rattle.std.proofs.Common.{drop, map}
-use Rattle.sql_source.specs.Borrowed.{origin_of}
+use Rattle.sql_origin.specs.Borrowed.{origin_of}
 use Rattle.sql_rules.specs.Lists.{AnyOf}
 use Rattle.sql_judge.proofs.pair.any_right.Given as goal
 

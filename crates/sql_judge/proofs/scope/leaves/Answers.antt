@@ -1,6 +1,6 @@
 use Rattle.std.proofs.Common.{◌≤◌, ◌⊎◌, ◌++◌, ◌∙◌, ap, sym, map, length, append-nil, arith}
 use Rattle.std.proofs.lemmas.Grind.{common_steps}
-use Rattle.sql_source.specs.Borrowed.{origin_of}
+use Rattle.sql_origin.specs.Borrowed.{origin_of}
 use Rattle.sql_judge.proofs.Opening.{leaves-turn, leaves-end}
 use Rattle.sql_judge.proofs.scope.leaves.Goals as goal
 

@@ -1,5 +1,5 @@
 use Rattle.std.proofs.Common.{◌≡◌, ◌-◌, ◌++◌, map}
-use Rattle.sql_source.specs.Borrowed.{origin_of}
+use Rattle.sql_origin.specs.Borrowed.{origin_of}
 use Rattle.sql_judge.specs.inside.Walks.{leaves_from}
 use Rattle.sql_judge.proofs.scope.leaves.Given as goal
 

@@ -1,6 +1,6 @@
 use Rattle.std.proofs.Common.{◌≡◌, ◌++◌, drop, map}
 use Rattle.sql_node.specs.View.{expr_tree}
-use Rattle.sql_source.specs.Borrowed.{origin_of}
+use Rattle.sql_origin.specs.Borrowed.{origin_of}
 use Rattle.sql_select.specs.Finding.{columns_named}
 use Rattle.sql_select.proofs.find.key_columns.Given as goal
 

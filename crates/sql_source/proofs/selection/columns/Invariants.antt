@@ -1,7 +1,7 @@
 use Rattle.std.proofs.Common.{◌≡◌, ◌++◌, map}
 use Rattle.sql_node.specs.View.{expr_tree}
-use Rattle.sql_source.specs.Borrowed.{origin_of}
-use Rattle.sql_source.specs.Origins.{column_under}
+use Rattle.sql_origin.specs.Borrowed.{origin_of}
+use Rattle.sql_origin.specs.Origins.{column_under}
 use Rattle.sql_source.specs.Selections.{origin_columns}
 use Rattle.sql_source.proofs.selection.columns.Given as goal
 

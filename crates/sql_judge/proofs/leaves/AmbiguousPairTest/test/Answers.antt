@@ -1,4 +1,4 @@
-use Rattle.sql_source.specs.Borrowed.{origin_of}
+use Rattle.sql_origin.specs.Borrowed.{origin_of}
 use Rattle.sql_rules.proofs.Tests.{origin-test}
 use Rattle.sql_judge.proofs.leaves.AmbiguousPairTest.test.Goals as goal
 

@@ -1,5 +1,5 @@
 use Rattle.std.proofs.lemmas.Bool.Decides.{Decides-at}
-use Rattle.sql_source.specs.Borrowed.{origin_of}
+use Rattle.sql_origin.specs.Borrowed.{origin_of}
 use Rattle.sql_judge.proofs.Clashes.{apart-decides}
 use Rattle.sql_judge.proofs.leaves.NotTogetherPairTest.test.Goals as goal
 

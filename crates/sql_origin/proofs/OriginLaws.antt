@@ -14,7 +14,7 @@ use Rattle.sql_schema.proofs.EqualityLaws.{exact-table, equal-columns, equal-tab
 use Rattle.sql_schema.proofs.Exact.{IsExact, exact-option}
 use Rattle.sql_schema.proofs.ExactTypes.{exact-text}
 use Rattle.sql_node.specs.Tree.{Origin}
-use Rattle.sql_source.specs.Origins.{same_origin}
+use Rattle.sql_origin.specs.Origins.{same_origin}
 
 -- ---- the same is equal
 

@@ -3,7 +3,7 @@ use Rattle.std.specs.Prelude.{ℕ, suc, List, [], ◌∷◌, ◌++◌, map, Bool
 use Rattle.sql_leaf.specs.declared.table_source.JoinKind.{JoinKind}
 use Rattle.sql_leaf.specs.declared.table_source.JoinKind.TheVariants.{Inner, LeftOuter}
 use Rattle.sql_node.specs.Tree.{Origin, Source, of_table, of_alias, join}
-use Rattle.sql_source.specs.Origins.{a_table, an_alias}
+use Rattle.sql_origin.specs.Origins.{a_table, an_alias}
 
 pub record Leaf : Type 0 where
   -- what it is; two leaves have one source where their origins are equal

@@ -3,8 +3,8 @@
 ghost use Rattle.std.specs.Prelude.{◌≡◌, IfOk};
 ghost use Rattle.sql_schema.specs.Equality.{same_table as one_table};
 ghost use Rattle.sql_node.specs.View.{expr_tree};
-ghost use Rattle.sql_source.specs.Borrowed.{origin_of};
-ghost use Rattle.sql_source.specs.Origins.{a_table, an_alias, column_under, field_origin, same_origin};
+ghost use Rattle.sql_origin.specs.Borrowed.{origin_of};
+ghost use Rattle.sql_origin.specs.Origins.{a_table, an_alias, column_under, field_origin, same_origin};
 
 use sql_leaf::{Alias, AliasedField};
 use sql_node::Expr;
@@ -20,7 +20,7 @@ pub struct Origin<'s> {
 }
 
 /// Whether both are of one declaration.
-pub(crate) fn same_table(one: &Table, other: &Table) -> bool
+pub fn same_table(one: &Table, other: &Table) -> bool
     ensures { result ≡ one_table one.now other.now }
 {
     let (schema, sql_name) = one.path();
