@@ -37,14 +37,16 @@ INNER: dict[str, set[str]] = {
     "sql_resolution": {"Meaning", "Resolution", "resolve"},
     # the brackets of conditions
     "sql_leaf": {"condition_close", "condition_open"},
+    # parts of sources and of shapes
+    "sql_origin": {"same_table"},
+    "sql_shape": {"statement_leaves_id"},
     # lists of nodes, and loops over them
     "sql_rose": {"*"},
     "sql_loops": {"*"},
     # parts of `compile`, `restrict` and of keys
     "sql_fused": {"Fused", "write_flat"},
-    "sql_judge": {"Judgement", "broken_but_the_last", "judge"},
+    "sql_judge": {"Judgement", "any_lacks_on", "broken_but_the_last", "is_condition_of", "judge"},
     "sql_key": {"erased_kind"},
-    "sql_places": {"*"},
     "sql_types": {"*"},
     # parts of `run`
     "sql_audit_output": {"*"},
