@@ -86,7 +86,6 @@ pub use Rattle.sql_flat.specs.Flat as FlatLists
 pub use Rattle.sql_flat.specs.declared.kind.FlatKind
 pub use Rattle.sql_flat.specs.declared.kind.FlatNode
 pub use Rattle.sql_rose.specs.Rose
-pub use Rattle.sql_shape.specs.Expressions as ExpressionKeys
 pub use Rattle.sql_shape.specs.Ids
 pub use Rattle.sql_key.specs.Keys
 pub use Rattle.sql_shape.specs.Shape

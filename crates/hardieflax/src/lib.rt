@@ -73,8 +73,8 @@ pub use sql_unflat::Unflatten;
 
 // Keys: by what a cache knows a statement.
 pub use sql_key::{
-    QueryId, QueryKey, compared_keys_are_equal_keys, equal_expression_keys_are_equal_shapes,
-    equal_keys_are_equal_shapes, equal_keys_hash_alike, expression_key, flat_query_id,
+    QueryId, QueryKey, compared_keys_are_equal_keys, equal_keys_are_equal_shapes,
+    equal_keys_hash_alike, flat_query_id,
 };
 pub use sql_shape::equal_shapes_have_ids_alike;
 

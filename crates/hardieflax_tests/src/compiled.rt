@@ -6,7 +6,6 @@ ghost use Rattle.hardieflax.specs.Compiled.{IsBuilt, IsLeast, IsRead};
 ghost use Rattle.hardieflax.specs.Dialect.TheVariants.{Pg as PgDialect};
 ghost use Rattle.hardieflax.specs.Entries.{IsNext};
 ghost use Rattle.hardieflax.specs.Errors.{rule_of};
-ghost use Rattle.hardieflax.specs.ExpressionKeys.{expr_key};
 ghost use Rattle.hardieflax.specs.Fitting.{values_fit as values_fit_in};
 ghost use Rattle.hardieflax.specs.FlatLists.{expr_rose, flat_node, flat_of};
 ghost use Rattle.hardieflax.specs.Fused.{IsFused};
@@ -29,7 +28,7 @@ use hardieflax::{
     Backend, BindError, Built, CompileError, Dialect, Expr, Flat, FlatNode, FusedAnswer, Names,
     NoMemory, Pg, QueryId, QueryKey, Rule, Schema, Statement, StatementCache, Steps, Unflatten,
     broken, built_statements_know_their_names, compile, compile_by, compile_flat_by, compile_sound,
-    compile_sound_by, expression_key, expression_nodes, flat_query_id, flatten, fused, values_fit,
+    compile_sound_by, expression_nodes, flat_query_id, flatten, fused, values_fit,
 };
 use std::alloc::Global;
 use std::sync::ledger::Ledger;
@@ -180,13 +179,6 @@ pub fn list_key(alloc: Global, list: &Flat) -> Result<Option<QueryKey>, NoMemory
     ensures { IfOk result (λ k. (s : tree.Statement) → list.now ≡ flat_of s → k ≡ id_of s) }
 {
     flat_query_id(alloc, list)
-}
-
-/// The key of an expression as it stands.
-pub fn key(alloc: Global, expr: &Expr) -> Result<QueryKey, NoMemory>
-    ensures { IfOk result (λ k. k ≡ expr_key (under 0 (expr_tree expr.now))) }
-{
-    expression_key(alloc, 0, expr)
 }
 
 /// The nodes of an expression as it stands.

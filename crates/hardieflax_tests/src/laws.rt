@@ -5,9 +5,9 @@ use hardieflax::{
     accepted_values_fit, answered_pairs_come_first, boxing_takes_the_id_alone,
     built_statements_know_their_names, calls_are_answered_alone, compared_keys_are_equal_keys,
     counts_add_up, different_expressions_have_different_lists,
-    different_statements_have_different_lists, equal_expression_keys_are_equal_shapes, equal_ids,
-    equal_keys_are_equal_shapes, equal_keys_hash_alike, equal_shapes_have_ids_alike,
-    equality_is_equality, fields_of_the_table_alone, fields_twice_as_once, filled_by_values,
+    different_statements_have_different_lists, equal_ids, equal_keys_are_equal_shapes,
+    equal_keys_hash_alike, equal_shapes_have_ids_alike, equality_is_equality,
+    fields_of_the_table_alone, fields_twice_as_once, filled_by_values,
     filter_and_then_order_by_append, first_is_any, inner_joins_pad_nothing, joined_texts,
     last_writer_is_an_answer, leaves_no_trace, left_join_has_two_answers,
     list_lengths_can_be_exchanged, lists_are_flat, names_one_leaf, needs_nullable_is_needed,
@@ -56,7 +56,6 @@ pub fn laws_of_keys() {
     different_expressions_have_different_lists();
     different_statements_have_different_lists();
     compared_keys_are_equal_keys();
-    equal_expression_keys_are_equal_shapes();
     equal_keys_are_equal_shapes();
     equal_keys_hash_alike();
     equal_shapes_have_ids_alike();

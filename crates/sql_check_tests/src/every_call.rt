@@ -10,7 +10,7 @@ use sql_expr::{Expr, ExpressionMethods, Statement};
 use sql_fixture::{INTEGER, beside, is, schema};
 use sql_flat::{expression_nodes, flatten};
 use sql_judge::{Names, is_condition_of, judge};
-use sql_key::{QueryId, QueryKey, expression_key};
+use sql_key::{QueryId, QueryKey};
 use sql_rows::{StatementCache, compile_sound};
 use sql_schema::Schema;
 use sql_select::Query;
@@ -38,11 +38,7 @@ fn key(alloc: Global) -> Result<Option<QueryKey>, Fail> {
 
 fn keys(alloc: Global) -> Result<(), Fail> {
     let first = key(alloc)?;
-    is(first.is_some() && first == key(alloc)?, "one key")?;
-    is(
-        expression_key(alloc, 0, &one(alloc)?)? == expression_key(alloc, 0, &one(alloc)?)?,
-        "one key of an expression",
-    )
+    is(first.is_some() && first == key(alloc)?, "one key")
 }
 
 fn equal(alloc: Global) -> Result<Expr, Fail> {

@@ -23,7 +23,7 @@ use Rattle.sql_flat.specs.declared.kind.FlatNode.{FlatNode}
 use Rattle.sql_flat.specs.declared.kind.Selecting.{Selecting}
 use Rattle.sql_shape.specs.Expressions.{expr_shape}
 use Rattle.sql_key.specs.Blank.{blank_kind}
-use Rattle.sql_key.specs.inside.Thin.{goes, swept}
+use Rattle.sql_key.specs.inside.Swept.{goes, swept}
 use Rattle.sql_key.proofs.ExactNodes.{same-key}
 use Rattle.sql_key.proofs.Sweeping.{expr-swept}
 use Rattle.sql_flat.specs.Flat.{flat_node}

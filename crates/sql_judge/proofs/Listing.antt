@@ -3,7 +3,7 @@ use Rattle.std.proofs.Common.{◌≡◌, ℕ, ◌+◌, ◌<◌, Bool, true, fals
 use Rattle.sql_rose.specs.Rose.{Rose, node, Roses, none, more, joined}
 use Rattle.sql_flat.specs.declared.kind.FlatKind.{FlatKind}
 use Rattle.sql_key.specs.Blank.{blank_kind}
-use Rattle.sql_key.specs.inside.Thin.{is_element, swept, swept_each}
+use Rattle.sql_key.specs.inside.Swept.{is_element, swept, swept_each}
 use Rattle.sql_judge.specs.declared.order.Standing.{Standing}
 use Rattle.sql_judge.specs.declared.order.Standing.TheVariants.{Over, Within}
 use Rattle.sql_judge.specs.inside.Words.{Word, words, words_each}

@@ -9,7 +9,7 @@ ghost use Rattle.sql_node.specs.Tree.{Statement};
 ghost use Rattle.sql_rules.specs.Rules.{Broken};
 ghost use Rattle.sql_rules.specs.declared.rule.Rule.TheVariants as rule;
 ghost use Rattle.sql_flat.specs.Flat.{flat_of};
-ghost use Rattle.sql_key.specs.inside.Thin.{is_element as kind_is_element};
+ghost use Rattle.sql_key.specs.inside.Swept.{is_element as kind_is_element};
 ghost use Rattle.sql_judge.specs.inside.Ahead.{any_ahead};
 ghost use Rattle.sql_judge.specs.inside.Walks.{option_list};
 ghost use Rattle.sql_judge.specs.inside.Words.{begins_inner as begins, below as stands_below, clash, clause_words as words_of_clause, disordered_at, entered, innermost as innermost_of, is_clause as kind_is_clause, is_distinct_on as kind_is_distinct_on, is_group as kind_is_group, is_inner as stands_inner, is_nullable as kind_is_nullable, is_order_by as kind_is_order_by, is_ordered as selects_ordered, is_silent as kind_is_silent, nest_of, same_standing, same_word, still_open, word_at, word_of, words_from};

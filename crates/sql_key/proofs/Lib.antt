@@ -3,4 +3,3 @@ pub mod Identified
 pub mod Mapping
 pub mod Shapes
 pub mod Sweeping
-pub mod Thinning

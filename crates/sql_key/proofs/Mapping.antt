@@ -10,7 +10,7 @@ use Rattle.std.proofs.Common.{map, List, []}
 use Rattle.sql_shape.specs.Shape.{nulls, shape}
 use Rattle.sql_key.specs.Keys.{key}
 use Rattle.sql_key.specs.Blank.{blank_kind, blank_node}
-use Rattle.sql_key.specs.inside.Thin.{goes, swept, swept_each}
+use Rattle.sql_key.specs.inside.Swept.{goes, swept, swept_each}
 use Rattle.sql_key.proofs.Sweeping.{statement-swept}
 
 none-goes : (k : FlatKind) → goes true k ≡ false

@@ -12,7 +12,7 @@ use Rattle.sql_flat.specs.declared.kind.FlatKind.TheVariants as K
 use Rattle.sql_flat.specs.declared.kind.Uniqueness.{Uniqueness}
 use Rattle.sql_shape.specs.Shape.{blank_rows, erased_expr, erased_exprs, erased_items, erased_maybe, erased_source, erased_from, erased_distinct, erased_order, erased}
 use Rattle.sql_key.specs.Blank.{blank_kind}
-use Rattle.sql_key.specs.inside.Thin.{many, swept, swept_each}
+use Rattle.sql_key.specs.inside.Swept.{many, swept, swept_each}
 
 elements-swept : (lists : Bool) (t : SqlType) (vs : List Value)
     → swept_each lists (roses_of (λ v. leaf (K.Element t v)) vs) ≡ roses_of (λ v. leaf (K.Element t v)) (many lists vs)

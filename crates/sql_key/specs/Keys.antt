@@ -1,10 +1,8 @@
 -- What a key holds: the flat list of the statement's shape, which is the statement's flat list with its values erased.
-use Rattle.std.specs.Prelude.{List, [], Option, None, Some, if◌then◌else◌}
-use Rattle.sql_node.specs.Tree.{Expr, Statement}
-use Rattle.sql_rose.specs.Rose.{flat}
-use Rattle.sql_flat.specs.Flat.{expr_rose, flat_node, flat_of}
+use Rattle.std.specs.Prelude.{List, Option, None, Some, if◌then◌else◌}
+use Rattle.sql_node.specs.Tree.{Statement}
+use Rattle.sql_flat.specs.Flat.{flat_of}
 use Rattle.sql_flat.specs.declared.kind.FlatNode.{FlatNode}
-use Rattle.sql_shape.specs.Expressions.{expr_shape}
 use Rattle.sql_shape.specs.Ids.{has_id}
 use Rattle.sql_shape.specs.Shape.{shape}
 
@@ -14,7 +12,3 @@ key s = flat_of (shape s)
 -- the key of a statement that has an id
 abbrev pub id_of : Statement → Option (List FlatNode)
 id_of s = if has_id s then Some (key s) else None
-
--- the key of an expression: lists of values are alike whatever their lengths
-abbrev pub expr_key : Expr → List FlatNode
-expr_key e = flat flat_node 0 (expr_rose (expr_shape e)) []

@@ -1,3 +1,3 @@
 -- Devices: lists without the values of lists, and which nodes leave a statement its id.
 pub mod Kept
-pub mod Thin
+pub mod Swept

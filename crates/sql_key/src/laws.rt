@@ -1,8 +1,7 @@
 ghost use Rattle.std.specs.Prelude.{◌≡◌, ◌↔◌, List, true};
-ghost use Rattle.sql_node.specs.Tree.{Expr, Statement};
-ghost use Rattle.sql_shape.specs.Expressions.{expr_shape};
+ghost use Rattle.sql_node.specs.Tree.{Statement};
 ghost use Rattle.sql_shape.specs.Shape.{shape};
-ghost use Rattle.sql_key.specs.Keys.{expr_key, key};
+ghost use Rattle.sql_key.specs.Keys.{key};
 ghost use Rattle.sql_flat.specs.declared.kind.FlatNode.{FlatNode};
 
 use crate::QueryKey;
@@ -26,10 +25,4 @@ pub fn compared_keys_are_equal_keys()
 pub fn equal_keys_hash_alike()
     ensures { (a b : List FlatNode) → ⟦<QueryKey as PartialEq>⟧.eq a b ≡ true
         → ⟦<QueryKey as Hash>⟧.hash_input a ≡ ⟦<QueryKey as Hash>⟧.hash_input b }
-{}
-
-/// Two expressions have equal keys exactly where they are one expression but for values and the lengths of lists of values.
-#[tactic(auto, using(crate::proofs::Shapes::expressions))]
-pub fn equal_expression_keys_are_equal_shapes()
-    ensures { (a b : Expr) → (expr_key a ≡ expr_key b) ↔ (expr_shape a ≡ expr_shape b) }
 {}

@@ -2,16 +2,11 @@
 #![tactic(auto)]
 
 mod erased;
-mod expression;
 mod id;
 mod key;
 mod laws;
 
 pub use erased::erased_kind;
-pub use expression::expression_key;
 pub use id::{QueryId, flat_query_id};
 pub use key::QueryKey;
-pub use laws::{
-    compared_keys_are_equal_keys, equal_expression_keys_are_equal_shapes,
-    equal_keys_are_equal_shapes, equal_keys_hash_alike,
-};
+pub use laws::{compared_keys_are_equal_keys, equal_keys_are_equal_shapes, equal_keys_hash_alike};

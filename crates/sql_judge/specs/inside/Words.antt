@@ -11,7 +11,7 @@ use Rattle.sql_flat.specs.declared.kind.Selecting.{Selecting}
 use Rattle.sql_flat.specs.declared.kind.Uniqueness.{Uniqueness}
 use Rattle.sql_flat.specs.declared.kind.Uniqueness.TheVariants as unique
 use Rattle.sql_key.specs.Blank.{blank_kind}
-use Rattle.sql_key.specs.inside.Thin.{is_element}
+use Rattle.sql_key.specs.inside.Swept.{is_element}
 use Rattle.sql_judge.specs.inside.Shapes.{same_kind}
 use Rattle.sql_judge.specs.declared.order.Clause.{Clause}
 use Rattle.sql_judge.specs.declared.order.Clause.TheVariants as clause
