@@ -191,9 +191,9 @@ nested 5000 | sed 's/\$1/foo/' >"$work/word"
 run read Pg <"$work/word"
 check 'a deep text with a word of its own' writes "$work/line"
 {
-    printf '{"schema":{"tables":[{"name":"foo","columns":[{"name":"id","type":"Integer"}]}]},"texts":["SELECT \\"id\\" FROM \\"foo\\"","'
+    printf '{"schema":{"tables":[{"name":"foo","columns":[{"name":"id","type":"Integer"}]}]},"texts":["SELECT \\"foo\\".\\"id\\" FROM \\"foo\\"","'
     head -c 5000 "$work/open"
-    printf '","SELECT \\"id\\" FROM \\"foo\\""]}'
+    printf '","SELECT \\"foo\\".\\"id\\" FROM \\"foo\\""]}'
 } >"$work/texts"
 run audit Pg <"$work/texts"
 is_between() { ended 0 '' && [ "$(wc -l <"$work/out")" = 3 ] && [ "$(grep -n NotInGrammar "$work/out" | cut -d: -f1)" = 2 ]; }
