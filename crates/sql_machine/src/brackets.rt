@@ -9,11 +9,13 @@ use crate::discard::{
     discard, discard_expression, discard_items, discard_right, discard_source, give_up,
 };
 use crate::entry::{Clauses, Entry, Items, Right, Stack};
-use crate::list::{first, group, item, marks, more, names_in, one, order};
+use crate::list::{first, group, item, marks, more, one, order};
 use crate::parts::take_clauses;
 use sql_dialect::NoMemory;
 use sql_lexer::Token;
-use sql_tree::{Direction, Expression, JoinKind, Page, Place, Query, Sample, SetOperator, Source};
+use sql_tree::{
+    Direction, Expression, JoinKind, Page, Place, Query, Sample, SetOperator, Source, names_in,
+};
 use std::alloc::Global;
 
 #[tactic(auto, unfolding(sql_grammar::proofs::Machine::source_item))]

@@ -7,11 +7,13 @@ ghost use Rattle.sql_machine.specs.View.{stack_of};
 
 use crate::discard::{discard, discard_expression, give_up};
 use crate::entry::{Entry, Right, Stack};
-use crate::list::{first, group, mark_in, order, placed, query_in};
+use crate::list::{first, group, mark_in, order, placed};
 use crate::parts::{take_clauses, take_items, take_places, take_seed};
 use sql_dialect::NoMemory;
 use sql_lexer::Token;
-use sql_tree::{Expression, Lock, LockMode, LockWait, Mark, Page, Query, Sample, SampleMethod};
+use sql_tree::{
+    Expression, Lock, LockMode, LockWait, Mark, Page, Query, Sample, SampleMethod, query_in,
+};
 use std::alloc::Global;
 
 #[tactic(auto, unfolding(sql_grammar::proofs::Machine::where_by))]

@@ -1,14 +1,13 @@
-ghost use Rattle.std.specs.Prelude.{◌≡◌, ◌++◌, [], ◌∷◌, ℕ, List, Bool, None, map, reverse, string_bytes, IfOk, OnOk};
-ghost use Rattle.std.specs.Option.{option_map};
+ghost use Rattle.std.specs.Prelude.{◌≡◌, ◌++◌, ◌∷◌, ℕ, List, Bool, None, map, reverse, IfOk, OnOk};
 ghost use Rattle.sql_grammar.proofs.Machine as m;
 ghost use Rattle.sql_grammar.specs.MarkTree as t;
-ghost use Rattle.sql_tree.specs.View.{expression_tree, item_tree, query_tree, place_of, direction_of, expressions_of, group_of, order_of, by_places_of};
+ghost use Rattle.sql_tree.specs.View.{expression_tree, item_tree, place_of, direction_of, expressions_of, group_of, order_of, by_places_of};
 ghost use Rattle.sql_machine.specs.View.{items_seen, places_seen};
 
 use crate::discard::{discard_expression, discard_list};
 use crate::entry::{Items, Places};
 use sql_dialect::NoMemory;
-use sql_tree::{Direction, Expression, Item, Mark, Names, Place, Query};
+use sql_tree::{Direction, Expression, Item, Mark, Place};
 use std::alloc::Global;
 
 /// An item of an expression and a direction.
@@ -60,68 +59,6 @@ pub fn mark_in(e: Expression) -> Mark
     let mark = mark_of(&e);
     discard_expression(e);
     mark
-}
-
-fn no_names(alloc: Global, e: Expression) -> Names
-    ensures { result ≡ record { first = []; more = [] } }
-{
-    discard_expression(e);
-    Names::new(alloc, String::new(alloc))
-}
-
-/// The names of a path, where the expression is one.
-#[tactic(auto, unfolding(sql_grammar::proofs::Machine::name_in, sql_grammar::proofs::Machine::names_in))]
-pub fn names_in(alloc: Global, e: Expression) -> Names
-    ensures { result
-        ≡ record { first = m.name_in (expression_tree e); more = m.names_in (expression_tree e) } }
-{
-    match e {
-        Expression::Path(names) => names,
-        Expression::Placeholder(mark) => no_names(alloc, Expression::Placeholder(mark)),
-        Expression::SingleValue(q) => no_names(alloc, Expression::SingleValue(q)),
-        Expression::Exists(q) => no_names(alloc, Expression::Exists(q)),
-        Expression::Compared(by, a, b) => no_names(alloc, Expression::Compared(by, a, b)),
-        Expression::Connected(by, a, b) => no_names(alloc, Expression::Connected(by, a, b)),
-        Expression::Not(a) => no_names(alloc, Expression::Not(a)),
-        Expression::NullTest(negated, a) => no_names(alloc, Expression::NullTest(negated, a)),
-        Expression::CountAll => no_names(alloc, Expression::CountAll),
-        Expression::Count(a) => no_names(alloc, Expression::Count(a)),
-        Expression::InList(negated, a, m, ms) => no_names(
-            alloc,
-            Expression::InList(negated, a, m, ms),
-        ),
-        Expression::InQuery(negated, a, q) => no_names(alloc, Expression::InQuery(negated, a, q)),
-        Expression::Constant(b) => no_names(alloc, Expression::Constant(b)),
-    }
-}
-
-fn no_query(e: Expression) -> Option<Box<Query>>
-    ensures { result ≡ None }
-{
-    discard_expression(e);
-    None
-}
-
-/// The query, where the expression is the single value of one.
-#[tactic(auto, unfolding(sql_grammar::proofs::Machine::query_in))]
-pub fn query_in(e: Expression) -> Option<Box<Query>>
-    ensures { option_map (λ q. query_tree q.value) result ≡ m.query_in (expression_tree e) }
-{
-    match e {
-        Expression::SingleValue(q) => Some(q),
-        Expression::Path(names) => no_query(Expression::Path(names)),
-        Expression::Placeholder(mark) => no_query(Expression::Placeholder(mark)),
-        Expression::Exists(q) => no_query(Expression::Exists(q)),
-        Expression::Compared(by, a, b) => no_query(Expression::Compared(by, a, b)),
-        Expression::Connected(by, a, b) => no_query(Expression::Connected(by, a, b)),
-        Expression::Not(a) => no_query(Expression::Not(a)),
-        Expression::NullTest(negated, a) => no_query(Expression::NullTest(negated, a)),
-        Expression::CountAll => no_query(Expression::CountAll),
-        Expression::Count(a) => no_query(Expression::Count(a)),
-        Expression::InList(negated, a, m, ms) => no_query(Expression::InList(negated, a, m, ms)),
-        Expression::InQuery(negated, a, q) => no_query(Expression::InQuery(negated, a, q)),
-        Expression::Constant(b) => no_query(Expression::Constant(b)),
-    }
 }
 
 /// A list of one item.

@@ -7,11 +7,11 @@ ghost use Rattle.sql_machine.specs.View.{stack_of, right_of};
 
 use crate::discard::{discard, discard_expression, discard_items, give_up};
 use crate::entry::{Entry, Right, Stack};
-use crate::list::{first, names_in, query_in};
+use crate::list::first;
 use crate::parts::{take_items, take_name, take_places, take_wait};
 use sql_dialect::NoMemory;
 use sql_lexer::{Comparison, Token};
-use sql_tree::{Expression, LockMode, Logic, Names, Query};
+use sql_tree::{Expression, LockMode, Logic, Names, Query, names_in, query_in};
 use std::alloc::Global;
 
 #[tactic(auto, unfolding(sql_grammar::proofs::Machine::quoted))]

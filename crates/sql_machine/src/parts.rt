@@ -4,7 +4,7 @@ ghost use Rattle.sql_tree.specs.View.{logic_of, direction_of, kind_of, operator_
 ghost use Rattle.sql_machine.specs.View.{stack_of, items_seen, places_seen, clauses_of, Took};
 
 use crate::entry::{Clauses, Entry, Items, Places, Stack};
-use crate::list::{item, more, names_in, one};
+use crate::list::{item, more, one};
 use sql_dialect::NoMemory;
 use sql_tree::{Direction, Expression, Lock, LockWait, Mark, Names, Page, Place, Sample, Source};
 use std::alloc::Global;

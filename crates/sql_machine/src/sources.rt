@@ -1,15 +1,18 @@
-ghost use Rattle.std.specs.Prelude.{◌≡◌, ◌∷◌, [], OnOk, IfOk, false};
+ghost use Rattle.std.specs.Prelude.{◌≡◌, ◌∷◌, [], OnOk, IfOk, IfSome, false};
 ghost use Rattle.sql_grammar.proofs.Machine as m;
 ghost use Rattle.sql_grammar.specs.MarkTree as t;
-ghost use Rattle.sql_tree.specs.View.{kind_of, operator_of, expression_tree, source_tree, distinctness_tree};
+ghost use Rattle.sql_tree.specs.View.{kind_of, operator_of, expression_tree, source_tree, distinctness_tree, query_tree};
 ghost use Rattle.sql_machine.specs.View.{stack_of, items_seen, Took};
 
 use crate::discard::{discard, discard_expression, discard_source, give_up};
 use crate::entry::{Clauses, Entry, Items, Right, Stack};
-use crate::list::{expressions, first, group, names_in, order, query_in};
+use crate::list::{expressions, first, group, order};
 use crate::parts::{take_clauses, take_items, take_name};
 use sql_dialect::NoMemory;
-use sql_tree::{Distinctness, Expression, JoinKind, Names, Query, Sample, SetOperator, Source};
+use sql_tree::{
+    Distinctness, Expression, JoinKind, Names, Query, Sample, SetOperator, Source, names_in,
+    query_in,
+};
 use std::alloc::Global;
 
 /// The source at the top, with what stands after it.
@@ -105,44 +108,38 @@ fn from_table(alloc: Global, stack: &mut Stack, e: Expression) -> Result<(), NoM
     Ok(())
 }
 
+fn from_query(stack: &mut Stack, q: Option<Box<Query>>) -> Result<(), NoMemory>
+    ensures { IfSome q (λ q. OnOk result (stack_of stack.new
+        ≡ m.FromQuery (query_tree q.value) ∷ stack_of stack.old)) }
+{
+    match q {
+        Some(q) => {
+            stack.push(Entry::FromQuery(q))?;
+            Ok(())
+        }
+        None => Ok(()),
+    }
+}
+
 #[tactic(auto, unfolding(sql_grammar::proofs::Machine::from_expression))]
 fn from_expression(alloc: Global, stack: &mut Stack, e: Expression) -> Result<(), NoMemory>
     ensures { OnOk result (stack_of stack.new
         ≡ m.from_expression (expression_tree e) (stack_of stack.old)) }
 {
-    match e {
-        Expression::SingleValue(q) => {
-            stack.push(Entry::FromQuery(q))?;
-            Ok(())
-        }
-        Expression::Path(names) => from_table(alloc, stack, Expression::Path(names)),
-        Expression::Placeholder(mark) => from_table(alloc, stack, Expression::Placeholder(mark)),
-        Expression::Exists(q) => from_table(alloc, stack, Expression::Exists(q)),
-        Expression::Compared(by, a, b) => from_table(alloc, stack, Expression::Compared(by, a, b)),
-        Expression::Connected(by, a, b) => from_table(
-            alloc,
-            stack,
-            Expression::Connected(by, a, b),
-        ),
-        Expression::Not(a) => from_table(alloc, stack, Expression::Not(a)),
-        Expression::NullTest(negated, a) => from_table(
-            alloc,
-            stack,
-            Expression::NullTest(negated, a),
-        ),
-        Expression::CountAll => from_table(alloc, stack, Expression::CountAll),
-        Expression::Count(a) => from_table(alloc, stack, Expression::Count(a)),
-        Expression::InList(negated, a, m, ms) => from_table(
-            alloc,
-            stack,
-            Expression::InList(negated, a, m, ms),
-        ),
-        Expression::InQuery(negated, a, q) => from_table(
-            alloc,
-            stack,
-            Expression::InQuery(negated, a, q),
-        ),
-        Expression::Constant(b) => from_table(alloc, stack, Expression::Constant(b)),
+    match &e {
+        Expression::SingleValue(_) => from_query(stack, query_in(e)),
+        Expression::Path(_)
+        | Expression::Placeholder(_)
+        | Expression::Exists(_)
+        | Expression::Compared(_, _, _)
+        | Expression::Connected(_, _, _)
+        | Expression::Not(_)
+        | Expression::NullTest(_, _)
+        | Expression::CountAll
+        | Expression::Count(_)
+        | Expression::InList(_, _, _, _)
+        | Expression::InQuery(_, _, _)
+        | Expression::Constant(_) => from_table(alloc, stack, e),
     }
 }
 

@@ -4,11 +4,13 @@
 
 mod count;
 mod names;
+mod parts;
 mod tree;
 mod words;
 
 pub use count::count_query;
 pub use names::Names;
+pub use parts::{names_in, query_in};
 pub use tree::{Distinctness, Expression, Item, Place, Query, Source};
 pub use words::{
     Direction, JoinKind, Lock, LockMode, LockWait, Logic, Mark, Page, Sample, SampleMethod,

@@ -1,9 +1,14 @@
+ghost use Rattle.std.specs.Prelude.{◌≡◌, [], None};
+ghost use Rattle.std.specs.Option.{option_map};
+ghost use Rattle.sql_grammar.proofs.Machine as m;
+ghost use Rattle.sql_tree.specs.View.{expression_tree, query_tree};
+
 use crate::names::Names;
 use crate::words::{Direction, JoinKind, Lock, Logic, Mark, Page, Sample, SetOperator};
 use sql_lexer::Comparison;
+use std::alloc::Global;
 
 #[cycle(tree)]
-#[derive(Drop)]
 pub enum Expression {
     /// `"users"."id"`.
     Path(Names),
@@ -33,6 +38,62 @@ pub enum Expression {
     Constant(bool),
 }
 
+impl Drop for Expression {
+    // (not inlined: see `drop_expression`)
+    #[inline(never)]
+    #[cycle(tree)]
+    fn drop(self) {
+        match self {
+            Expression::Path(names) => drop_names(names),
+            Expression::Placeholder(_) | Expression::CountAll | Expression::Constant(_) => {}
+            Expression::SingleValue(q) | Expression::Exists(q) => drop_query(q),
+            Expression::Compared(_, a, b) => {
+                drop_expression(a);
+                drop_expression(b);
+            }
+            Expression::Connected(_, a, b) => {
+                drop_expression(a);
+                drop_expression(b);
+            }
+            Expression::Not(a) | Expression::NullTest(_, a) | Expression::Count(a) => {
+                drop_expression(a)
+            }
+            Expression::InList(_, a, _, others) => {
+                drop_expression(a);
+                drop_marks(others);
+            }
+            Expression::InQuery(_, a, q) => {
+                drop_expression(a);
+                drop_query(q);
+            }
+        }
+    }
+}
+
+// Drops go down a tree level by level. What is not inlined keeps its values off the stack of the levels below.
+
+#[inline(never)]
+fn drop_names(names: Names) {
+    drop(names);
+}
+
+#[inline(never)]
+fn drop_marks(marks: Vec<Mark>) {
+    drop(marks);
+}
+
+#[inline(never)]
+#[cycle(tree)]
+fn drop_expression(e: Box<Expression>) {
+    drop(e);
+}
+
+#[inline(never)]
+#[cycle(tree)]
+fn drop_query(q: Box<Query>) {
+    drop(q);
+}
+
 /// An element of an order.
 #[cycle(tree)]
 #[derive(Drop)]
@@ -45,7 +106,6 @@ pub enum Item {
 }
 
 #[cycle(tree)]
-#[derive(Drop)]
 pub enum Source {
     /// The path of a table, whether ONLY stands before it, and its sample.
     Table(Names, bool, Sample),
@@ -53,6 +113,37 @@ pub enum Source {
     Alias(Names, String),
     /// The two sides and the condition.
     Join(JoinKind, Box<Source>, Box<Source>, Box<Expression>),
+}
+
+impl Drop for Source {
+    // (not inlined: see `drop_expression`)
+    #[inline(never)]
+    #[cycle(tree)]
+    fn drop(self) {
+        match self {
+            Source::Table(names, _, _) => drop_names(names),
+            Source::Alias(names, alias) => {
+                drop_names(names);
+                drop_alias(alias);
+            }
+            Source::Join(_, a, b, on) => {
+                drop_source(a);
+                drop_source(b);
+                drop_expression(on);
+            }
+        }
+    }
+}
+
+#[inline(never)]
+fn drop_alias(alias: String) {
+    drop(alias);
+}
+
+#[inline(never)]
+#[cycle(tree)]
+fn drop_source(s: Box<Source>) {
+    drop(s);
 }
 
 #[cycle(tree)]
@@ -71,7 +162,6 @@ pub enum Place {
 }
 
 #[cycle(tree)]
-#[derive(Drop)]
 pub enum Query {
     /// The distinctness, the first selected expression and the others, FROM, WHERE, GROUP BY, HAVING, ORDER BY, the page
     /// and the lock. An empty list stands for a clause that isn't there.
@@ -89,4 +179,128 @@ pub enum Query {
     ),
     /// The two sides, with ALL where the flag is true, ORDER BY, and the page.
     Combined(Box<Query>, SetOperator, bool, Box<Query>, Vec<Place>, Page),
+}
+
+impl Drop for Query {
+    // (not inlined: see `drop_expression`)
+    #[inline(never)]
+    #[cycle(tree)]
+    fn drop(self) {
+        match self {
+            Query::Select(u, e, es, s, filter, group, having, order, _, _) => {
+                drop_distinctness(u);
+                drop_expression(e);
+                drop_expressions(es);
+                drop_maybe_source(s);
+                drop_maybe(filter);
+                drop_expressions(group);
+                drop_maybe(having);
+                drop_items(order);
+            }
+            Query::Combined(a, _, _, b, places, _) => {
+                drop_query(a);
+                drop_query(b);
+                drop_places(places);
+            }
+        }
+    }
+}
+
+#[inline(never)]
+#[cycle(tree)]
+fn drop_distinctness(u: Distinctness) {
+    drop(u);
+}
+
+#[inline(never)]
+#[cycle(tree)]
+fn drop_expressions(es: Vec<Expression>) {
+    drop(es);
+}
+
+#[inline(never)]
+#[cycle(tree)]
+fn drop_maybe(e: Option<Expression>) {
+    drop(e);
+}
+
+#[inline(never)]
+#[cycle(tree)]
+fn drop_maybe_source(s: Option<Source>) {
+    drop(s);
+}
+
+#[inline(never)]
+#[cycle(tree)]
+fn drop_items(items: Vec<Item>) {
+    drop(items);
+}
+
+#[inline(never)]
+fn drop_places(places: Vec<Place>) {
+    drop(places);
+}
+
+fn no_names(alloc: Global, e: Expression) -> Names
+    ensures { result ≡ record { first = []; more = [] } }
+{
+    drop(e);
+    Names::new(alloc, String::new(alloc))
+}
+
+fn no_query(e: Expression) -> Option<Box<Query>>
+    ensures { result ≡ None }
+{
+    drop(e);
+    None
+}
+
+impl Expression {
+    /// The names of a path, where the expression is one.
+    #[tactic(auto, unfolding(sql_grammar::proofs::Machine::name_in, sql_grammar::proofs::Machine::names_in))]
+    pub(crate) fn into_names(self, alloc: Global) -> Names
+        ensures { result
+            ≡ record { first = m.name_in (expression_tree self); more = m.names_in (expression_tree self) } }
+    {
+        match self {
+            Expression::Path(names) => names,
+            Expression::Placeholder(mark) => no_names(alloc, Expression::Placeholder(mark)),
+            Expression::SingleValue(q) => no_names(alloc, Expression::SingleValue(q)),
+            Expression::Exists(q) => no_names(alloc, Expression::Exists(q)),
+            Expression::Compared(by, a, b) => no_names(alloc, Expression::Compared(by, a, b)),
+            Expression::Connected(by, a, b) => no_names(alloc, Expression::Connected(by, a, b)),
+            Expression::Not(a) => no_names(alloc, Expression::Not(a)),
+            Expression::NullTest(negated, a) => no_names(alloc, Expression::NullTest(negated, a)),
+            Expression::CountAll => no_names(alloc, Expression::CountAll),
+            Expression::Count(a) => no_names(alloc, Expression::Count(a)),
+            Expression::InList(negated, a, m, ms) => no_names(
+                alloc,
+                Expression::InList(negated, a, m, ms),
+            ),
+            Expression::InQuery(negated, a, q) => no_names(alloc, Expression::InQuery(negated, a, q)),
+            Expression::Constant(b) => no_names(alloc, Expression::Constant(b)),
+        }
+    }
+
+    /// The query, where the expression is the single value of one.
+    #[tactic(auto, unfolding(sql_grammar::proofs::Machine::query_in))]
+    pub(crate) fn into_query(self) -> Option<Box<Query>>
+        ensures { option_map (λ q. query_tree q.value) result ≡ m.query_in (expression_tree self) }
+    {
+        match self {
+            Expression::SingleValue(q) => Some(q),
+            Expression::Path(names) => no_query(Expression::Path(names)),
+            Expression::Placeholder(mark) => no_query(Expression::Placeholder(mark)),
+            Expression::Exists(q) => no_query(Expression::Exists(q)),
+            Expression::Compared(by, a, b) => no_query(Expression::Compared(by, a, b)),
+            Expression::Connected(by, a, b) => no_query(Expression::Connected(by, a, b)),
+            Expression::Not(a) => no_query(Expression::Not(a)),
+            Expression::NullTest(negated, a) => no_query(Expression::NullTest(negated, a)),
+            Expression::CountAll => no_query(Expression::CountAll),
+            Expression::Count(a) => no_query(Expression::Count(a)),
+            Expression::InList(negated, a, m, ms) => no_query(Expression::InList(negated, a, m, ms)),
+            Expression::InQuery(negated, a, q) => no_query(Expression::InQuery(negated, a, q)),
+            Expression::Constant(b) => no_query(Expression::Constant(b)),
+        }
+    }
 }
