@@ -1,6 +1,7 @@
 """Runs `sql_tool build` over documents that grow, and prints a row for each; `bench/scale.sh` calls it.
 
-With --stack it finds how much stack the deepest documents take, and what a level takes of it. Else seconds are those of a processor, the program's and the system's, so that other work on the machine changes little. The exponent is
+With --stack it finds how much stack the deepest documents take on `build` and on `guard`, the deepest texts (`bench/nested_texts.py`) on `read` and
+on `audit`, and what a level takes of it. Else seconds are those of a processor, the program's and the system's, so that other work on the machine changes little. The exponent is
 that of the seconds between a size and the one before, by the count: 1 is linear, 2 the square. Beside the peak memory is that of
 parsing alone: of a run over the document between brackets, which is JSON and no document.
 """
@@ -15,6 +16,7 @@ import sys
 import tempfile
 
 import documents
+import nested_texts
 
 # The most bytes that a document may have, less the brackets.
 LIMIT = 16777216 - 2
@@ -90,48 +92,77 @@ def measure(program, direction, least, most, longest):
         yield end, seconds
 
 
-def takes_stack(program, path, kilobytes):
+def takes_stack(words, path, kilobytes):
     """Whether a run with so much stack ends by a signal."""
     limit = kilobytes * 1024
     with open(path, "rb") as source:
         child = subprocess.run(
-            [program, "build"], stdin=source, stdout=subprocess.DEVNULL, stderr=subprocess.DEVNULL, check=False,
+            words, stdin=source, stdout=subprocess.DEVNULL, stderr=subprocess.DEVNULL, check=False,
             preexec_fn=lambda: resource.setrlimit(resource.RLIMIT_STACK, (limit, limit)),
         )
     return child.returncode < 0
 
 
-def least_stack(program, text):
-    """The fewest kilobytes of stack, within one in a hundred, with which a run over the document does not end by a signal."""
+def least_stack(words, text):
+    """The fewest kilobytes of stack, within one in a hundred, with which a run over the input does not end by a signal."""
     with tempfile.NamedTemporaryFile("w", encoding="ascii") as file:
         file.write(text)
         file.flush()
         few, enough = 64, 128
-        while takes_stack(program, file.name, enough):
+        while takes_stack(words, file.name, enough):
             few, enough = enough, enough * 2
         while enough - few > max(4, few // 100):
             middle = (few + enough) // 2
-            if takes_stack(program, file.name, middle):
+            if takes_stack(words, file.name, middle):
                 few = middle
             else:
                 enough = middle
     return enough
 
 
-def in_each_dialect(direction, count):
+# A guard of the table that most directions read.
+GUARD = {"table": "users", "predicate": documents.is_number(1)}
+
+
+def in_each_dialect(direction, count, **more):
     """The direction's document, with its request in each dialect."""
     schema, written = documents.DIRECTIONS[direction][0](count)
     everything = [{**request, "dialect": dialect} for dialect in ("Pg", "Mysql", "Sqlite", "Bracket") for request in written]
-    return json.dumps({"schema": schema, "requests": everything}, separators=(",", ":"))
+    return json.dumps({"schema": schema, **more, "requests": everything}, separators=(",", ":"))
+
+
+def deepest(command, direction):
+    """The words of the command, the largest count, and a function of a count that gives the input."""
+    if command == "build":
+        return [command], documents.DIRECTIONS[direction][1], lambda count: in_each_dialect(direction, count)
+    if command == "guard":
+        return [command], documents.DIRECTIONS[direction][1], lambda count: in_each_dialect(direction, count, guard=GUARD)
+    dialect, text = nested_texts.KINDS[direction]
+    if command == "read":
+        return [command, dialect], nested_texts.MAX_DEPTH, text
+    return [command, dialect], nested_texts.MAX_DEPTH, lambda count: json.dumps({"schema": {"tables": nested_texts.TABLES}, "texts": [text(count)]})
+
+
+def stack_directions(given):
+    """The commands and directions to measure: all, or those given, as `guard:unions`; a name alone is a direction of `build`."""
+    if given:
+        return [tuple(name.split(":")) if ":" in name else ("build", name) for name in given]
+    guarded = [direction for direction in documents.NESTING if direction != "finds"]
+    return [
+        *(("build", direction) for direction in documents.NESTING),
+        *(("guard", direction) for direction in guarded),
+        *(("read", kind) for kind in nested_texts.KINDS),
+        *(("audit", kind) for kind in nested_texts.KINDS),
+    ]
 
 
 def measure_stack(program, directions):
-    print("| direction | count | stack, KB | half the count, KB | bytes a level |\n|---|---|---|---|---|")
-    for direction in directions:
-        count = documents.DIRECTIONS[direction][1]
-        all_of_it, half = (least_stack(program, in_each_dialect(direction, n)) for n in (count, count // 2))
+    print("| command | direction | count | stack, KB | half the count, KB | bytes a level |\n|---|---|---|---|---|---|")
+    for command, direction in stack_directions(directions):
+        words, count, made = deepest(command, direction)
+        all_of_it, half = (least_stack([program, *words], made(n)) for n in (count, count // 2))
         level = (all_of_it - half) * 1024 // (count - count // 2)
-        print(f"| {direction} | {count} | {all_of_it} | {half} | {level} |", flush=True)
+        print(f"| {command} | {direction} | {count} | {all_of_it} | {half} | {level} |", flush=True)
 
 
 def main():
@@ -144,7 +175,7 @@ def main():
     options.add_argument("--stack", action="store_true", help="find how much stack the deepest documents take")
     given = options.parse_intermixed_args()
     if given.stack:
-        measure_stack(given.program, given.directions or documents.NESTING)
+        measure_stack(given.program, given.directions)
         return
     print(HEAD, flush=True)
     failed = False
