@@ -92,6 +92,8 @@ impl Known {
     }
 
     /// Takes in a path, which is sought in these levels.
+    // (not inlined: the walk of a tree calls itself for each level, and what it calls takes no stack there)
+    #[inline(never)]
     pub(crate) fn push_path(
         &mut self,
         alloc: Global,

@@ -166,6 +166,7 @@ fn push_leaves(
 }
 
 /// The leaves that the condition of a join sees, where the first of them has that number.
+#[inline(never)]
 pub(crate) fn join_level(alloc: Global, number: usize, source: &Source) -> Result<Level, NoMemory>
     ensures { IfOk result (λ level. level ≡ l.leaves_source number (source_tree source.now)) }
 {
@@ -185,6 +186,7 @@ fn from_level(alloc: Global, number: usize, source: &Option<Source>) -> Result<L
 }
 
 /// The leaves of a select statement, where the first leaf that stands in it has that number.
+#[inline(never)]
 pub(crate) fn own_level(alloc: Global, number: usize, query: &Query) -> Result<Level, NoMemory>
     ensures { IfOk result (λ level. level ≡ after.own_level number (query_tree query.now)) }
 {
@@ -198,6 +200,7 @@ pub(crate) fn own_level(alloc: Global, number: usize, query: &Query) -> Result<L
 }
 
 /// A level and those around it.
+#[inline(never)]
 pub(crate) fn widened(alloc: Global, own: &Level, around: &[Level]) -> Result<Vec<Level>, NoMemory>
     ensures { IfOk result (λ v. v.items ≡ own.now ∷ around.now) }
 {
