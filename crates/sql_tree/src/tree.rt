@@ -1,7 +1,10 @@
-ghost use Rattle.std.specs.Prelude.{◌≡◌, [], None};
+ghost use Rattle.std.specs.Prelude.{◌≡◌, ◌<◌, ◌≤◌, [], None, IfSome};
 ghost use Rattle.std.specs.Option.{option_map};
 ghost use Rattle.sql_grammar.proofs.Machine as m;
 ghost use Rattle.sql_tree.specs.View.{expression_tree, query_tree};
+ghost use Rattle.sql_tree.specs.declared.tree.Expression.{size-Expression};
+ghost use Rattle.sql_tree.specs.declared.tree.Query.{size-Query};
+ghost use Rattle.sql_tree.specs.declared.tree.Source.{size-Source};
 
 use crate::names::Names;
 use crate::words::{Direction, JoinKind, Lock, Logic, Mark, Page, Sample, SetOperator};
@@ -86,12 +89,6 @@ fn drop_marks(marks: Vec<Mark>) {
 #[cycle(tree)]
 fn drop_expression(e: Box<Expression>) {
     drop(e);
-}
-
-#[inline(never)]
-#[cycle(tree)]
-fn drop_query(q: Box<Query>) {
-    drop(q);
 }
 
 /// An element of an order.
@@ -184,61 +181,151 @@ pub enum Query {
 impl Drop for Query {
     // (not inlined: see `drop_expression`)
     #[inline(never)]
-    #[cycle(tree)]
     fn drop(self) {
+        let (first, left, right) = self.into_last();
+        if let Some(first) = first {
+            drop_expression(first);
+        }
+        if let Some(left) = left {
+            drop_query(left);
+        }
+        if let Some(right) = right {
+            drop_query(right);
+        }
+    }
+}
+
+// A query is large, so its clauses are dropped where they lie in their box, each in a function that holds that clause alone, and only
+// then is what is left moved out. Of that HAVING, ORDER BY and DISTINCT ON may still nest deep, each level in a frame of its own.
+
+#[inline(never)]
+#[cycle(tree)]
+fn drop_query(mut q: Box<Query>) {
+    drop_from(&mut q);
+    drop_filter(&mut q);
+    drop_others(&mut q);
+    drop_group(&mut q);
+    let (first, left, right) = last_of(q);
+    if let Some(first) = first {
+        drop_expression(first);
+    }
+    if let Some(left) = left {
+        drop_query(left);
+    }
+    if let Some(right) = right {
+        drop_query(right);
+    }
+}
+
+fn take_from(q: &mut Query) -> Option<Source>
+    ensures no_deeper { size-Query q.new ≤ size-Query q.old }
+    ensures smaller { IfSome result (λ s. size-Source s < size-Query q.old) }
+{
+    match q {
+        Query::Select(_, _, _, from, ..) => from.take(),
+        Query::Combined(..) => None,
+    }
+}
+
+fn take_filter(q: &mut Query) -> Option<Expression>
+    ensures no_deeper { size-Query q.new ≤ size-Query q.old }
+    ensures smaller { IfSome result (λ e. size-Expression e < size-Query q.old) }
+{
+    match q {
+        Query::Select(_, _, _, _, filter, ..) => filter.take(),
+        Query::Combined(..) => None,
+    }
+}
+
+#[inline(never)]
+#[cycle(tree)]
+fn drop_from(q: &mut Query)
+    ensures { size-Query q.new ≤ size-Query q.old }
+{
+    match take_from(q) {
+        None => {}
+        Some(s) => drop(s),
+    }
+}
+
+#[inline(never)]
+#[cycle(tree)]
+fn drop_filter(q: &mut Query)
+    ensures { size-Query q.new ≤ size-Query q.old }
+{
+    match take_filter(q) {
+        None => {}
+        Some(e) => drop(e),
+    }
+}
+
+#[inline(never)]
+#[cycle(tree)]
+fn drop_others(q: &mut Query)
+    ensures { size-Query q.new ≤ size-Query q.old }
+{
+    match q {
+        Query::Select(_, _, others, ..) => drop_each(others),
+        Query::Combined(..) => {}
+    }
+}
+
+#[inline(never)]
+#[cycle(tree)]
+fn drop_group(q: &mut Query)
+    ensures { size-Query q.new ≤ size-Query q.old }
+{
+    match q {
+        Query::Select(_, _, _, _, _, group, ..) => drop_each(group),
+        Query::Combined(..) => {}
+    }
+}
+
+#[cycle(tree)]
+fn drop_each(es: &mut Vec<Expression>)
+    ensures { es.new.items ≡ [] }
+{
+    while let Some(e) = es.pop() {
+        drop(e);
+    }
+}
+
+impl Query {
+    /// The first expression that is selected, or both sides; all else is dropped.
+    #[inline(never)]
+    #[cycle(tree)]
+    fn into_last(
+        self,
+    ) -> (
+        Option<Box<Expression>>,
+        Option<Box<Query>>,
+        Option<Box<Query>>,
+    )
+        ensures first { IfSome result.0 (λ e. size-Expression e.value < size-Query self) }
+        ensures left { IfSome result.1 (λ q. size-Query q.value < size-Query self) }
+        ensures right { IfSome result.2 (λ q. size-Query q.value < size-Query self) }
+    {
         match self {
-            Query::Select(u, e, es, s, filter, group, having, order, _, _) => {
-                drop_distinctness(u);
-                drop_expression(e);
-                drop_expressions(es);
-                drop_maybe_source(s);
-                drop_maybe(filter);
-                drop_expressions(group);
-                drop_maybe(having);
-                drop_items(order);
-            }
-            Query::Combined(a, _, _, b, places, _) => {
-                drop_query(a);
-                drop_query(b);
-                drop_places(places);
-            }
+            Query::Select(_, first, _, _, _, _, _, _, _, _) => (Some(first), None, None),
+            Query::Combined(left, _, _, right, _, _) => (None, Some(left), Some(right)),
         }
     }
 }
 
 #[inline(never)]
 #[cycle(tree)]
-fn drop_distinctness(u: Distinctness) {
-    drop(u);
-}
-
-#[inline(never)]
-#[cycle(tree)]
-fn drop_expressions(es: Vec<Expression>) {
-    drop(es);
-}
-
-#[inline(never)]
-#[cycle(tree)]
-fn drop_maybe(e: Option<Expression>) {
-    drop(e);
-}
-
-#[inline(never)]
-#[cycle(tree)]
-fn drop_maybe_source(s: Option<Source>) {
-    drop(s);
-}
-
-#[inline(never)]
-#[cycle(tree)]
-fn drop_items(items: Vec<Item>) {
-    drop(items);
-}
-
-#[inline(never)]
-fn drop_places(places: Vec<Place>) {
-    drop(places);
+fn last_of(
+    q: Box<Query>,
+) -> (
+    Option<Box<Expression>>,
+    Option<Box<Query>>,
+    Option<Box<Query>>,
+)
+    ensures first { IfSome result.0 (λ e. size-Expression e.value < size-Query q.value) }
+    ensures left { IfSome result.1 (λ l. size-Query l.value < size-Query q.value) }
+    ensures right { IfSome result.2 (λ r. size-Query r.value < size-Query q.value) }
+{
+    Box::into_inner(q).into_last()
 }
 
 fn no_names(alloc: Global, e: Expression) -> Names
@@ -277,7 +364,10 @@ impl Expression {
                 alloc,
                 Expression::InList(negated, a, m, ms),
             ),
-            Expression::InQuery(negated, a, q) => no_names(alloc, Expression::InQuery(negated, a, q)),
+            Expression::InQuery(negated, a, q) => no_names(
+                alloc,
+                Expression::InQuery(negated, a, q),
+            ),
             Expression::Constant(b) => no_names(alloc, Expression::Constant(b)),
         }
     }
@@ -298,7 +388,9 @@ impl Expression {
             Expression::NullTest(negated, a) => no_query(Expression::NullTest(negated, a)),
             Expression::CountAll => no_query(Expression::CountAll),
             Expression::Count(a) => no_query(Expression::Count(a)),
-            Expression::InList(negated, a, m, ms) => no_query(Expression::InList(negated, a, m, ms)),
+            Expression::InList(negated, a, m, ms) => no_query(Expression::InList(
+                negated, a, m, ms,
+            )),
             Expression::InQuery(negated, a, q) => no_query(Expression::InQuery(negated, a, q)),
             Expression::Constant(b) => no_query(Expression::Constant(b)),
         }
