@@ -7,7 +7,7 @@ use Rattle.sql_output.proofs.Lines.{written-more}
 use Rattle.sql_output.specs.Output.{IsOutput, line_text, statement_request, statement_requests}
 use Rattle.sql_output.specs.inside.Keys.{AreWritten, HasLine}
 use Rattle.sql_rows.specs.declared.cache.RequestKey.{RequestKey}
-use Rattle.sql_embed.specs.Session.{HasAnswered, followed_by}
+use Rattle.sql_embed.specs.Session.{HasAnswered, followed_by, with_schema}
 use Rattle.sql_embed.specs.declared.session.Session.{Session}
 
 -- the lines so far, and one more
@@ -34,3 +34,8 @@ followed-more d some more = ap (λ rs. record d { requests = rs }) (append_assoc
 -- what was answered is the output
 pub answered_output : (d : Document) (text : List ℕ) (s : Session) → HasAnswered d text s → IsOutput d text
 answered_output d text s has = let (ls, lines, tells, is) = has.written in (ls, lines, is)
+
+-- a session that has answered a document's requests, begun with none
+pub answered_all : (d : Document) (rs : List Request) (text : List ℕ) (s : Session) → rs ≡ d.requests
+    → HasAnswered (followed_by (with_schema d.schema) rs) text s → HasAnswered d text s
+answered_all d rs text s same has = subst (λ xs. HasAnswered (record d { requests = xs }) text s) same has

@@ -1,2 +1,4 @@
 -- What a session has answered.
 pub mod Session
+-- Which of the requests of a call are answered.
+pub mod Within

@@ -1,5 +1,5 @@
-ghost use Rattle.std.specs.Prelude.{◌≡◌, ◌⊎◌, ◌∷◌, [], Some, IfOk, IfErr, OnOk, map, string_bytes, true};
-ghost use Rattle.sql_command.specs.Command.{AreWordsOf, IsOutputOf, reads_source};
+ghost use Rattle.std.specs.Prelude.{◌≡◌, ◌⊎◌, ◌∷◌, [], Some, IfOk, map, string_bytes, true};
+ghost use Rattle.sql_command.specs.Command.{AreWordsOf, IsOutputOf, IsOutputPrefixOf, reads_source};
 ghost use Rattle.sql_command.specs.Run.{status_of};
 ghost use Rattle.sql_command.specs.declared.status.Status.{Status};
 
@@ -8,6 +8,23 @@ use sql_command::{Command, Status, run};
 use sql_document::dialect_name;
 use sql_stream::SureSource;
 use std::alloc::{AllocError, Global};
+
+/// How a command ended, and what it wrote.
+#[derive(Drop)]
+pub struct Reply {
+    pub status: Status,
+    pub lines: Vec<u8>,
+}
+
+/// An answer with no lines.
+fn nothing(alloc: Global, status: Status) -> Reply
+    ensures { (result.status ≡ status) × (result.lines.items ≡ []) }
+{
+    Reply {
+        status,
+        lines: Vec::new(alloc),
+    }
+}
 
 fn one_word(alloc: Global, word: &str) -> Result<Vec<String>, AllocError>
     ensures { IfOk result (λ words. map string_bytes words.items ≡ word.now ∷ []) }
@@ -44,29 +61,40 @@ fn words_of(alloc: Global, command: Command) -> Result<Vec<String>, AllocError>
     }
 }
 
-/// What the program writes for a command with these bytes on its input; or the status with which it ends, `NoMemory` where memory runs
-/// out. Of an answer that could not be finished nothing is given.
+/// What the program writes for a command with these bytes on its input, and the status with which it ends, `NoMemory` where memory runs
+/// out. On `NoMemory` these are the lines that were written before that, and on any other status but Done there are none.
 #[tactic(auto, using(crate::proofs::Calls::done_output))]
-pub fn answer(alloc: Global, command: Command, input: &[u8]) -> Result<Vec<u8>, Status>
+pub fn answer(alloc: Global, command: Command, input: &[u8]) -> Reply
     requires { reads_source command ≡ true }
-    ensures output { IfOk result (λ bytes. IsOutputOf command input.now bytes.items) }
-    ensures done { OnOk result (status_of (Some command) input.now ≡ Status.Done) }
-    ensures refused { IfErr result (λ status. (status ≡ Status.Done → ⊥)
-        × ((status ≡ Status.NoMemory) ⊎ (status ≡ status_of (Some command) input.now))) }
+    ensures output { result.status ≡ Status.Done
+        → IsOutputOf command input.now result.lines.items }
+    // Out of memory, it is nothing or a prefix of the output.
+    ensures partial { result.status ≡ Status.NoMemory → (result.lines.items ≡ [])
+        ⊎ IsOutputPrefixOf command input.now result.lines.items }
+    ensures nothing { (result.status ≡ Status.Done → ⊥) → (result.status ≡ Status.NoMemory → ⊥)
+        → result.lines.items ≡ [] }
+    ensures status { (result.status ≡ Status.NoMemory)
+        ⊎ (result.status ≡ status_of (Some command) input.now) }
 {
     let Ok(words) = words_of(alloc, command) else {
-        return Err(Status::NoMemory);
+        return nothing(alloc, Status::NoMemory);
     };
     let Ok(bytes) = Vec::from_slice(alloc, input) else {
-        return Err(Status::NoMemory);
+        return nothing(alloc, Status::NoMemory);
     };
     let mut source = SureSource::new(bytes);
     let mut sink = Buffer::new(alloc);
     match run(alloc, words.as_slice(), &mut source, &mut sink) {
-        Status::Done => Ok(sink.into_bytes()),
-        Status::BadDocument => Err(Status::BadDocument),
-        Status::TooLarge => Err(Status::TooLarge),
-        Status::NoMemory | Status::WriteFault => Err(Status::NoMemory),
+        Status::Done => Reply {
+            status: Status::Done,
+            lines: sink.into_bytes(),
+        },
+        Status::BadDocument => nothing(alloc, Status::BadDocument),
+        Status::TooLarge => nothing(alloc, Status::TooLarge),
+        Status::NoMemory | Status::WriteFault => Reply {
+            status: Status::NoMemory,
+            lines: sink.into_bytes(),
+        },
         Status::Usage | Status::ReadFault => unreachable!(),
     }
 }

@@ -5,8 +5,9 @@ mod buffer;
 mod call;
 mod responder;
 mod session;
+mod within;
 
-pub use call::answer;
+pub use call::{Reply, answer};
 pub use responder::Responder;
 pub use session::{Session, requests};
 pub use sql_command::{Command, LIMIT, Status};

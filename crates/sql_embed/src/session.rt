@@ -101,25 +101,12 @@ impl Session {
         }
     }
 
-    /// A session over this schema that has answered these requests, with their lines.
-    fn begin(
-        alloc: Global,
-        schema: Schema,
-        requests: &[Request],
-    ) -> Result<(Session, Vec<u8>), AllocError>
-        ensures { IfOk result (λ first. HasAnswered
-            (followed_by (with_schema schema) (map request_tree requests.now))
-            first.1.items first.0) }
-    {
-        let session = Session::new(alloc, schema)?;
-        session.answer(alloc, requests)
-    }
-
-    /// A session over the schema of the document that the bytes are, with the document's output; or the status with which `build` of the
-    /// program ends for them.
-    pub fn open(alloc: Global, bytes: &[u8]) -> Result<(Session, Vec<u8>), Status>
-        ensures opened { IfOk result (λ first. (d : DocumentTree)
-            × (document bytes.now ≡ Some d) × HasAnswered d first.1.items first.0) }
+    /// A session over the schema of the document that the bytes are, which has answered nothing, and the document's requests; or the
+    /// status with which `build` of the program ends for the bytes.
+    pub(crate) fn begin(alloc: Global, bytes: &[u8]) -> Result<(Session, SqlList<Request>), Status>
+        ensures begun { IfOk result (λ first. (d : DocumentTree)
+            × (document bytes.now ≡ Some d) × (d.requests ≡ map request_tree first.1)
+            × HasAnswered (with_schema d.schema) [] first.0) }
         ensures too_large { greatest_input < length bytes.now → IsErrOf result Status.TooLarge }
         ensures done { OnOk result (status_of (Some Build) bytes.now ≡ Status.Done) }
         ensures refused { IfErr result (λ status. (status ≡ Status.Done → ⊥)
@@ -133,7 +120,27 @@ impl Session {
             Err(Refusal::NoMemory) => return Err(Status::NoMemory),
             Err(Refusal::NotADocument) => return Err(Status::BadDocument),
         };
-        match Session::begin(alloc, schema, requests.as_slice()) {
+        match Session::new(alloc, schema) {
+            Ok(session) => Ok((session, requests)),
+            Err(AllocError) => Err(Status::NoMemory),
+        }
+    }
+
+    /// A session over the schema of the document that the bytes are, with the document's output; or the status with which `build` of the
+    /// program ends for them.
+    pub fn open(alloc: Global, bytes: &[u8]) -> Result<(Session, Vec<u8>), Status>
+        ensures opened { IfOk result (λ first. (d : DocumentTree)
+            × (document bytes.now ≡ Some d) × HasAnswered d first.1.items first.0) }
+        ensures too_large { greatest_input < length bytes.now → IsErrOf result Status.TooLarge }
+        ensures done { OnOk result (status_of (Some Build) bytes.now ≡ Status.Done) }
+        ensures refused { IfErr result (λ status. (status ≡ Status.Done → ⊥)
+            × ((status ≡ Status.NoMemory) ⊎ (status ≡ status_of (Some Build) bytes.now))) }
+    {
+        let (session, requests) = match Session::begin(alloc, bytes) {
+            Ok(first) => first,
+            Err(status) => return Err(status),
+        };
+        match session.answer(alloc, requests.as_slice()) {
             Ok(first) => Ok(first),
             Err(AllocError) => Err(Status::NoMemory),
         }

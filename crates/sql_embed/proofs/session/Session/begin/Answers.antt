@@ -1,9 +1,6 @@
-use Rattle.std.proofs.Common.{[]}
-use Rattle.std.proofs.lemmas.Result.{IfOk-weaker}
-use Rattle.sql_embed.specs.Session.{with_schema}
+use Rattle.std.proofs.Common.{refl}
+use Rattle.sql_document.specs.Trees.{document_tree}
 use Rattle.sql_embed.proofs.session.Session.begin.Goals as goal
 
-pub returns : goal.returns
-returns c =
-    IfOk-weaker c.answer.result _ _ (λ first grows. grows (with_schema c.args.schema) [] c.in_ok-session.ensures)
-    c.answer.ensures.answered
+pub returns-in-Ok-new-clause-begun : goal.returns-in-Ok-new-clause-begun
+returns-in-Ok-new-clause-begun c = (document_tree c.in-Ok.document, c.in-Ok.ensures, refl, c.in-Ok-new.ensures)
