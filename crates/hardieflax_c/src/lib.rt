@@ -95,7 +95,7 @@ pub extern "C" fn hardieflax_audit(
     }
 }
 
-/// Opens a session over a document's schema, with the document's lines.
+/// Opens a session over a document's schema, with the document's lines, or those of the requests before one that nests too deep.
 #[unsafe(no_mangle)]
 pub extern "C" fn hardieflax_open(alloc: Global, handle: &mut Handle, document: &[u8]) -> u32
     requires { IsSound handle.old }
@@ -105,7 +105,7 @@ pub extern "C" fn hardieflax_open(alloc: Global, handle: &mut Handle, document: 
     number_of(handle.open(alloc, document))
 }
 
-/// The lines of more requests over the session.
+/// The lines of more requests over the session, or of those before one that nests too deep.
 #[unsafe(no_mangle)]
 pub extern "C" fn hardieflax_next(alloc: Global, handle: &mut Handle, document: &[u8]) -> u32
     requires { IsSound handle.old }

@@ -1,4 +1,4 @@
-use Rattle.std.proofs.Common.{◌∙◌, length, ap}
+use Rattle.std.proofs.Common.{◌∙◌, length, ap, inl, inr}
 use Rattle.std.specs.Prelude.{option_and_then}
 use Rattle.hardieflax_c.proofs.handle.Handle.ask.Goals as goal
 
@@ -8,7 +8,11 @@ returns c =
     let shows = c.put.ensures.0 in
     record {
       done = λ is. (r, shows, c.ask-status.ensures.output is);
-      nothing = λ other. shows.counts ∙ ap length (c.ask-status.ensures.nothing other);
+      partial = λ is. elim (c.ask-status.ensures.partial is) [
+        | inl none ↦ inl (shows.counts ∙ ap length none)
+        | inr some ↦ inr (r, shows, some)
+      ];
+      nothing = λ other more. shows.counts ∙ ap length (c.ask-status.ensures.nothing other more);
       decided = c.ask-status.ensures.status;
       session = ap (option_and_then (λ k. k.session)) shows.kept ∙ c.ask-status.ensures.session
           ∙ ap (λ k. k.session) c.deref_mut.ensures.value ∙ c.in-Ok.ensures.kept;

@@ -11,7 +11,11 @@ returns c =
     record {
       done = λ ended. let (before, after, more, old, new, read, none, grows) = c.next-status.ensures.done ended in
           (r, before, after, more, shows, sym was ∙ old, is ∙ new, read, none, grows);
-      nothing = λ other. shows.counts ∙ ap length (c.next-status.ensures.nothing other);
+      deep = λ after ended has.
+          let (before, more, old, read, none, cut, grows) = c.next-status.ensures.deep after ended (sym is ∙ has) in
+          (r, before, more, shows, sym was ∙ old, read, none, cut, grows);
+      shallow = c.next-status.ensures.shallow;
+      nothing = λ other none. shows.counts ∙ ap length (c.next-status.ensures.nothing other (λ ended. sym is ∙ none ended));
       usage = (λ ended. sym was ∙ c.next-status.ensures.usage.0 ended, λ none. c.next-status.ensures.usage.1 (was ∙ none));
       bad = λ ended. let (same, declares) = c.next-status.ensures.bad ended in (is ∙ same ∙ was, declares);
       large = λ ended. let (same, above) = c.next-status.ensures.large ended in (is ∙ same ∙ was, above);
