@@ -12,10 +12,9 @@ use std::test::Fail;
 fn answers(alloc: Global, command: Command, input: &str, wanted: &str) -> Result<(), Fail>
     requires { reads_source command ≡ true }
 {
-    match answer(alloc, command, input.as_bytes()) {
-        Ok(lines) => is(lines.as_slice() == wanted.as_bytes(), "other lines"),
-        Err(status) => Err(status.name())?,
-    }
+    let reply = answer(alloc, command, input.as_bytes());
+    is(reply.status == Status::Done, reply.status.name())?;
+    is(reply.lines.as_slice() == wanted.as_bytes(), "other lines")
 }
 
 /// The document of 38 bytes that asks for nothing, and spaces after it: 16777217 bytes, one more than an input may have.
@@ -27,10 +26,9 @@ pub(crate) fn too_large(alloc: Global) -> Result<Vec<u8>, AllocError> {
 }
 
 fn build_ends(alloc: Global, input: &[u8], wanted: Status) -> Result<(), Fail> {
-    match answer(alloc, Command::Build, input) {
-        Ok(_) => Err("Done")?,
-        Err(status) => is(status == wanted, wanted.name()),
-    }
+    let reply = answer(alloc, Command::Build, input);
+    is(reply.status == wanted, wanted.name())?;
+    is(reply.lines.is_empty(), "lines")
 }
 
 #[test]

@@ -25,10 +25,9 @@ pub(crate) fn every_call(alloc: Global) -> Result<(), Fail> {
 }
 
 fn answered(alloc: Global) -> Result<(), Fail> {
-    match answer(alloc, Command::Read(Dialect::Pg), TEXT.as_bytes()) {
-        Ok(line) => is(line.as_slice() == READ.as_bytes(), "a line"),
-        Err(status) => Err(status.name())?,
-    }
+    let reply = answer(alloc, Command::Read(Dialect::Pg), TEXT.as_bytes());
+    is_done(reply.status)?;
+    is(reply.lines.as_slice() == READ.as_bytes(), "a line")
 }
 
 fn opened(alloc: Global, more: &[Request]) -> Result<(), Fail> {
