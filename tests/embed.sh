@@ -42,16 +42,20 @@ prints() {
     return 1
 }
 
-# ends STATUS COMMAND..: the command ends with this status and prints nothing
-ends() {
-    wanted=$1
-    shift
+# stops FILE STATUS COMMAND..: the command prints the file and ends with this status
+stops() {
+    lines=$1
+    wanted=$2
+    shift 2
     "$@" >"$work/out" 2>"$work/err"
     got=$?
-    [ "$got" = "$wanted" ] && [ ! -s "$work/out" ] && return
+    [ "$got" = "$wanted" ] && cmp "$work/out" "$lines" && return
     echo "status $got, wanted $wanted"
     return 1
 }
+
+# ends STATUS COMMAND..: the command ends with this status and prints nothing
+ends() { stops /dev/null "$@"; }
 
 # is_without_thread_storage: no member of the library has storage by thread
 is_without_thread_storage() {
@@ -79,16 +83,21 @@ again='{"schema":{"tables":[]},"requests":[{"dialect":"Pg","query":{"from":{"tab
 cat "$top/examples/filter.jsonl" "$top/examples/filter.jsonl" >"$work/twice"
 echo '{"schema":' >"$work/bad.json"
 
-# filters COUNT: a document of one request with so many filters
+# filters COUNT: a request with so many filters
 filters() {
     awk -v count="$1" 'BEGIN {
-        printf "{\"schema\":{\"tables\":[{\"name\":\"foo\",\"columns\":[{\"name\":\"id\",\"type\":\"Integer\"}]}]},\"requests\":["
         printf "{\"dialect\":\"Pg\",\"query\":{\"from\":{\"table\":\"foo\"},\"calls\":["
         for (i = 0; i < count; i++) printf "%s[\"filter\",{\"eq\":[{\"col\":[\"foo\",\"id\"]},{\"bind\":[\"Integer\",1]}]}]", i ? "," : ""
-        print "]}}]}" }'
+        printf "]}}" }'
 }
-filters 2497 >"$work/deepest.json"
-filters 2498 >"$work/deeper.json"
+# document REQUESTS: the document that has these requests over one table
+document() { printf '{"schema":{"tables":[{"name":"foo","columns":[{"name":"id","type":"Integer"}]}]},"requests":[%s]}\n' "$1"; }
+document "$(filters 2497)" >"$work/deepest.json"
+document "$(filters 2498)" >"$work/deeper.json"
+document "$(filters 1),$(filters 2498),$(filters 1)" >"$work/around.json"
+cat >"$work/around.jsonl" <<'TXT'
+{"binds":[["Integer",1]],"columns":["Integer"],"id":1,"safe":true,"sql":"SELECT \"foo\".\"id\" FROM \"foo\" WHERE (\"foo\".\"id\" = $1)"}
+TXT
 # small COMMAND..: runs it with 2 MB of stack, as threads often have
 # shellcheck disable=SC3045
 small() { (ulimit -s 2048 && "$@"); }
@@ -110,6 +119,8 @@ if [ -n "$c" ]; then
         check 'C, no document' ends 3 "$work/main" build "$work/bad.json"
         check 'C, the deepest request in 2 MB of stack' answers small "$work/main" build "$work/deepest.json"
         check 'C, a deeper request' ends 6 small "$work/main" build "$work/deeper.json"
+        check 'C, the lines before a deeper request' stops "$work/around.jsonl" 6 small "$work/main" build "$work/around.json"
+        check 'C, a session, the same' stops "$work/around.jsonl" 6 small "$work/main" session "$work/around.json"
     fi
     # So a handle may pass from thread to thread.
     check 'the library keeps nothing by thread' is_without_thread_storage
@@ -129,6 +140,7 @@ if command -v cargo >/dev/null; then
     rust() { cargo run --offline --quiet --manifest-path "$top/examples/rust/Cargo.toml" -- "$@"; }
     check 'Rust, a session' prints "$work/twice" rust "$top/examples/filter.json" "$again"
     check 'Rust, no document' ends 3 rust "$work/bad.json"
+    check 'Rust, the lines before a deeper request' stops "$work/around.jsonl" 6 rust "$work/around.json"
 else
     echo 'skipped Rust: no cargo'
 fi
@@ -138,6 +150,7 @@ if command -v python3 >/dev/null && [ -e "$shared" ]; then
     export PYTHONDONTWRITEBYTECODE
     check 'Python, a session' prints "$work/twice" python3 "$top/examples/python/main.py" "$shared" "$top/examples/filter.json" "$again"
     check 'Python, no document' ends 3 python3 "$top/examples/python/main.py" "$shared" "$work/bad.json"
+    check 'Python, the lines before a deeper request' stops "$work/around.jsonl" 6 python3 "$top/examples/python/main.py" "$shared" "$work/around.json"
     check 'Python, threads' python3 "$top/tests/wrappers/threads.py" "$shared"
 else
     echo 'skipped Python: no python3, or no shared library'

@@ -22,8 +22,9 @@
  * share nothing, so each thread may have its own.
  *
  * Memory. The library calls malloc, realloc and free. Where memory runs out a call returns HARDIEFLAX_NO_MEMORY, and the handle may be
- * used on. A request that nests deeper than 2,500 levels, or a text whose brackets nest deeper than 2,700, is answered so too
- * (docs/DOCUMENT.md). For input that nests as deep as it may hardieflax_build, _open and _next take up to 2 MB of stack (bench/README.md),
+ * used on. A request that nests deeper than 2,500 levels, or a text whose brackets nest deeper than 2,700, ends a call so too
+ * (docs/DOCUMENT.md). The answer then has the lines before it: where it has n lines, it was the request or the text after the first n of
+ * the input. For input that nests as deep as it may hardieflax_build, _open and _next take up to 2 MB of stack (bench/README.md),
  * hardieflax_guard, _read and _audit up to 6 MB.
  *
  * Signals. Call nothing here from a signal handler, nor in the forked child of a process with threads.
@@ -41,7 +42,7 @@ extern "C" {
 
 typedef struct hardieflax {
     const uint8_t *bytes; /* the answer, UTF-8, a line of JSON for each item; no zero ends it */
-    size_t length;        /* how many bytes it has; 0 where the call has no answer */
+    size_t length;        /* how many bytes it has; 0 on any status but HARDIEFLAX_DONE and HARDIEFLAX_NO_MEMORY */
     uint8_t *owned;       /* the library's */
     bool in_use;          /* the library's */
 } hardieflax;
@@ -53,7 +54,7 @@ enum hardieflax_status {
     HARDIEFLAX_DONE = 0,         /* the handle has the answer */
     HARDIEFLAX_USAGE = 2,        /* no such dialect: the handle is as it was; or on hardieflax_next no session */
     HARDIEFLAX_BAD_DOCUMENT = 3, /* the input is not what the call reads */
-    HARDIEFLAX_NO_MEMORY = 6,    /* out of memory, or a request or a text nests too deep (below) */
+    HARDIEFLAX_NO_MEMORY = 6,    /* out of memory, or a request or a text nests too deep: the handle has the lines before it */
     HARDIEFLAX_TOO_LARGE = 7     /* the input has more than 16777216 bytes */
 };
 
@@ -78,7 +79,9 @@ uint32_t hardieflax_audit(hardieflax *handle, uint32_t dialect, const uint8_t *t
 
 /*
  * Opens a session over the schema of a document, in place of the one that the handle has. The answer is that of hardieflax_build for
- * the document, whose requests may be none. Where the status is not HARDIEFLAX_DONE the handle has no session.
+ * the document, whose requests may be none. A request that nests too deep ends the call with HARDIEFLAX_NO_MEMORY: the session is open,
+ * and has answered the requests before it, whose lines are the answer. On any other status but HARDIEFLAX_DONE, and where memory runs
+ * out, the handle has no session and no lines.
  */
 uint32_t hardieflax_open(hardieflax *handle, const uint8_t *document, size_t length);
 
@@ -86,7 +89,11 @@ uint32_t hardieflax_open(hardieflax *handle, const uint8_t *document, size_t len
  * Answers more requests over the session's schema: a document that declares no table, as {"schema":{"tables":[]},"requests":[..]}. The
  * lines are those that the output of one document would have which has the requests of all the session's calls, in order: an id is the
  * number, from 1, of the session's first accepted request of the same dialect and shape. Input that is no such document leaves the session
- * as it was. Where memory runs out the session may be gone: open it again.
+ * as it was.
+ *
+ * A request that nests too deep ends the call with HARDIEFLAX_NO_MEMORY. The session has then answered the requests before it, whose lines
+ * are the answer, and goes on: it has not counted that request, nor those after it. Where memory runs out there are no lines and the
+ * session is gone, so a further call returns HARDIEFLAX_USAGE: open it again.
  */
 uint32_t hardieflax_next(hardieflax *handle, const uint8_t *document, size_t length);
 

@@ -45,10 +45,11 @@ static call call_of(const char *word) {
     return strcmp(word, "session") == 0 ? hardieflax_open : NULL;
 }
 
+/* Writes the lines, which a call that ends with HARDIEFLAX_NO_MEMORY may have too. */
 static uint32_t show(uint32_t status, const hardieflax *handle) {
-    if (status == HARDIEFLAX_DONE)
+    if (handle->length != 0)
         fwrite(handle->bytes, 1, handle->length, stdout);
-    else
+    if (status != HARDIEFLAX_DONE)
         fprintf(stderr, "status %u\n", (unsigned)status);
     return status;
 }

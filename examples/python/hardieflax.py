@@ -25,7 +25,7 @@ class Dialect(enum.IntEnum):
 
 
 class Status(enum.IntEnum):
-    """Why a call has no answer: the program's exit status."""
+    """Why a call has not answered all: the program's exit status."""
 
     USAGE = 2
     BAD_DOCUMENT = 3
@@ -36,22 +36,27 @@ class Status(enum.IntEnum):
 _MEANINGS = {
     Status.USAGE: "no session is open",
     Status.BAD_DOCUMENT: "the input is not what the call reads",
-    Status.NO_MEMORY: "out of memory, or a query or a text nests deeper than 1,000 levels",
+    Status.NO_MEMORY: "out of memory, or a request or a text nests too deep",
     Status.TOO_LARGE: "the input has more than 16777216 bytes",
 }
 
 
 class HardieflaxError(Exception):
-    """A call that has no answer. `status` says why: a `Status`, or a number that the header does not name.
+    """A call that has not answered all. `status` says why: a `Status`, or a number that the header does not name.
+
+    On NO_MEMORY `answered` has the lines before: where it has n lines, it is the request or the text after the first n of the input that
+    nests too deep, or for which memory ran out. On any other status it is empty.
 
     A request that breaks a rule is no error: the answer has the line {"refused":RULE} for it.
     """
 
     status: int
+    answered: bytes
 
-    def __init__(self, status: int) -> None:
-        super().__init__(status)
+    def __init__(self, status: int, answered: bytes = b"") -> None:
+        super().__init__(status, answered)
         self.status = Status(status) if status in _MEANINGS else status
+        self.answered = answered
 
     def __str__(self) -> str:
         if isinstance(self.status, Status):
@@ -128,12 +133,15 @@ class Hardieflax:
             raise TypeError(f"the input is bytes, and not {type(data).__name__}")
         with self._lock:
             status = self._calls[name](self._handle, *dialect, data, len(data))
-            if status != 0:
+            if status not in (0, Status.NO_MEMORY):
                 raise HardieflaxError(status)
-            return ctypes.string_at(self._handle.bytes, self._handle.length)
+            lines = ctypes.string_at(self._handle.bytes, self._handle.length)
+        if status != 0:
+            raise HardieflaxError(status, lines)
+        return lines
 
     def build(self, document: bytes) -> bytes:
-        """A line for each request of the document. HardieflaxError: there is no answer."""
+        """A line for each request of the document. HardieflaxError: not all of it is answered."""
         return self._call("build", document)
 
     def guard(self, document: bytes) -> bytes:
@@ -149,12 +157,16 @@ class Hardieflax:
         return self._call("audit", texts, Dialect(dialect))
 
     def open(self, document: bytes) -> bytes:
-        """Opens a session over the document's schema, in place of an earlier one, and answers the document."""
+        """Opens a session over the document's schema, in place of an earlier one, and answers the document.
+
+        Where a request nests too deep the session is open, and has answered the requests before it. After any other error there is none.
+        """
         return self._call("open", document)
 
     def next(self, document: bytes) -> bytes:
         """Answers the requests of a document that declares no table, over the session's schema.
 
-        After NO_MEMORY the session may be gone: open it again. Other errors leave it as it was.
+        Where a request nests too deep the session has answered the requests before it, and goes on. Where memory runs out it is gone, and
+        the next call raises USAGE: open it again. Other errors leave it as it was.
         """
         return self._call("next", document)

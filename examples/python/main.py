@@ -24,6 +24,7 @@ def main(arguments: list[str]) -> int:
             for text in more:
                 sys.stdout.buffer.write(session.next(os.fsencode(text)))
     except HardieflaxError as error:
+        sys.stdout.buffer.write(error.answered)
         print(error, file=sys.stderr)
         return error.status
     return 0

@@ -3,7 +3,8 @@
  * is the call's name, the number of the dialect or "-", and the input, as "read 3 SELECT". It aborts where a caller does what the header
  * forbids and it can tell.
  *
- * An input "status N" gives that status, "nothing" an empty answer, and "slow" takes 50 ms.
+ * An input "status N" gives that status, "nothing" an empty answer, "deep" an answer and NO_MEMORY, and "slow" takes 50 ms. Where memory
+ * runs out, which is "status 6", a session that was opened or asked is gone.
  */
 #include <stdio.h>
 #include <stdlib.h>
@@ -77,8 +78,11 @@ static uint32_t answer(hardieflax *handle, const char *name, int dialect, const 
         owned->has_session = 1;
     if (strcmp(name, "next") == 0 && !owned->has_session)
         return HARDIEFLAX_USAGE;
-    if (length == 8 && memcmp(input, "status ", 7) == 0)
+    if (length == 8 && memcmp(input, "status ", 7) == 0) {
+        if (input[7] == '6' && (strcmp(name, "open") == 0 || strcmp(name, "next") == 0))
+            owned->has_session = 0;
         return (uint32_t)(input[7] - '0');
+    }
     if (is_input("slow", input, length)) {
         owned->is_running = 1;
         nanosleep(&pause, NULL);
@@ -99,7 +103,7 @@ static uint32_t answer(hardieflax *handle, const char *name, int dialect, const 
     owned->length = start + length;
     handle->bytes = owned->answer;
     handle->length = owned->length;
-    return HARDIEFLAX_DONE;
+    return is_input("deep", input, length) ? HARDIEFLAX_NO_MEMORY : HARDIEFLAX_DONE;
 }
 
 uint32_t hardieflax_build(hardieflax *handle, const uint8_t *document, size_t length) {

@@ -57,11 +57,31 @@ class Wrapper(unittest.TestCase):
         for status in Status:
             error = self.fails(status, b"status %d" % status)
             self.assertIs(error.status, status)
+            self.assertEqual(error.answered, b"")
             self.assertTrue(str(error).startswith(f"{status.name}: "))
             again = pickle.loads(pickle.dumps(error))
             self.assertEqual((type(again), again.status, str(again)), (HardieflaxError, status, str(error)))
         self.assertEqual(str(self.fails(5, b"status 5")), "status 5")
         self.assertEqual(self.handle.build(b"x"), b"build - x")
+
+    def test_an_error_has_the_lines_before(self) -> None:
+        error = self.fails(Status.NO_MEMORY, b"deep")
+        self.assertEqual(error.answered, b"build - deep")
+        again = pickle.loads(pickle.dumps(error))
+        self.assertEqual((again.status, again.answered, str(again)), (error.status, error.answered, str(error)))
+        self.assertEqual(self.handle.build(b""), b"build - ")
+        self.assertEqual(error.answered, b"build - deep")
+
+    def test_a_session_lives_on(self) -> None:
+        for call, answered in ((self.handle.open, b"open - deep"), (self.handle.next, b"next - deep")):
+            with self.assertRaises(HardieflaxError) as caught:
+                call(b"deep")
+            self.assertEqual((caught.exception.status, caught.exception.answered), (Status.NO_MEMORY, answered))
+            self.assertEqual(self.handle.next(b"y"), b"next - y")
+        for status in (Status.NO_MEMORY, Status.USAGE):
+            with self.assertRaises(HardieflaxError) as caught:
+                self.handle.next(b"status 6")
+            self.assertEqual((caught.exception.status, caught.exception.answered), (status, b""))
 
     def test_a_session_is_open_until_it_is_closed(self) -> None:
         with self.assertRaises(HardieflaxError) as caught:

@@ -37,15 +37,18 @@ pub enum Dialect {
     Bracket = 3,
 }
 
-/// Why there is no answer. A request that breaks a rule is no error: the answer has the line `{"refused":RULE}` for it.
-#[derive(Debug, Clone, Copy, PartialEq, Eq)]
+/// Why not all is answered. A request that breaks a rule is no error: the answer has the line `{"refused":RULE}` for it.
+#[derive(Debug, Clone, PartialEq, Eq)]
 pub enum Error {
     /// The handle has no session.
     NoSession,
     /// The input is not what the call reads.
     BadDocument,
-    /// Out of memory, or a query or a text nests deeper than 1,000 levels.
-    NoMemory,
+    /// Out of memory, or a request or a text nests too deep: that after the first n of the input, where `answered` has n lines.
+    NoMemory {
+        /// The lines before it.
+        answered: String,
+    },
     /// The input has more than 16777216 bytes.
     TooLarge,
     /// A status that the header does not name.
@@ -59,9 +62,18 @@ impl Error {
         match self {
             Error::NoSession => 2,
             Error::BadDocument => 3,
-            Error::NoMemory => 6,
+            Error::NoMemory { .. } => 6,
             Error::TooLarge => 7,
             Error::Unknown(status) => *status,
+        }
+    }
+
+    /// The lines that were written before the call ended. Only [`Error::NoMemory`] may have some.
+    #[must_use]
+    pub fn answered(&self) -> &str {
+        match self {
+            Error::NoMemory { answered } => answered,
+            _ => "",
         }
     }
 }
@@ -71,7 +83,7 @@ impl fmt::Display for Error {
         match self {
             Error::NoSession => f.write_str("no session is open"),
             Error::BadDocument => f.write_str("the input is not what the call reads"),
-            Error::NoMemory => f.write_str("out of memory, or a query or a text nests deeper than 1,000 levels"),
+            Error::NoMemory { .. } => f.write_str("out of memory, or a request or a text nests too deep"),
             Error::TooLarge => f.write_str("the input has more than 16777216 bytes"),
             Error::Unknown(status) => write!(f, "status {status}"),
         }
@@ -129,15 +141,17 @@ impl Hardieflax {
         self.answer(status)
     }
 
-    /// Opens a session over the document's schema, in place of an earlier one, and answers the document.
+    /// Opens a session over the document's schema, in place of an earlier one, and answers the document. Where a request nests too deep the
+    /// session is open, and has answered the requests before it. After any other error there is none.
     pub fn open(&mut self, document: &[u8]) -> Result<&str, Error> {
         // SAFETY: as above.
         let status = unsafe { raw::hardieflax_open(&mut self.handle, document.as_ptr(), document.len()) };
         self.answer(status)
     }
 
-    /// Answers the requests of a document that declares no table, over the session's schema. After [`Error::NoMemory`] the session may be
-    /// gone: open it again. Other errors leave it as it was.
+    /// Answers the requests of a document that declares no table, over the session's schema. Where a request nests too deep the session has
+    /// answered the requests before it, and goes on. Where memory runs out it is gone, and the next call is [`Error::NoSession`]: open it
+    /// again. Other errors leave it as it was.
     pub fn next(&mut self, document: &[u8]) -> Result<&str, Error> {
         // SAFETY: as above.
         let status = unsafe { raw::hardieflax_next(&mut self.handle, document.as_ptr(), document.len()) };
@@ -146,20 +160,25 @@ impl Hardieflax {
 
     fn answer(&self, status: u32) -> Result<&str, Error> {
         match status {
-            // The pointer of an empty answer leads nowhere.
-            0 if self.handle.length == 0 => Ok(""),
-            0 => {
-                // SAFETY: after status 0 the handle has `length` bytes, which stay until the next call on it. A call borrows the wrapper
-                // alone, so they are used no more by then.
-                let bytes = unsafe { std::slice::from_raw_parts(self.handle.bytes, self.handle.length) };
-                Ok(std::str::from_utf8(bytes).expect("an answer is JSON"))
-            }
+            0 => Ok(self.lines()),
             2 => Err(Error::NoSession),
             3 => Err(Error::BadDocument),
-            6 => Err(Error::NoMemory),
+            6 => Err(Error::NoMemory { answered: self.lines().to_owned() }),
             7 => Err(Error::TooLarge),
             status => Err(Error::Unknown(status)),
         }
+    }
+
+    /// The lines of the last call, which was Done or ran out of memory.
+    fn lines(&self) -> &str {
+        // The pointer of an empty answer leads nowhere.
+        if self.handle.length == 0 {
+            return "";
+        }
+        // SAFETY: the handle has `length` bytes, which stay until the next call on it. A call borrows the wrapper alone, so they are used
+        // no more by then.
+        let bytes = unsafe { std::slice::from_raw_parts(self.handle.bytes, self.handle.length) };
+        std::str::from_utf8(bytes).expect("an answer is JSON")
     }
 }
 

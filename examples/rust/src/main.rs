@@ -1,5 +1,5 @@
 //! Builds the statements of a document over a session, and then those of further documents, which declare no table. Ends with the first
-//! status that is not 0.
+//! status that is not 0, after the lines before it.
 
 use std::io::Write;
 use std::process::ExitCode;
@@ -12,8 +12,11 @@ fn main() -> ExitCode {
         return ExitCode::SUCCESS;
     };
     eprintln!("{error}");
-    let status = error.downcast_ref::<hardieflax::Error>().map_or(1, hardieflax::Error::status);
-    ExitCode::from(u8::try_from(status).unwrap_or(1))
+    let Some(error) = error.downcast_ref::<hardieflax::Error>() else {
+        return ExitCode::FAILURE;
+    };
+    print!("{}", error.answered());
+    ExitCode::from(u8::try_from(error.status()).unwrap_or(1))
 }
 
 fn run() -> Result<(), Box<dyn Error>> {

@@ -65,6 +65,25 @@ fn bad_requests_leave_the_session() {
     assert_eq!(session.next(&document(NONE, &[])), Err(Error::NoSession));
 }
 
+/// A request whose statement nests deeper than 2,500 levels.
+fn deep() -> String {
+    let calls = vec![r#"["nullable"]"#; 2498].join(",");
+    format!(r#"{{"dialect":"Pg","query":{{"from":{{"table":"users"}},"calls":[{calls}]}}}}"#)
+}
+
+#[test]
+fn a_session_outlives_a_deep_request() {
+    let deep = deep();
+    let mut session = Hardieflax::new();
+    let cut = |answered: &str| Err(Error::NoMemory { answered: answered.to_owned() });
+    assert_eq!(session.open(&document(USERS, &[BY_ID, &deep, NAMES])), cut(BY_ID_LINE));
+    assert_eq!(session.next(&document(NONE, &[&deep])), cut(""));
+    let both = format!("{NAMES_LINE}{BY_ID_LINE}");
+    assert_eq!(session.next(&document(NONE, &[NAMES, BY_ID, &deep])), cut(&both));
+    assert_eq!(session.next(&document(NONE, &[BY_ID, NAMES])), Ok(format!("{BY_ID_LINE}{NAMES_LINE}").as_str()));
+    assert_eq!(session.build(&document(USERS, &[BY_ID, &deep])), cut(BY_ID_LINE));
+}
+
 #[test]
 fn texts_are_read_and_audited() {
     let mut handle = Hardieflax::new();

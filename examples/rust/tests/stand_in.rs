@@ -37,13 +37,27 @@ fn each_call_passes_what_it_is_given() {
 fn a_status_is_an_error() {
     let _one = one();
     let mut handle = Hardieflax::new();
-    let errors = [Error::NoSession, Error::BadDocument, Error::NoMemory, Error::TooLarge, Error::Unknown(5)];
-    for error in errors {
+    let none = Error::NoMemory { answered: String::new() };
+    for error in [Error::NoSession, Error::BadDocument, none, Error::TooLarge, Error::Unknown(5)] {
         let input = format!("status {}", error.status());
+        assert_eq!(error.answered(), "");
         assert_eq!(handle.build(input.as_bytes()), Err(error));
     }
     assert_eq!(handle.next(b"x"), Err(Error::NoSession));
     assert_eq!(handle.build(b"x"), Ok("build - x"));
+}
+
+#[test]
+fn an_error_has_the_lines_before() {
+    let _one = one();
+    let mut handle = Hardieflax::new();
+    let deep = |call: &str| Err(Error::NoMemory { answered: format!("{call} - deep") });
+    assert_eq!(handle.build(b"deep"), deep("build"));
+    assert_eq!(handle.open(b"deep"), deep("open"));
+    assert_eq!(handle.next(b"deep"), deep("next"));
+    assert_eq!(handle.next(b"y"), Ok("next - y"));
+    assert_eq!(handle.next(b"status 6").map_err(|error| error.status()), Err(6));
+    assert_eq!(handle.next(b"y"), Err(Error::NoSession));
 }
 
 #[test]
@@ -68,5 +82,7 @@ fn the_program_ends_with_the_status() {
     let good = run(&["y", "z"]);
     assert_eq!((good.status.code(), good.stdout.as_slice()), (Some(0), b"open - xnext - ynext - z".as_slice()));
     assert_eq!(run(&["status 7"]).status.code(), Some(7));
+    let deep = run(&["y", "deep", "z"]);
+    assert_eq!((deep.status.code(), deep.stdout.as_slice()), (Some(6), b"open - xnext - ynext - deep".as_slice()));
     std::fs::remove_file(&folder).expect("a file is removed");
 }
