@@ -31,7 +31,7 @@ INNER: dict[str, set[str]] = {
     # parts of the reader
     "sql_lexer": {"Keyword", "Token", "same_found", "text_tokens"},
     "sql_machine": {"*"},
-    "sql_tree": {"count_query", "names_in", "query_in"},
+    "sql_tree": {"count_query", "expression_in", "names_in", "query_in"},
     "sql_write": {"*"},
     # parts of the audit
     "sql_resolution": {"Meaning", "Resolution", "resolve"},

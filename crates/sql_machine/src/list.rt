@@ -7,7 +7,7 @@ ghost use Rattle.sql_machine.specs.View.{items_seen, places_seen};
 use crate::discard::{discard_expression, discard_list};
 use crate::entry::{Items, Places};
 use sql_dialect::NoMemory;
-use sql_tree::{Direction, Expression, Item, Mark, Place};
+use sql_tree::{Direction, Expression, Item, Mark, Place, expression_in};
 use std::alloc::Global;
 
 /// An item of an expression and a direction.
@@ -18,16 +18,6 @@ pub fn item(e: Expression, by: Direction) -> Item
         Direction::Plain => Item::Plain(e),
         Direction::Ascending => Item::Ascending(e),
         Direction::Descending => Item::Descending(e),
-    }
-}
-
-pub fn expression_in(item: Item) -> Expression
-    ensures { expression_tree result ≡ (item_tree item).0 }
-{
-    match item {
-        Item::Plain(e) => e,
-        Item::Ascending(e) => e,
-        Item::Descending(e) => e,
     }
 }
 

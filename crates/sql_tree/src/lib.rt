@@ -10,7 +10,7 @@ mod words;
 
 pub use count::count_query;
 pub use names::Names;
-pub use parts::{names_in, query_in};
+pub use parts::{expression_in, names_in, query_in};
 pub use tree::{Distinctness, Expression, Item, Place, Query, Source};
 pub use words::{
     Direction, JoinKind, Lock, LockMode, LockWait, Logic, Mark, Page, Sample, SampleMethod,

@@ -1,7 +1,7 @@
 ghost use Rattle.std.specs.Prelude.{◌≡◌, ◌<◌, ◌≤◌, [], None, IfSome};
 ghost use Rattle.std.specs.Option.{option_map};
 ghost use Rattle.sql_grammar.proofs.Machine as m;
-ghost use Rattle.sql_tree.specs.View.{expression_tree, query_tree};
+ghost use Rattle.sql_tree.specs.View.{expression_tree, item_tree, query_tree};
 ghost use Rattle.sql_tree.specs.declared.tree.Expression.{size-Expression};
 ghost use Rattle.sql_tree.specs.declared.tree.Query.{size-Query};
 ghost use Rattle.sql_tree.specs.declared.tree.Source.{size-Source};
@@ -10,6 +10,7 @@ use crate::names::Names;
 use crate::words::{Direction, JoinKind, Lock, Logic, Mark, Page, Sample, SetOperator};
 use sql_lexer::Comparison;
 use std::alloc::Global;
+use std::mem;
 
 #[cycle(tree)]
 pub enum Expression {
@@ -93,13 +94,23 @@ fn drop_expression(e: Box<Expression>) {
 
 /// An element of an order.
 #[cycle(tree)]
-#[derive(Drop)]
 pub enum Item {
     Plain(Expression),
     /// `a ASC`.
     Ascending(Expression),
     /// `a DESC`.
     Descending(Expression),
+}
+
+impl Drop for Item {
+    // (not inlined: see `drop_expression`)
+    #[inline(never)]
+    #[cycle(tree)]
+    fn drop(self) {
+        match self {
+            Item::Plain(e) | Item::Ascending(e) | Item::Descending(e) => drop(e),
+        }
+    }
 }
 
 #[cycle(tree)]
@@ -195,16 +206,12 @@ impl Drop for Query {
     }
 }
 
-// A query is large, so its clauses are dropped where they lie in their box, each in a function that holds that clause alone, and only
-// then is what is left moved out. Of that HAVING, ORDER BY and DISTINCT ON may still nest deep, each level in a frame of its own.
+// A query is large, so its clauses are dropped where they lie in their box, and only then is what is left moved out.
 
 #[inline(never)]
 #[cycle(tree)]
 fn drop_query(mut q: Box<Query>) {
-    drop_from(&mut q);
-    drop_filter(&mut q);
-    drop_others(&mut q);
-    drop_group(&mut q);
+    clear(&mut q);
     let (first, left, right) = last_of(q);
     if let Some(first) = first {
         drop_expression(first);
@@ -217,32 +224,46 @@ fn drop_query(mut q: Box<Query>) {
     }
 }
 
-fn take_from(q: &mut Query) -> Option<Source>
-    ensures no_deeper { size-Query q.new ≤ size-Query q.old }
-    ensures smaller { IfSome result (λ s. size-Source s < size-Query q.old) }
+/// Drops all of a select but the first expression that it selects.
+#[inline(never)]
+#[cycle(tree)]
+fn clear(q: &mut Query)
+    ensures { size-Query q.new ≤ size-Query q.old }
 {
     match q {
-        Query::Select(_, _, _, from, ..) => from.take(),
-        Query::Combined(..) => None,
-    }
-}
-
-fn take_filter(q: &mut Query) -> Option<Expression>
-    ensures no_deeper { size-Query q.new ≤ size-Query q.old }
-    ensures smaller { IfSome result (λ e. size-Expression e < size-Query q.old) }
-{
-    match q {
-        Query::Select(_, _, _, _, filter, ..) => filter.take(),
-        Query::Combined(..) => None,
+        Query::Select(on, _, others, from, filter, group, having, order, _, _) => {
+            drop_on(on);
+            drop_each(others);
+            drop_from(from);
+            drop_maybe(filter);
+            drop_each(group);
+            drop_maybe(having);
+            drop_items(order);
+        }
+        Query::Combined(..) => {}
     }
 }
 
 #[inline(never)]
 #[cycle(tree)]
-fn drop_from(q: &mut Query)
-    ensures { size-Query q.new ≤ size-Query q.old }
+fn drop_on(on: &mut Distinctness)
+    ensures { on.new ≡ Distinctness.Every }
 {
-    match take_from(q) {
+    match mem::replace(on, Distinctness::Every) {
+        Distinctness::Every | Distinctness::Distinct => {}
+        Distinctness::DistinctOn(first, mut others) => {
+            drop_expression(first);
+            drop_each(&mut others);
+        }
+    }
+}
+
+#[inline(never)]
+#[cycle(tree)]
+fn drop_from(from: &mut Option<Source>)
+    ensures { from.new ≡ None }
+{
+    match from.take() {
         None => {}
         Some(s) => drop(s),
     }
@@ -250,10 +271,10 @@ fn drop_from(q: &mut Query)
 
 #[inline(never)]
 #[cycle(tree)]
-fn drop_filter(q: &mut Query)
-    ensures { size-Query q.new ≤ size-Query q.old }
+fn drop_maybe(e: &mut Option<Expression>)
+    ensures { e.new ≡ None }
 {
-    match take_filter(q) {
+    match e.take() {
         None => {}
         Some(e) => drop(e),
     }
@@ -261,26 +282,15 @@ fn drop_filter(q: &mut Query)
 
 #[inline(never)]
 #[cycle(tree)]
-fn drop_others(q: &mut Query)
-    ensures { size-Query q.new ≤ size-Query q.old }
+fn drop_items(items: &mut Vec<Item>)
+    ensures { items.new.items ≡ [] }
 {
-    match q {
-        Query::Select(_, _, others, ..) => drop_each(others),
-        Query::Combined(..) => {}
+    while let Some(item) = items.pop() {
+        drop(item);
     }
 }
 
 #[inline(never)]
-#[cycle(tree)]
-fn drop_group(q: &mut Query)
-    ensures { size-Query q.new ≤ size-Query q.old }
-{
-    match q {
-        Query::Select(_, _, _, _, _, group, ..) => drop_each(group),
-        Query::Combined(..) => {}
-    }
-}
-
 #[cycle(tree)]
 fn drop_each(es: &mut Vec<Expression>)
     ensures { es.new.items ≡ [] }
@@ -393,6 +403,17 @@ impl Expression {
             )),
             Expression::InQuery(negated, a, q) => no_query(Expression::InQuery(negated, a, q)),
             Expression::Constant(b) => no_query(Expression::Constant(b)),
+        }
+    }
+}
+
+impl Item {
+    /// The expression.
+    pub(crate) fn into_expression(self) -> Expression
+        ensures { expression_tree result ≡ (item_tree self).0 }
+    {
+        match self {
+            Item::Plain(e) | Item::Ascending(e) | Item::Descending(e) => e,
         }
     }
 }
