@@ -35,8 +35,12 @@ INNER: dict[str, set[str]] = {
     "sql_write": {"*"},
     # parts of the audit
     "sql_resolution": {"Meaning", "Resolution", "resolve"},
-    # the brackets of conditions
-    "sql_leaf": {"condition_close", "condition_open"},
+    # the words between the parts of a statement
+    "sql_leaf": {
+        "ALL", "ASC", "CLOSE", "CLOSE_BOTH", "COMMA", "COUNT_OPEN", "COUNT_STAR", "DESC", "DISTINCT", "DISTINCT_ON_CLOSE",
+        "DISTINCT_ON_OPEN", "EXISTS_OPEN", "FROM", "GROUP_BY", "HAVING", "ON", "OPEN", "ORDER_BY", "SELECT", "WHERE",
+        "among_text", "combinator_text", "constant_text", "join_text",
+    },
     # parts of sources and of shapes
     "sql_origin": {"same_table"},
     "sql_shape": {"statement_leaves_id"},

@@ -40,12 +40,13 @@ pub use Rattle.sql_pass.specs.declared.value.Value
 pub use Rattle.sql_node.specs.Pieces as StatementPieces
 pub use Rattle.sql_node.specs.Tree
 pub use Rattle.sql_node.specs.View
-pub use Rattle.sql_node.specs.Words
 pub use Rattle.sql_leaf.specs.Limits
 pub use Rattle.sql_leaf.specs.Locks
 pub use Rattle.sql_leaf.specs.Marking
+pub use Rattle.sql_leaf.specs.Operators
 pub use Rattle.sql_leaf.specs.Positions
 pub use Rattle.sql_leaf.specs.Sources
+pub use Rattle.sql_leaf.specs.Words as StatementWords
 pub use Rattle.sql_leaf.specs.declared.alias.Alias
 pub use Rattle.sql_leaf.specs.declared.limit_offset.LimitOffsetClause
 pub use Rattle.sql_leaf.specs.declared.locking.LockMode

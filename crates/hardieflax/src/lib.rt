@@ -32,12 +32,13 @@ pub use sql_pass::{
 
 // Expressions, sources, clauses and statements.
 pub use sql_expr::{
-    Alias, AliasedField, BoxedLimitOffset, BoxedSelectStatement, CombinationClause, Direction,
-    DistinctClause, Expr, ExpressionMethods, FromClause, GroupByClause, HavingClause, InValues,
-    Join, JoinKind, JoinOn, JoinRhs, LimitOffsetClause, LockMode, LockingClause, Marks, Modifier,
-    OnClauseWrapper, OrderClause, OrderColumn, OrderDecorator, OrderItem, PositionalItem,
-    SelectClause, SelectStatement, Source, Statement, TableSource, Tablesample, TablesampleMethod,
-    WhereAnd, WhereClause, WhereOr, count, count_star, exists, not, value,
+    Alias, AliasedField, BoxedLimitOffset, BoxedSelectStatement, CombinationClause, Comparison,
+    Direction, DistinctClause, Expr, ExpressionMethods, FromClause, GroupByClause, HavingClause,
+    InValues, Join, JoinKind, JoinOn, JoinRhs, LimitOffsetClause, LockMode, LockingClause, Logic,
+    Marks, Modifier, OnClauseWrapper, OrderClause, OrderColumn, OrderDecorator, OrderItem,
+    PositionalItem, SelectClause, SelectStatement, Source, Statement, TableSource, Tablesample,
+    TablesampleMethod, Unary, WhereAnd, WhereClause, WhereOr, count, count_star, exists, not,
+    value,
 };
 
 // Aliases, joins and default selections.
@@ -65,7 +66,7 @@ pub use sql_raw::{
 
 // Statements as flat lists, and back.
 pub use sql_flat::{
-    Combining, Comparison, Flat, FlatKind, FlatNode, Form, Logic, Selecting, Uniqueness,
+    Combining, Flat, FlatKind, FlatNode, Form, Selecting, Uniqueness,
     different_expressions_have_different_lists, different_statements_have_different_lists,
     expression_nodes, flatten,
 };

@@ -4,7 +4,7 @@ ghost use Rattle.std.specs.Prelude.{◌≡◌, IfOk, IsOk, option_map};
 ghost use Rattle.hardieflax.specs.Calls.{beside, value_of};
 ghost use Rattle.hardieflax.specs.Tree as tree;
 ghost use Rattle.hardieflax.specs.View.{expr_tree, statement_tree, where_clause_tree};
-ghost use Rattle.hardieflax.specs.Words as by;
+ghost use Rattle.hardieflax.specs.Operators as by;
 
 use hardieflax::{
     Bound, Column, Expr, ExpressionMethods, NoMemory, OrderDecorator, Statement, ToSql, WhereAnd,
@@ -22,7 +22,7 @@ pub fn equal<E: ExpressionMethods>(alloc: Global, left: E, right: Expr) -> Resul
 
 /// `NOT (a)`.
 pub fn negated(alloc: Global, operand: Expr) -> Result<Expr, NoMemory>
-    ensures { IfOk result (λ e. expr_tree e ≡ tree.not_of (expr_tree operand)) }
+    ensures { IfOk result (λ e. expr_tree e ≡ tree.unary by.Not (expr_tree operand)) }
 {
     not(alloc, operand)
 }

@@ -6,7 +6,7 @@ use Rattle.sql_dialect.specs.declared.syntax.ArrayComparison.{ArrayComparison}
 use Rattle.sql_dialect.specs.declared.syntax.ArrayComparison.TheVariants.{AnsiSqlArrayComparison, PgStyleArrayComparison}
 use Rattle.sql_schema.specs.declared.declaration.TableDecl.{TableDecl}
 use Rattle.sql_pass.specs.declared.value.Value.{Value}
-use Rattle.sql_node.specs.Tree.{Origin, Expr, column, value, list, count_star, nullable, not_of, null_test, count, compared, joined, exists, single, among_values, among_rows, Exprs, no_exprs, more_exprs, Items, no_items, more_items, MaybeExpr, no_expr, an_expr, Source, of_table, of_alias, join, From, no_source, from, Distinct, every, distinct, distinct_on, Order, no_order, order_by, Statement, select, combination}
+use Rattle.sql_node.specs.Tree.{Origin, Expr, column, value, list, count_star, nullable, unary, count, compared, joined, exists, single, among_values, among_rows, Exprs, no_exprs, more_exprs, Items, no_items, more_items, MaybeExpr, no_expr, an_expr, Source, of_table, of_alias, join, From, no_source, from, Distinct, every, distinct, distinct_on, Order, no_order, order_by, Statement, select, combination}
 use Rattle.sql_rules.specs.Lists.{Each}
 use Rattle.sql_rules.specs.Scope.{View, origins, origins_of, widest, parts, in_expr, in_exprs, in_items, in_maybe, in_source, in_from, in_distinct, in_order}
 use Rattle.sql_law.proofs.Lists.{each_append, each_front, each_back}
@@ -28,8 +28,7 @@ module _ (ts : List TableDecl) (d : Dialect) where
     known-expr v (list es) p = known-exprs v es p
     known-expr v count_star p = tt
     known-expr v (nullable e) p = known-expr v e p
-    known-expr v (not_of e) p = known-expr v e p
-    known-expr v (null_test n e) p = known-expr v e p
+    known-expr v (unary n e) p = known-expr v e p
     known-expr v (count e) p = known-expr v e p
     known-expr v (compared by a b) p =
         each_append (IsKnown ts) (sources_expr d a) (sources_expr d b)

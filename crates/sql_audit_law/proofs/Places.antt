@@ -11,9 +11,10 @@ use Rattle.sql_grammar.specs.Tree as g
 use Rattle.sql_pass.specs.declared.value.Bound.{Bound}
 use Rattle.sql_pass.specs.declared.value.Bound.TheVariants.{Value as OneValue, List as ManyValues}
 use Rattle.sql_pass.specs.declared.value.Value.{Value}
-use Rattle.sql_node.specs.Tree.{Origin, Expr, column, value, list, count_star, nullable, not_of, null_test, count, compared, joined, exists, single, among_values, among_rows, Exprs, no_exprs, more_exprs, Items, no_items, more_items, MaybeExpr, no_expr, an_expr, Source, of_table, of_alias, join, From, no_source, from, Distinct, every, distinct, distinct_on, Order, no_order, order_by, Statement, select, combination}
+use Rattle.sql_leaf.specs.Operators.{Unary, Not, IsNull, IsNotNull}
+use Rattle.sql_node.specs.Tree.{Origin, Expr, column, value, list, count_star, nullable, unary, count, compared, joined, exists, single, among_values, among_rows, Exprs, no_exprs, more_exprs, Items, no_items, more_items, MaybeExpr, no_expr, an_expr, Source, of_table, of_alias, join, From, no_source, from, Distinct, every, distinct, distinct_on, Order, no_order, order_by, Statement, select, combination}
 use Rattle.sql_reading.specs.Filled.{first_name, more_names, column_path, lead, expressions_from, expressions_of, Item, items_from, items_of, one_by_one, among_as, trees, trees_in, item_trees, maybe_tree, group_tree, on_tree, source_tree, from_tree, distinct_tree, order_tree, filled}
-use Rattle.sql_reading.specs.Words.{comparison_of, logic_of}
+use Rattle.sql_reading.specs.Words.{comparison_of, logic_of, unary_tree}
 use Rattle.sql_reading.specs.inside.HasText.{IsSingle, ExprHasText, ExprsHaveText, ItemsHaveText, MaybeHasText, GroupHasText, OnHasText, SourceHasText, FromHasText, DistinctHasText, OrderHasText, HasText}
 use Rattle.sql_resolution.specs.Leaves as l
 use Rattle.sql_resolution.specs.Leaves.{Backwards, backwards}
@@ -91,6 +92,11 @@ operand : (d : Dialect) (e : Expr) (os : List Origin) → IsSingle e → in_tree
 operand d e os h is =
     sym (append-nil (l.tables_expression (lead (trees d e)))) ∙ sym (ap in_trees (alone d e h)) ∙ is
 
+unary-tables : (u : Unary) (a : g.Expression Bound) → l.tables_expression (unary_tree u a) ≡ l.tables_expression a
+unary-tables Not a = refl
+unary-tables IsNull a = refl
+unary-tables IsNotNull a = refl
+
 -- what stands before IN
 kept-places : (form : ArrayComparison) (vs : List Value) (os : List Origin)
     → kept form vs (places os) ≡ places (kept form vs os)
@@ -118,8 +124,9 @@ module _ (d : Dialect) where
     expr-tables (list es) h = exprs-tables es h
     expr-tables count_star h = refl
     expr-tables (nullable e) h = expr-tables e h
-    expr-tables (not_of e) h = one-table (g.Not (lead (trees d e))) ∙ operand d e (sources_expr d e) h.0 (expr-tables e h.1)
-    expr-tables (null_test n e) h = one-table (g.NullTest n (lead (trees d e))) ∙ operand d e (sources_expr d e) h.0 (expr-tables e h.1)
+    expr-tables (unary u e) h =
+        one-table (unary_tree u (lead (trees d e))) ∙ unary-tables u (lead (trees d e))
+        ∙ operand d e (sources_expr d e) h.0 (expr-tables e h.1)
     expr-tables (count e) h = one-table (g.Count (lead (trees d e))) ∙ operand d e (sources_expr d e) h.0 (expr-tables e h.1)
     expr-tables (compared by a b) h =
         one-table (g.Compared (comparison_of by) (lead (trees d a)) (lead (trees d b)))

@@ -13,11 +13,12 @@ use Rattle.sql_pass.specs.declared.value.Bound.{Bound}
 use Rattle.sql_pass.specs.declared.value.Bound.TheVariants.{Value as OneValue, List as ManyValues}
 use Rattle.sql_leaf.specs.declared.table_source.JoinKind.{JoinKind}
 use Rattle.sql_leaf.specs.declared.table_source.JoinKind.TheVariants.{Inner, LeftOuter}
-use Rattle.sql_node.specs.Tree.{Origin, Form, unboxed, boxed, Expr, column, value, list, count_star, nullable, not_of, null_test, count, compared, joined, exists, single, among_values, among_rows, Exprs, no_exprs, more_exprs, Items, no_items, more_items, MaybeExpr, no_expr, an_expr, Source, of_table, of_alias, join, From, no_source, from, Distinct, every, distinct, distinct_on, Order, no_order, order_by, Statement, select, combination}
+use Rattle.sql_leaf.specs.Operators.{Unary, Not, IsNull, IsNotNull}
+use Rattle.sql_node.specs.Tree.{Origin, Form, unboxed, boxed, Expr, column, value, list, count_star, nullable, unary, count, compared, joined, exists, single, among_values, among_rows, Exprs, no_exprs, more_exprs, Items, no_items, more_items, MaybeExpr, no_expr, an_expr, Source, of_table, of_alias, join, From, no_source, from, Distinct, every, distinct, distinct_on, Order, no_order, order_by, Statement, select, combination}
 use Rattle.sql_origin.specs.Leaves.{Leaf, leaves, in_right_side}
 use Rattle.sql_origin.specs.Origins.{a_table, an_alias}
 use Rattle.sql_reading.specs.Filled.{first_name, more_names, column_path, lead, expressions_of, among_as, trees, trees_in, item_trees, maybe_tree, group_tree, on_tree, source_tree, from_tree, distinct_tree, order_tree, filled}
-use Rattle.sql_reading.specs.Words.{comparison_of, logic_of}
+use Rattle.sql_reading.specs.Words.{comparison_of, logic_of, unary_tree}
 use Rattle.sql_reading.specs.inside.HasText.{IsSingle, ExprHasText, ExprsHaveText, ItemsHaveText, MaybeHasText, GroupHasText, OnHasText, SourceHasText, FromHasText, DistinctHasText, OrderHasText, HasText}
 use Rattle.sql_rules.specs.Lists.{AnyOf, Each}
 use Rattle.sql_rules.specs.Names.{path, NamesOnly}
@@ -79,6 +80,12 @@ first-at : (os : List Origin) (n : ℕ) (o : Origin) (more : List Origin) → Ar
 first-at os n o more at =
     let z : n ≡ n + zero = omega arith in
     ap (slice_get os) z ∙ at zero o refl
+
+unary-uses : (by : Unary) (ls : List Level) (n : ℕ) (a : g.Expression Bound)
+    → u.uses_expression ls n (unary_tree by a) ≡ u.uses_expression ls n a
+unary-uses Not ls n a = refl
+unary-uses IsNull ls n a = refl
+unary-uses IsNotNull ls n a = refl
 
 module _ (ts : List TableDecl) (apart : any_two tables_clash ts ≡ false)
     (differ : list_any has_duplicate_column ts ≡ false) (os : List Origin) (d : Dialect) where
@@ -164,11 +171,9 @@ module _ (ts : List TableDecl) (apart : any_two tables_clash ts ≡ false)
     expr-uses v ls n (list es) t s at f p = exprs-uses v ls n es t s at f.1 p
     expr-uses v ls n count_star t s at f p = stand-none ts os
     expr-uses v ls n (nullable e) t s at f p = expr-uses v ls n e t s at f.1 p
-    expr-uses v ls n (not_of e) t s at f p =
-        stand-same ts os _ _ (columns_expr d e) (one-tree ls n (g.Not (lead (trees d e))))
-        (one-uses ls n e t.0 (expr-uses v ls n e t.1 s at f.1 p))
-    expr-uses v ls n (null_test k e) t s at f p =
-        stand-same ts os _ _ (columns_expr d e) (one-tree ls n (g.NullTest k (lead (trees d e))))
+    expr-uses v ls n (unary by e) t s at f p =
+        stand-same ts os _ _ (columns_expr d e)
+        (one-tree ls n (unary_tree by (lead (trees d e))) ∙ unary-uses by ls n (lead (trees d e)))
         (one-uses ls n e t.0 (expr-uses v ls n e t.1 s at f.1 p))
     expr-uses v ls n (count e) t s at f p =
         stand-same ts os _ _ (columns_expr d e) (one-tree ls n (g.Count (lead (trees d e))))

@@ -7,7 +7,7 @@ use Rattle.sql_dialect.specs.declared.syntax.ArrayComparison.{ArrayComparison}
 use Rattle.sql_dialect.specs.declared.syntax.ArrayComparison.TheVariants.{AnsiSqlArrayComparison, PgStyleArrayComparison}
 use Rattle.sql_schema.specs.declared.declaration.ColumnDecl.{ColumnDecl}
 use Rattle.sql_pass.specs.declared.value.Value.{Value}
-use Rattle.sql_node.specs.Tree.{Origin, Expr, column, value, list, count_star, nullable, not_of, null_test, count, compared, joined, exists, single, among_values, among_rows, Exprs, no_exprs, more_exprs, Items, no_items, more_items, MaybeExpr, no_expr, an_expr, Source, of_table, of_alias, join, From, no_source, from, Distinct, every, distinct, distinct_on, Order, no_order, order_by, Statement, select, combination}
+use Rattle.sql_node.specs.Tree.{Origin, Expr, column, value, list, count_star, nullable, unary, count, compared, joined, exists, single, among_values, among_rows, Exprs, no_exprs, more_exprs, Items, no_items, more_items, MaybeExpr, no_expr, an_expr, Source, of_table, of_alias, join, From, no_source, from, Distinct, every, distinct, distinct_on, Order, no_order, order_by, Statement, select, combination}
 use Rattle.sql_origin.specs.Origins.{a_table, an_alias}
 use Rattle.sql_resolution.specs.declared.column_use.ColumnUse.{ColumnUse}
 use Rattle.sql_audit.specs.declared.report.AuditReport.{AuditReport}
@@ -27,8 +27,7 @@ abbrev mutual
   sources_expr d (list es) = sources_exprs d es
   sources_expr d count_star = []
   sources_expr d (nullable e) = sources_expr d e
-  sources_expr d (not_of e) = sources_expr d e
-  sources_expr d (null_test n e) = sources_expr d e
+  sources_expr d (unary n e) = sources_expr d e
   sources_expr d (count e) = sources_expr d e
   sources_expr d (compared by a b) = sources_expr d a ++ sources_expr d b
   sources_expr d (joined by a b) = sources_expr d a ++ sources_expr d b
@@ -86,8 +85,7 @@ abbrev mutual
   columns_expr d (list es) = columns_exprs d es
   columns_expr d count_star = []
   columns_expr d (nullable e) = columns_expr d e
-  columns_expr d (not_of e) = columns_expr d e
-  columns_expr d (null_test n e) = columns_expr d e
+  columns_expr d (unary n e) = columns_expr d e
   columns_expr d (count e) = columns_expr d e
   columns_expr d (compared by a b) = columns_expr d a ++ columns_expr d b
   columns_expr d (joined by a b) = columns_expr d a ++ columns_expr d b

@@ -2,8 +2,8 @@
 use Rattle.std.specs.Prelude.{Bool, true, false}
 use Rattle.sql_leaf.specs.declared.locking.LockMode.TheVariants as lock
 use Rattle.sql_leaf.specs.declared.locking.Modifier.TheVariants as way
-use Rattle.sql_node.specs.Tree.{Expr, count_star, nullable, not_of, null_test, count, compared, joined, Statement, select, combination, distinct, distinct_on, Form as Kind, unboxed, boxed}
-use Rattle.sql_node.specs.Words.{Eq, Ne, Lt, Le, Gt, Ge, And, Or}
+use Rattle.sql_node.specs.Tree.{Expr, count_star, nullable, unary as over, count, compared, joined, Statement, select, combination, distinct, distinct_on, Form as Kind, unboxed, boxed}
+use Rattle.sql_leaf.specs.Operators.{And, Or}
 use Rattle.sql_select.specs.Changes.{selected, nulled, with_distinct, filtered, grouped, with_having, locked, modified}
 use Rattle.sql_syntax.specs.declared.call.ClauseCall.{ClauseCall}
 use Rattle.sql_syntax.specs.declared.call.ClauseCall.TheVariants as clause
@@ -21,21 +21,13 @@ use Rattle.sql_syntax.specs.declared.form.Form.TheVariants as form
 -- ---- operators
 
 abbrev pub made_of_one : UnaryOperator → Expr → Expr
-made_of_one unary.Not e = not_of e
-made_of_one unary.IsNull e = null_test false e
-made_of_one unary.IsNotNull e = null_test true e
+made_of_one (unary.Condition by) e = over by e
 made_of_one unary.Nullable e = nullable e
 made_of_one unary.Count e = count e
 
 abbrev pub made_of_two : BinaryOperator → Expr → Expr → Expr
-made_of_two binary.Eq a b = compared Eq a b
-made_of_two binary.Ne a b = compared Ne a b
-made_of_two binary.Gt a b = compared Gt a b
-made_of_two binary.Ge a b = compared Ge a b
-made_of_two binary.Lt a b = compared Lt a b
-made_of_two binary.Le a b = compared Le a b
-made_of_two binary.And a b = joined And a b
-made_of_two binary.Or a b = joined Or a b
+made_of_two (binary.Compare by) a b = compared by a b
+made_of_two (binary.Join by) a b = joined by a b
 
 -- whether it asks for none of them
 abbrev pub is_negated : Quantified → Bool

@@ -8,6 +8,7 @@ ghost use Rattle.sql_build.specs.Made.{is_negated, made_of_one, made_of_two};
 ghost use Rattle.sql_build.specs.Named.{both};
 
 use sql_expr::{Expr, ExpressionMethods, InValues, Statement, count, exists, not};
+use sql_leaf::{Comparison, Logic, Unary};
 use sql_pass::Value;
 use sql_schema::{NoMemory, SqlList, SqlType};
 use sql_select::QueryDsl;
@@ -33,13 +34,21 @@ pub(crate) fn bind(alloc: Global, ty: SqlType, value: &Value) -> Result<Expr, No
     Ok(Expr::Value(ty, value.try_clone(alloc)?))
 }
 
+fn conditional(alloc: Global, operator: Unary, operand: Expr) -> Result<Expr, NoMemory>
+    ensures { IfOk result (λ e. expr_tree e ≡ tree.unary operator (expr_tree operand)) }
+{
+    match operator {
+        Unary::Not => not(alloc, operand),
+        Unary::IsNull => operand.is_null(alloc),
+        Unary::IsNotNull => operand.is_not_null(alloc),
+    }
+}
+
 fn unary_expr(alloc: Global, operator: UnaryOperator, operand: Expr) -> Result<Expr, NoMemory>
     ensures { IfOk result (λ e. expr_tree e ≡ made_of_one operator (expr_tree operand)) }
 {
     match operator {
-        UnaryOperator::Not => not(alloc, operand),
-        UnaryOperator::IsNull => operand.is_null(alloc),
-        UnaryOperator::IsNotNull => operand.is_not_null(alloc),
+        UnaryOperator::Condition(by) => conditional(alloc, by, operand),
         UnaryOperator::Nullable => operand.nullable(alloc),
         UnaryOperator::Count => count(alloc, operand),
     }
@@ -60,6 +69,29 @@ pub(crate) fn unary(
     }
 }
 
+fn compared(alloc: Global, by: Comparison, left: Expr, right: Expr) -> Result<Expr, NoMemory>
+    ensures { IfOk result (λ e. expr_tree e
+        ≡ tree.compared by (expr_tree left) (expr_tree right)) }
+{
+    match by {
+        Comparison::Eq => left.eq(alloc, right),
+        Comparison::Ne => left.ne(alloc, right),
+        Comparison::Gt => left.gt(alloc, right),
+        Comparison::Ge => left.ge(alloc, right),
+        Comparison::Lt => left.lt(alloc, right),
+        Comparison::Le => left.le(alloc, right),
+    }
+}
+
+fn joined(alloc: Global, by: Logic, left: Expr, right: Expr) -> Result<Expr, NoMemory>
+    ensures { IfOk result (λ e. expr_tree e ≡ tree.joined by (expr_tree left) (expr_tree right)) }
+{
+    match by {
+        Logic::And => left.and(alloc, right),
+        Logic::Or => left.or(alloc, right),
+    }
+}
+
 fn binary_expr(
     alloc: Global,
     operator: BinaryOperator,
@@ -70,14 +102,8 @@ fn binary_expr(
         ≡ made_of_two operator (expr_tree left) (expr_tree right)) }
 {
     match operator {
-        BinaryOperator::Eq => left.eq(alloc, right),
-        BinaryOperator::Ne => left.ne(alloc, right),
-        BinaryOperator::Gt => left.gt(alloc, right),
-        BinaryOperator::Ge => left.ge(alloc, right),
-        BinaryOperator::Lt => left.lt(alloc, right),
-        BinaryOperator::Le => left.le(alloc, right),
-        BinaryOperator::And => left.and(alloc, right),
-        BinaryOperator::Or => left.or(alloc, right),
+        BinaryOperator::Compare(by) => compared(alloc, by, left, right),
+        BinaryOperator::Join(by) => joined(alloc, by, left, right),
     }
 }
 

@@ -3,7 +3,7 @@ use Rattle.std.proofs.Common.{◌≡◌, List, [], ◌∷◌, map, Option, None,
 use Rattle.sql_schema.specs.Declarations.{Declarations}
 use Rattle.sql_schema.specs.declared.types.SqlType.{SqlType}
 use Rattle.sql_dialect.specs.declared.backend.Dialect.{Dialect}
-use Rattle.sql_node.specs.Tree.{Form, unboxed, boxed, Expr, column, value, list, count_star, nullable, not_of, null_test, count, compared, joined, exists, single, among_values, among_rows, Statement, select, combination}
+use Rattle.sql_node.specs.Tree.{Form, unboxed, boxed, Expr, column, value, list, count_star, nullable, unary, count, compared, joined, exists, single, among_values, among_rows, Statement, select, combination}
 use Rattle.sql_rules.specs.Lists.{AnyOf, Each}
 use Rattle.sql_rules.specs.Rules.{Accepted, PartBreaks, IsIllTyped, IsIllTypedClause}
 use Rattle.sql_rules.specs.Scope.{View, parts, flat, nodes, distinct_clause}
@@ -29,8 +29,7 @@ typed (column o c) h = tt
 typed (list es) h = there _ h
 typed count_star h = tt
 typed (nullable e) h = there _ h
-typed (not_of e) h = there _ h
-typed (null_test n e) h = there _ h
+typed (unary n e) h = there _ h
 typed (count e) h = there _ h
 typed (compared by a b) h = there _ h
 typed (joined by a b) h = there _ h
@@ -46,8 +45,7 @@ top (value t x) h = λ i. h (inl i)
 top (list es) h = λ i. h (inl i)
 top count_star h = λ i. h (inl i)
 top (nullable e) h = λ i. h (inl i)
-top (not_of e) h = λ i. h (inl i)
-top (null_test n e) h = λ i. h (inl i)
+top (unary n e) h = λ i. h (inl i)
 top (count e) h = λ i. h (inl i)
 top (compared by a b) h = λ i. h (inl i)
 top (joined by a b) h = λ i. h (inl i)

@@ -9,7 +9,8 @@ use Rattle.sql_pass.specs.Pieces.{Piece, Text, one}
 use Rattle.sql_leaf.specs.Limits.{limit_offset_pieces}
 use Rattle.sql_leaf.specs.declared.locking.LockingClause.TheVariants.{NoLockingClause, LockingClause as Locked}
 use Rattle.sql_leaf.specs.declared.marks.Marks.{Marks}
-use Rattle.sql_node.specs.Pieces.{pieces, expr_pieces, from_pieces, distinct_pieces, maybe_pieces, order_pieces, group_by}
+use Rattle.sql_leaf.specs.Words.{group_by}
+use Rattle.sql_node.specs.Pieces.{pieces, expr_pieces, from_pieces, distinct_pieces, maybe_pieces, order_pieces}
 use Rattle.sql_node.specs.Tree.{Form, unboxed, boxed}
 use Rattle.sql_shape.specs.Ids.{has_id}
 use Rattle.sql_select.specs.Changes.{boxed_for}

@@ -7,6 +7,7 @@ use Rattle.sql_dialect.specs.declared.combination.Combinator.{Combinator}
 use Rattle.sql_dialect.specs.declared.combination.Combinator.TheVariants.{Union, Intersect, Except}
 use Rattle.sql_dialect.specs.declared.combination.DuplicateRule.{DuplicateRule}
 use Rattle.sql_dialect.specs.declared.combination.DuplicateRule.TheVariants.{Distinct as Distinctly, All}
+use Rattle.sql_leaf.specs.Operators.{Unary, Not, IsNull, IsNotNull, Comparison, Eq, Ne, Gt, Ge, Lt, Le, Logic, And, Or}
 use Rattle.sql_leaf.specs.declared.position.Direction.{Direction}
 use Rattle.sql_leaf.specs.declared.position.Direction.TheVariants.{Asc, Desc}
 use Rattle.sql_leaf.specs.declared.table_source.JoinKind.{JoinKind}
@@ -75,31 +76,43 @@ type_of name = find (λ t. bytes_eq name (type_text t)) types
 
 -- ---- expressions
 
+abbrev pub condition_text : Unary → List ℕ
+condition_text Not = codes "not"
+condition_text IsNull = codes "is_null"
+condition_text IsNotNull = codes "is_not_null"
+
 abbrev pub unary_text : UnaryOperator → List ℕ
-unary_text unary.Not = codes "not"
-unary_text unary.IsNull = codes "is_null"
-unary_text unary.IsNotNull = codes "is_not_null"
+unary_text (unary.Condition by) = condition_text by
 unary_text unary.Nullable = codes "nullable"
 unary_text unary.Count = codes "count"
 
 abbrev pub unary_operators : List UnaryOperator
-unary_operators = unary.Not ∷ unary.IsNull ∷ unary.IsNotNull ∷ unary.Nullable ∷ unary.Count ∷ []
+unary_operators =
+    unary.Condition Not ∷ unary.Condition IsNull ∷ unary.Condition IsNotNull ∷ unary.Nullable ∷ unary.Count ∷ []
 
 unfoldable pub unary_of : List ℕ → Option UnaryOperator
 unary_of name = find (λ o. bytes_eq name (unary_text o)) unary_operators
 
+abbrev pub comparison_text : Comparison → List ℕ
+comparison_text Eq = codes "eq"
+comparison_text Ne = codes "ne"
+comparison_text Gt = codes "gt"
+comparison_text Ge = codes "ge"
+comparison_text Lt = codes "lt"
+comparison_text Le = codes "le"
+
+abbrev pub logic_text : Logic → List ℕ
+logic_text And = codes "and"
+logic_text Or = codes "or"
+
 abbrev pub binary_text : BinaryOperator → List ℕ
-binary_text binary.Eq = codes "eq"
-binary_text binary.Ne = codes "ne"
-binary_text binary.Gt = codes "gt"
-binary_text binary.Ge = codes "ge"
-binary_text binary.Lt = codes "lt"
-binary_text binary.Le = codes "le"
-binary_text binary.And = codes "and"
-binary_text binary.Or = codes "or"
+binary_text (binary.Compare by) = comparison_text by
+binary_text (binary.Join by) = logic_text by
 
 abbrev pub binary_operators : List BinaryOperator
-binary_operators = binary.Eq ∷ binary.Ne ∷ binary.Gt ∷ binary.Ge ∷ binary.Lt ∷ binary.Le ∷ binary.And ∷ binary.Or ∷ []
+binary_operators =
+    binary.Compare Eq ∷ binary.Compare Ne ∷ binary.Compare Gt ∷ binary.Compare Ge ∷ binary.Compare Lt ∷ binary.Compare Le
+    ∷ binary.Join And ∷ binary.Join Or ∷ []
 
 unfoldable pub binary_of : List ℕ → Option BinaryOperator
 binary_of name = find (λ o. bytes_eq name (binary_text o)) binary_operators

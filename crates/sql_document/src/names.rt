@@ -2,7 +2,7 @@ ghost use Rattle.std.specs.Prelude.{◌≡◌, true, false};
 ghost use Rattle.sql_document.specs.Names.{dialect_text, dialect_of, type_text, type_of, unary_of, binary_of, quantified_of, side_join_of, method_of, direction_of, plain_of, clause_of, join_of, combination_of};
 
 use sql_dialect::{Combinator, Dialect, DuplicateRule};
-use sql_leaf::{Direction, JoinKind, TablesampleMethod};
+use sql_leaf::{Comparison, Direction, JoinKind, Logic, TablesampleMethod, Unary};
 use sql_schema::{Base, SqlType};
 use sql_syntax::{BinaryOperator, ClauseCall, PlainCall, Quantified, UnaryOperator};
 
@@ -96,9 +96,9 @@ pub(crate) fn unary_operator(name: &str) -> Option<UnaryOperator>
     ensures { result ≡ unary_of name.now }
 {
     match name {
-        "not" => Some(UnaryOperator::Not),
-        "is_null" => Some(UnaryOperator::IsNull),
-        "is_not_null" => Some(UnaryOperator::IsNotNull),
+        "not" => Some(UnaryOperator::Condition(Unary::Not)),
+        "is_null" => Some(UnaryOperator::Condition(Unary::IsNull)),
+        "is_not_null" => Some(UnaryOperator::Condition(Unary::IsNotNull)),
         "nullable" => Some(UnaryOperator::Nullable),
         "count" => Some(UnaryOperator::Count),
         _ => None,
@@ -110,14 +110,14 @@ pub(crate) fn binary_operator(name: &str) -> Option<BinaryOperator>
     ensures { result ≡ binary_of name.now }
 {
     match name {
-        "eq" => Some(BinaryOperator::Eq),
-        "ne" => Some(BinaryOperator::Ne),
-        "gt" => Some(BinaryOperator::Gt),
-        "ge" => Some(BinaryOperator::Ge),
-        "lt" => Some(BinaryOperator::Lt),
-        "le" => Some(BinaryOperator::Le),
-        "and" => Some(BinaryOperator::And),
-        "or" => Some(BinaryOperator::Or),
+        "eq" => Some(BinaryOperator::Compare(Comparison::Eq)),
+        "ne" => Some(BinaryOperator::Compare(Comparison::Ne)),
+        "gt" => Some(BinaryOperator::Compare(Comparison::Gt)),
+        "ge" => Some(BinaryOperator::Compare(Comparison::Ge)),
+        "lt" => Some(BinaryOperator::Compare(Comparison::Lt)),
+        "le" => Some(BinaryOperator::Compare(Comparison::Le)),
+        "and" => Some(BinaryOperator::Join(Logic::And)),
+        "or" => Some(BinaryOperator::Join(Logic::Or)),
         _ => None,
     }
 }

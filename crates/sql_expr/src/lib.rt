@@ -13,9 +13,9 @@ pub use conditions::{WhereAnd, WhereOr};
 pub use methods::{ExpressionMethods, OrderDecorator};
 pub use on_clause::{JoinRhs, OnClauseWrapper};
 pub use sql_leaf::{
-    Alias, AliasedField, BoxedLimitOffset, Direction, JoinKind, LimitOffsetClause, LockMode,
-    LockingClause, Marks, Modifier, OrderColumn, PositionalItem, TableSource, Tablesample,
-    TablesampleMethod,
+    Alias, AliasedField, BoxedLimitOffset, Comparison, Direction, JoinKind, LimitOffsetClause,
+    LockMode, LockingClause, Logic, Marks, Modifier, OrderColumn, PositionalItem, TableSource,
+    Tablesample, TablesampleMethod, Unary,
 };
 pub use sql_node::{
     BoxedSelectStatement, CombinationClause, DistinctClause, Expr, FromClause, GroupByClause,

@@ -5,7 +5,7 @@ ghost use Rattle.sql_schema.specs.Columns.{DeclaredColumn};
 ghost use Rattle.sql_leaf.specs.declared.position.Direction.{Direction};
 ghost use Rattle.sql_node.specs.Tree as tree;
 ghost use Rattle.sql_node.specs.View.{among_of, expr_tree, in_values_tree, order_item_tree};
-ghost use Rattle.sql_node.specs.Words as by;
+ghost use Rattle.sql_leaf.specs.Operators as by;
 ghost use Rattle.sql_expr.specs.Calls.{bare_column};
 
 use crate::calls::boxed_pair;
@@ -61,11 +61,11 @@ pub trait ExpressionMethods: Sized {
 
     /// `(a IS NULL)`.
     fn is_null(self, alloc: Global) -> Result<Expr, NoMemory>
-        ensures { IfOk result (λ e. expr_tree e ≡ tree.null_test false (expression self)) };
+        ensures { IfOk result (λ e. expr_tree e ≡ tree.unary by.IsNull (expression self)) };
 
     /// `(a IS NOT NULL)`.
     fn is_not_null(self, alloc: Global) -> Result<Expr, NoMemory>
-        ensures { IfOk result (λ e. expr_tree e ≡ tree.null_test true (expression self)) };
+        ensures { IfOk result (λ e. expr_tree e ≡ tree.unary by.IsNotNull (expression self)) };
 
     /// The same as a nullable expression. It is written as it is.
     fn nullable(self, alloc: Global) -> Result<Expr, NoMemory>

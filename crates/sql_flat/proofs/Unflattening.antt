@@ -6,14 +6,13 @@ use Rattle.sql_loops.proofs.Backward.{run-flat}
 use Rattle.sql_schema.specs.declared.types.SqlType.{SqlType}
 use Rattle.sql_pass.specs.declared.value.Value.{Value}
 use Rattle.sql_leaf.specs.declared.position.PositionalItem.{PositionalItem}
-use Rattle.sql_node.specs.Words as w
-use Rattle.sql_node.specs.Tree.{Form, unboxed, boxed, Expr, column, value, list, count_star, nullable, not_of, null_test, count, compared, joined, exists, single, among_values, among_rows, Exprs, no_exprs, more_exprs, Items, no_items, more_items, MaybeExpr, no_expr, an_expr, Source, of_table, of_alias, join, From, no_source, from, Distinct, every, distinct, distinct_on, Order, no_order, order_by, Statement, select, combination}
+use Rattle.sql_node.specs.Tree.{Form, unboxed, boxed, Expr, column, value, list, count_star, nullable, unary, count, compared, joined, exists, single, among_values, among_rows, Exprs, no_exprs, more_exprs, Items, no_items, more_items, MaybeExpr, no_expr, an_expr, Source, of_table, of_alias, join, From, no_source, from, Distinct, every, distinct, distinct_on, Order, no_order, order_by, Statement, select, combination}
 use Rattle.sql_node.specs.View.{exprs_of, items_of, maybe_of}
 use Rattle.sql_flat.specs.declared.kind.FlatKind.{FlatKind}
 use Rattle.sql_flat.specs.declared.kind.FlatKind.TheVariants as K
 use Rattle.sql_flat.specs.declared.kind.FlatNode.{FlatNode}
-use Rattle.sql_flat.specs.Flat.{flat_node, flat_of, comparison_of, logic_of, form_of, uniqueness, expr_rose, exprs_roses, items_roses, maybe_roses, source_rose, from_roses, distinct_roses, order_roses, positions_roses, rose, selecting_of}
-use Rattle.sql_flat.specs.inside.Parts.{Part, expr_of, expr_part, source_part, statement_part, order_part, Clauses, no_clauses, comparison_in, logic_in, form_in, exprs_in, items_in, values_in, positions_in, first, on_of, positions_of, statement_of, put_clauses, over_clauses, over}
+use Rattle.sql_flat.specs.Flat.{flat_node, flat_of, form_of, uniqueness, expr_rose, exprs_roses, items_roses, maybe_roses, source_rose, from_roses, distinct_roses, order_roses, positions_roses, rose, selecting_of}
+use Rattle.sql_flat.specs.inside.Parts.{Part, expr_of, expr_part, source_part, statement_part, order_part, Clauses, no_clauses, form_in, exprs_in, items_in, values_in, positions_in, first, on_of, positions_of, statement_of, put_clauses, over_clauses, over}
 use Rattle.sql_flat.specs.inside.Reading.{kind_of, end_of, read_from, root_of}
 
 -- what a tree of nodes stands for, and each of some
@@ -22,18 +21,6 @@ read = folded over
 
 abbrev read_each : Roses FlatKind → List Part
 read_each = folded_each over
-
-comparison-back : (by : w.Comparison) → comparison_in (comparison_of by) ≡ by
-comparison-back w.Eq = refl
-comparison-back w.Ne = refl
-comparison-back w.Lt = refl
-comparison-back w.Le = refl
-comparison-back w.Gt = refl
-comparison-back w.Ge = refl
-
-logic-back : (by : w.Logic) → logic_in (logic_of by) ≡ by
-logic-back w.And = refl
-logic-back w.Or = refl
 
 form-back : (f : Form) → form_in (form_of f) ≡ f
 form-back (unboxed l) = refl
@@ -142,12 +129,10 @@ mutual
   expr-read (list es) = ap (λ x. expr_part (list x)) (exprs-read es)
   expr-read count_star = refl
   expr-read (nullable e) = rw (expr-read e) refl
-  expr-read (not_of e) = rw (expr-read e) refl
-  expr-read (null_test n e) = rw (expr-read e) refl
+  expr-read (unary u e) = rw (expr-read e) refl
   expr-read (count e) = rw (expr-read e) refl
-  expr-read (compared by a b) =
-      rw (expr-read a, expr-read b) (ap (λ x. expr_part (compared x a b)) (comparison-back by))
-  expr-read (joined by a b) = rw (expr-read a, expr-read b) (ap (λ x. expr_part (joined x a b)) (logic-back by))
+  expr-read (compared by a b) = rw (expr-read a, expr-read b) refl
+  expr-read (joined by a b) = rw (expr-read a, expr-read b) refl
   expr-read (exists q) = rw (statement-read q) refl
   expr-read (single q) = rw (statement-read q) refl
   expr-read (among_values n e t vs) = rw (expr-read e, values-read t vs) refl

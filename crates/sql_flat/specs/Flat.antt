@@ -5,37 +5,19 @@ use Rattle.sql_leaf.specs.declared.limit_offset.LimitOffsetClause.{LimitOffsetCl
 use Rattle.sql_leaf.specs.declared.marks.Marks.{Marks}
 use Rattle.sql_leaf.specs.declared.position.PositionalItem.{PositionalItem}
 use Rattle.sql_rose.specs.Rose.{Rose, node, Roses, none, more, leaf, one, two, roses_of, flat}
-use Rattle.sql_node.specs.Words as w
-use Rattle.sql_node.specs.Words.{Eq, Ne, Lt, Le, Gt, Ge, And, Or}
 use Rattle.sql_node.specs.Tree as t
-use Rattle.sql_node.specs.Tree.{unboxed, boxed, Expr, column, value, list, count_star, nullable, not_of, null_test, count, compared, joined, exists, single, among_values, among_rows, Exprs, no_exprs, more_exprs, Items, no_items, more_items, MaybeExpr, no_expr, an_expr, Source, of_table, of_alias, join, From, no_source, from, Distinct, every, distinct, distinct_on, Order, no_order, order_by, Statement, select, combination}
-use Rattle.sql_flat.specs.declared.kind.Comparison.{Comparison}
-use Rattle.sql_flat.specs.declared.kind.Comparison.TheVariants as comparison
+use Rattle.sql_node.specs.Tree.{unboxed, boxed, Expr, column, value, list, count_star, nullable, unary, count, compared, joined, exists, single, among_values, among_rows, Exprs, no_exprs, more_exprs, Items, no_items, more_items, MaybeExpr, no_expr, an_expr, Source, of_table, of_alias, join, From, no_source, from, Distinct, every, distinct, distinct_on, Order, no_order, order_by, Statement, select, combination}
 use Rattle.sql_flat.specs.declared.kind.FlatKind.{FlatKind}
 use Rattle.sql_flat.specs.declared.kind.FlatKind.TheVariants as K
 use Rattle.sql_flat.specs.declared.kind.FlatNode.{FlatNode}
 use Rattle.sql_flat.specs.declared.kind.Form.{Form}
 use Rattle.sql_flat.specs.declared.kind.Form.TheVariants as form
-use Rattle.sql_flat.specs.declared.kind.Logic.{Logic}
-use Rattle.sql_flat.specs.declared.kind.Logic.TheVariants as logic
 use Rattle.sql_flat.specs.declared.kind.Selecting.{Selecting}
 use Rattle.sql_flat.specs.declared.kind.Uniqueness.{Uniqueness}
 use Rattle.sql_flat.specs.declared.kind.Uniqueness.TheVariants as unique
 
 abbrev pub flat_node : FlatKind → ℕ → FlatNode
 flat_node k e = record { kind = k; end = e }
-
-abbrev pub comparison_of : w.Comparison → Comparison
-comparison_of Eq = comparison.Eq
-comparison_of Ne = comparison.Ne
-comparison_of Lt = comparison.Lt
-comparison_of Le = comparison.Le
-comparison_of Gt = comparison.Gt
-comparison_of Ge = comparison.Ge
-
-abbrev pub logic_of : w.Logic → Logic
-logic_of And = logic.And
-logic_of Or = logic.Or
 
 abbrev pub form_of : t.Form → Form
 form_of (unboxed l) = form.Unboxed l
@@ -66,11 +48,10 @@ abbrev mutual
   expr_rose (list es) = node K.List (exprs_roses es)
   expr_rose count_star = leaf K.CountStar
   expr_rose (nullable e) = node K.Nullable (one (expr_rose e))
-  expr_rose (not_of e) = node K.Not (one (expr_rose e))
-  expr_rose (null_test n e) = node (K.NullTest n) (one (expr_rose e))
+  expr_rose (unary u e) = node (K.Unary u) (one (expr_rose e))
   expr_rose (count e) = node K.Count (one (expr_rose e))
-  expr_rose (compared by a b) = node (K.Compared (comparison_of by)) (two (expr_rose a) (expr_rose b))
-  expr_rose (joined by a b) = node (K.Joined (logic_of by)) (two (expr_rose a) (expr_rose b))
+  expr_rose (compared by a b) = node (K.Compared by) (two (expr_rose a) (expr_rose b))
+  expr_rose (joined by a b) = node (K.Joined by) (two (expr_rose a) (expr_rose b))
   expr_rose (exists q) = node K.Exists (one (rose q))
   expr_rose (single q) = node K.Single (one (rose q))
   expr_rose (among_values n e t vs) =

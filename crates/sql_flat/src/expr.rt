@@ -12,8 +12,8 @@ ghost use Rattle.sql_flat.specs.inside.Among.{among_rose, looks_in_list};
 
 use crate::building::{close, open, push_leaf};
 use crate::statement::push_statement;
-use crate::{Comparison, FlatKind, FlatNode, Logic};
-use sql_leaf::AliasedField;
+use crate::{FlatKind, FlatNode};
+use sql_leaf::{AliasedField, Comparison, Logic, Unary};
 use sql_node::{Expr, InValues, Statement};
 use sql_pass::Value;
 use sql_schema::{Column, NoMemory, SqlType};
@@ -248,9 +248,9 @@ pub(crate) fn push_expr(
         Expr::List(exprs) => push_list(alloc, exprs.as_slice(), nodes),
         Expr::CountStar => push_leaf(nodes, FlatKind::CountStar),
         Expr::Nullable(a) => push_over(alloc, FlatKind::Nullable, a, nodes),
-        Expr::Not(a) => push_over(alloc, FlatKind::Not, a, nodes),
-        Expr::IsNull(a) => push_over(alloc, FlatKind::NullTest(false), a, nodes),
-        Expr::IsNotNull(a) => push_over(alloc, FlatKind::NullTest(true), a, nodes),
+        Expr::Not(a) => push_over(alloc, FlatKind::Unary(Unary::Not), a, nodes),
+        Expr::IsNull(a) => push_over(alloc, FlatKind::Unary(Unary::IsNull), a, nodes),
+        Expr::IsNotNull(a) => push_over(alloc, FlatKind::Unary(Unary::IsNotNull), a, nodes),
         Expr::Count(a) => push_over(alloc, FlatKind::Count, a, nodes),
         Expr::Eq(a, b) => {
             let at = push_first(alloc, FlatKind::Compared(Comparison::Eq), a, nodes)?;

@@ -1,28 +1,10 @@
 use sql_dialect::{Combinator, Dialect, DuplicateRule};
 use sql_leaf::{
-    Alias, Direction, JoinKind, LimitOffsetClause, LockingClause, Marks, PositionalItem,
-    TableSource,
+    Alias, Comparison, Direction, JoinKind, LimitOffsetClause, LockingClause, Logic, Marks,
+    PositionalItem, TableSource, Unary,
 };
 use sql_pass::Value;
 use sql_schema::{Column, SqlText, SqlType};
-
-/// How two expressions are compared.
-#[derive(Debug, Clone, Copy, PartialEq, Eq, PartialOrd, Ord, Hash)]
-pub enum Comparison {
-    Eq,
-    Ne,
-    Gt,
-    Ge,
-    Lt,
-    Le,
-}
-
-/// How two conditions are joined.
-#[derive(Debug, Clone, Copy, PartialEq, Eq, PartialOrd, Ord, Hash)]
-pub enum Logic {
-    And,
-    Or,
-}
 
 /// A select statement's lock, or the dialect that it is boxed for and whether all its columns are nullable.
 #[derive(Debug, Clone, Copy, PartialEq, Eq, PartialOrd, Ord, Hash)]
@@ -69,9 +51,8 @@ pub enum FlatKind {
     List,
     CountStar,
     Nullable,
-    Not,
-    /// `(a IS NULL)`, or `(a IS NOT NULL)` where it is negated.
-    NullTest(bool),
+    /// Over one expression.
+    Unary(Unary),
     Count,
     Compared(Comparison),
     Joined(Logic),
@@ -120,8 +101,7 @@ impl Drop for FlatKind {
             FlatKind::List => {}
             FlatKind::CountStar => {}
             FlatKind::Nullable => {}
-            FlatKind::Not => {}
-            FlatKind::NullTest(_) => {}
+            FlatKind::Unary(_) => {}
             FlatKind::Count => {}
             FlatKind::Compared(_) => {}
             FlatKind::Joined(_) => {}

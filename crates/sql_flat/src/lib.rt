@@ -11,7 +11,7 @@ mod source;
 mod statement;
 
 pub use flat::{Flat, expression_nodes, flatten};
-pub use kind::{Combining, Comparison, FlatKind, FlatNode, Form, Logic, Selecting, Uniqueness};
+pub use kind::{Combining, FlatKind, FlatNode, Form, Selecting, Uniqueness};
 pub use laws::{
     different_expressions_have_different_lists, different_statements_have_different_lists,
 };

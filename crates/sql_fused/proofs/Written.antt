@@ -13,13 +13,13 @@ use Rattle.sql_leaf.specs.Positions.{position_pieces}
 use Rattle.sql_leaf.specs.declared.limit_offset.LimitOffsetClause.{LimitOffsetClause}
 use Rattle.sql_leaf.specs.declared.position.PositionalItem.{PositionalItem}
 use Rattle.sql_node.specs.Pieces as p
-use Rattle.sql_node.specs.Pieces.{Written, alone, many, each, spread, stays, expr_parts, exprs_parts, items_pieces, maybe_pieces, source_pieces, from_pieces, distinct_pieces, order_pieces, pieces, values_pieces, group_by, end_pieces}
-use Rattle.sql_node.specs.Words as w
-use Rattle.sql_node.specs.Tree.{Form, unboxed, boxed, Expr, column, value, list, count_star, nullable, not_of, null_test, count, compared, joined, exists, single, among_values, among_rows, Exprs, no_exprs, more_exprs, Items, no_items, more_items, MaybeExpr, no_expr, an_expr, Source, of_table, of_alias, join, From, no_source, from, every, distinct, distinct_on, Order, no_order, order_by, Statement, select, combination}
+use Rattle.sql_leaf.specs.Words.{group_by}
+use Rattle.sql_node.specs.Pieces.{Written, alone, many, each, spread, stays, expr_parts, exprs_parts, items_pieces, maybe_pieces, source_pieces, from_pieces, distinct_pieces, order_pieces, pieces, values_pieces, end_pieces}
+use Rattle.sql_node.specs.Tree.{Form, unboxed, boxed, Expr, column, value, list, count_star, nullable, unary, count, compared, joined, exists, single, among_values, among_rows, Exprs, no_exprs, more_exprs, Items, no_items, more_items, MaybeExpr, no_expr, an_expr, Source, of_table, of_alias, join, From, no_source, from, every, distinct, distinct_on, Order, no_order, order_by, Statement, select, combination}
 use Rattle.sql_rose.specs.Rose.{Rose, Roses, node, none, more, leaf, one as one_rose, two, roses_of}
 use Rattle.sql_loops.specs.Told.{still, stills, still_by, told, told_elements, told_kids, parted}
-use Rattle.sql_flat.specs.Flat.{expr_rose, exprs_roses, items_roses, maybe_roses, source_rose, from_roses, order_roses, rose, form_of, comparison_of, logic_of}
-use Rattle.sql_fused.specs.inside.Writing.{among_open, among_whole, whole, kinds, kinds_of, is_list, before, between, after, comma, values_in, comparison_word, logic_word, behind_select}
+use Rattle.sql_flat.specs.Flat.{expr_rose, exprs_roses, items_roses, maybe_roses, source_rose, from_roses, order_roses, rose, form_of}
+use Rattle.sql_fused.specs.inside.Writing.{among_open, among_whole, whole, kinds, kinds_of, is_list, before, between, after, comma, values_in, behind_select}
 use Rattle.sql_fused.specs.Steps.{ends_in_values}
 use Rattle.sql_flat.specs.declared.kind.FlatKind.{FlatKind}
 use Rattle.sql_flat.specs.declared.kind.Selecting.{Selecting}
@@ -147,18 +147,6 @@ module _ (d : Dialect) where
 
   -- ---- words
 
-  compared-word : (by : w.Comparison) → comparison_word (comparison_of by) ≡ p.comparison_sql by
-  compared-word w.Eq = refl
-  compared-word w.Ne = refl
-  compared-word w.Lt = refl
-  compared-word w.Le = refl
-  compared-word w.Gt = refl
-  compared-word w.Ge = refl
-
-  joined-word : (by : w.Logic) → logic_word (logic_of by) ≡ p.logic_sql by
-  joined-word w.And = refl
-  joined-word w.Or = refl
-
   behind-form : (r : LimitOffsetClause) (f : Form) → behind_select d r (form_of f) ≡ end_pieces d r f
   behind-form r (unboxed l) = refl
   behind-form r (boxed e n) = refl
@@ -243,8 +231,7 @@ mutual
   expr-stands d b (list es) = exprs-stand d b es
   expr-stands d b count_star = refl
   expr-stands d b (nullable e) = expr-stands d b e
-  expr-stands d b (not_of e) = refl
-  expr-stands d b (null_test n e) = refl
+  expr-stands d b (unary u e) = refl
   expr-stands d b (count e) = refl
   expr-stands d b (compared by x y) = refl
   expr-stands d b (joined by x y) = refl
@@ -267,15 +254,12 @@ mutual
   expr-written d b (list es) = exprs-written d b es
   expr-written d b count_star = parted-next d b _ _ refl
   expr-written d b (nullable e) = append-nil (writes d b (expr_rose e)) ∙ expr-written d b e
-  expr-written d b (not_of e) = parted-next d b _ _ (rw (expr-written d true e) (simp (append_assoc, append-nil)))
-  expr-written d b (null_test n e) = parted-next d b _ _ (rw (expr-written d true e) (simp (append_assoc, append-nil)))
+  expr-written d b (unary u e) = parted-next d b _ _ (rw (expr-written d true e) (simp (append_assoc, append-nil)))
   expr-written d b (count e) = parted-next d b _ _ (rw (expr-written d true e) (simp (append_assoc, append-nil)))
   expr-written d b (compared by x y) =
-      parted-next d b _ _
-      (rw (expr-written d true x, expr-written d true y, compared-word d by) (simp (append_assoc, append-nil)))
+      parted-next d b _ _ (rw (expr-written d true x, expr-written d true y) (simp (append_assoc, append-nil)))
   expr-written d b (joined by x y) =
-      parted-next d b _ _
-      (rw (expr-written d true x, expr-written d true y, joined-word d by) (simp (append_assoc, append-nil)))
+      parted-next d b _ _ (rw (expr-written d true x, expr-written d true y) (simp (append_assoc, append-nil)))
   expr-written d b (exists q) = parted-next d b _ _ (rw (statement-written d q) (simp (append_assoc, append-nil)))
   expr-written d b (single q) = parted-next d b _ _ (rw (statement-written d q) (simp (append_assoc, append-nil)))
   expr-written Pg b (among_values n e t xs) =

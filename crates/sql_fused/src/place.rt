@@ -14,6 +14,7 @@ use crate::whole::{is_whole, push_whole};
 use crate::words::{push_after, push_before, push_between};
 use sql_dialect::{Backend, BindError};
 use sql_flat::{FlatKind, FlatNode};
+use sql_leaf::COMMA;
 use std::alloc::Global;
 use std::sync::ledger::Ledger;
 
@@ -40,35 +41,7 @@ fn is_list(kind: &FlatKind) -> bool
     match kind {
         FlatKind::List => true,
         FlatKind::Nullable => true,
-        FlatKind::Column(_, _) => false,
-        FlatKind::Value(_, _) => false,
-        FlatKind::CountStar => false,
-        FlatKind::Not => false,
-        FlatKind::NullTest(_) => false,
-        FlatKind::Count => false,
-        FlatKind::Compared(_) => false,
-        FlatKind::Joined(_) => false,
-        FlatKind::Exists => false,
-        FlatKind::Single => false,
-        FlatKind::Among(_, _) => false,
-        FlatKind::Values(_) => false,
-        FlatKind::Element(_, _) => false,
-        FlatKind::Table(_) => false,
-        FlatKind::Alias(_) => false,
-        FlatKind::Join(_, _) => false,
-        FlatKind::On => false,
-        FlatKind::From => false,
-        FlatKind::DistinctOn => false,
-        FlatKind::Where => false,
-        FlatKind::GroupBy => false,
-        FlatKind::Having => false,
-        FlatKind::OrderBy => false,
-        FlatKind::Item(_) => false,
-        FlatKind::Select(_) => false,
-        FlatKind::Combination(_) => false,
-        FlatKind::Side => false,
-        FlatKind::Positions => false,
-        FlatKind::Position(_) => false,
+        _ => false,
     }
 }
 
@@ -131,7 +104,7 @@ fn push_comma<DB: Backend>(first: bool, sink: &mut Sink<DB>) -> Result<(), BindE
 {
     match first {
         true => Ok(()),
-        false => sink.push_sql(", "),
+        false => sink.push_sql(COMMA),
     }
 }
 

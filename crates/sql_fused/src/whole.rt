@@ -8,7 +8,7 @@ ghost use Rattle.sql_pass.specs.Pieces.{one, Bind};
 ghost use Rattle.sql_pass.specs.declared.value.Bound.TheVariants.{Value as OneValue, List as ManyValues};
 ghost use Rattle.sql_leaf.specs.Positions.{position_pieces};
 ghost use Rattle.sql_leaf.specs.Sources.{alias_pieces};
-ghost use Rattle.sql_node.specs.Pieces.{constant_sql, leaf_pieces};
+ghost use Rattle.sql_node.specs.Pieces.{leaf_pieces};
 ghost use Rattle.sql_flat.specs.declared.kind.FlatKind.{FlatKind as FlatSort};
 ghost use Rattle.sql_fused.specs.inside.Sinks.{Pours, sunk};
 ghost use Rattle.sql_fused.specs.inside.Writing.{among_whole, if_empty, or_none, values_in, values_whole, whole_of};
@@ -18,7 +18,7 @@ use crate::sink::Sink;
 use crate::words::array_comparison;
 use sql_dialect::{ArrayComparison, Backend, BindError, Dialect, NoMemory};
 use sql_flat::{FlatKind, FlatNode};
-use sql_leaf::{Alias, PositionalItem};
+use sql_leaf::{Alias, COUNT_STAR, PositionalItem, constant_text};
 use sql_pass::{Bound, Value};
 use sql_schema::{Column, SqlList, SqlText, SqlType};
 use std::alloc::Global;
@@ -28,36 +28,7 @@ fn is_values(kind: &FlatKind) -> bool
 {
     match kind {
         FlatKind::Values(_) => true,
-        FlatKind::Column(_, _) => false,
-        FlatKind::Value(_, _) => false,
-        FlatKind::List => false,
-        FlatKind::CountStar => false,
-        FlatKind::Nullable => false,
-        FlatKind::Not => false,
-        FlatKind::NullTest(_) => false,
-        FlatKind::Count => false,
-        FlatKind::Compared(_) => false,
-        FlatKind::Joined(_) => false,
-        FlatKind::Exists => false,
-        FlatKind::Single => false,
-        FlatKind::Among(_, _) => false,
-        FlatKind::Element(_, _) => false,
-        FlatKind::Table(_) => false,
-        FlatKind::Alias(_) => false,
-        FlatKind::Join(_, _) => false,
-        FlatKind::On => false,
-        FlatKind::From => false,
-        FlatKind::DistinctOn => false,
-        FlatKind::Where => false,
-        FlatKind::GroupBy => false,
-        FlatKind::Having => false,
-        FlatKind::OrderBy => false,
-        FlatKind::Item(_) => false,
-        FlatKind::Select(_) => false,
-        FlatKind::Combination(_) => false,
-        FlatKind::Side => false,
-        FlatKind::Positions => false,
-        FlatKind::Position(_) => false,
+        _ => false,
     }
 }
 
@@ -109,28 +80,7 @@ pub(crate) fn is_whole(dialect: Dialect, kind: &FlatKind, below: &[FlatNode]) ->
         FlatKind::Table(_) => true,
         FlatKind::Alias(_) => true,
         FlatKind::Position(_) => true,
-        FlatKind::List => false,
-        FlatKind::Nullable => false,
-        FlatKind::Not => false,
-        FlatKind::NullTest(_) => false,
-        FlatKind::Count => false,
-        FlatKind::Compared(_) => false,
-        FlatKind::Joined(_) => false,
-        FlatKind::Exists => false,
-        FlatKind::Single => false,
-        FlatKind::Join(_, _) => false,
-        FlatKind::On => false,
-        FlatKind::From => false,
-        FlatKind::DistinctOn => false,
-        FlatKind::Where => false,
-        FlatKind::GroupBy => false,
-        FlatKind::Having => false,
-        FlatKind::OrderBy => false,
-        FlatKind::Item(_) => false,
-        FlatKind::Select(_) => false,
-        FlatKind::Combination(_) => false,
-        FlatKind::Side => false,
-        FlatKind::Positions => false,
+        _ => false,
     }
 }
 
@@ -141,36 +91,7 @@ fn element(kind: &FlatKind) -> Option<&Value>
 {
     match kind {
         FlatKind::Element(_, value) => Some(value),
-        FlatKind::Column(_, _) => None,
-        FlatKind::Value(_, _) => None,
-        FlatKind::List => None,
-        FlatKind::CountStar => None,
-        FlatKind::Nullable => None,
-        FlatKind::Not => None,
-        FlatKind::NullTest(_) => None,
-        FlatKind::Count => None,
-        FlatKind::Compared(_) => None,
-        FlatKind::Joined(_) => None,
-        FlatKind::Exists => None,
-        FlatKind::Single => None,
-        FlatKind::Among(_, _) => None,
-        FlatKind::Values(_) => None,
-        FlatKind::Table(_) => None,
-        FlatKind::Alias(_) => None,
-        FlatKind::Join(_, _) => None,
-        FlatKind::On => None,
-        FlatKind::From => None,
-        FlatKind::DistinctOn => None,
-        FlatKind::Where => None,
-        FlatKind::GroupBy => None,
-        FlatKind::Having => None,
-        FlatKind::OrderBy => None,
-        FlatKind::Item(_) => None,
-        FlatKind::Select(_) => None,
-        FlatKind::Combination(_) => None,
-        FlatKind::Side => None,
-        FlatKind::Positions => None,
-        FlatKind::Position(_) => None,
+        _ => None,
     }
 }
 
@@ -274,15 +195,6 @@ fn push_values<DB: Backend>(
     }
 }
 
-fn constant_text(negated: bool) -> &'static str
-    ensures { result.now ≡ constant_sql negated }
-{
-    match negated {
-        false => "(1=0)",
-        true => "(1=1)",
-    }
-}
-
 fn push_constant<DB: Backend>(
     empty: bool,
     negated: bool,
@@ -351,34 +263,13 @@ pub(crate) fn push_whole<DB: Backend>(
     match kind {
         FlatKind::Column(alias, column) => push_column(alias, column, sink),
         FlatKind::Value(ty, value) => push_value(*ty, value, sink),
-        FlatKind::CountStar => sink.push_sql("COUNT(*)"),
+        FlatKind::CountStar => sink.push_sql(COUNT_STAR),
         FlatKind::Among(negated, values) => push_among(*negated, *values, below, sink),
         FlatKind::Values(ty) => push_values(*ty, below, sink),
         FlatKind::Element(ty, value) => push_value(*ty, value, sink),
         FlatKind::Table(source) => sink.push_table(source),
         FlatKind::Alias(alias) => push_alias(alias, sink),
         FlatKind::Position(item) => push_position(item, sink),
-        FlatKind::List => Ok(()),
-        FlatKind::Nullable => Ok(()),
-        FlatKind::Not => Ok(()),
-        FlatKind::NullTest(_) => Ok(()),
-        FlatKind::Count => Ok(()),
-        FlatKind::Compared(_) => Ok(()),
-        FlatKind::Joined(_) => Ok(()),
-        FlatKind::Exists => Ok(()),
-        FlatKind::Single => Ok(()),
-        FlatKind::Join(_, _) => Ok(()),
-        FlatKind::On => Ok(()),
-        FlatKind::From => Ok(()),
-        FlatKind::DistinctOn => Ok(()),
-        FlatKind::Where => Ok(()),
-        FlatKind::GroupBy => Ok(()),
-        FlatKind::Having => Ok(()),
-        FlatKind::OrderBy => Ok(()),
-        FlatKind::Item(_) => Ok(()),
-        FlatKind::Select(_) => Ok(()),
-        FlatKind::Combination(_) => Ok(()),
-        FlatKind::Side => Ok(()),
-        FlatKind::Positions => Ok(()),
+        _ => Ok(()),
     }
 }

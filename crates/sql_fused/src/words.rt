@@ -7,14 +7,19 @@ ghost use Rattle.sql_pass.specs.Parts.{from_open, side_open};
 ghost use Rattle.sql_pass.specs.Pieces.{one, Text};
 ghost use Rattle.sql_leaf.specs.Locks.{locking_pieces};
 ghost use Rattle.sql_leaf.specs.Positions.{direction_pieces};
-ghost use Rattle.sql_node.specs.Pieces.{all_pieces, among_word, combinator_sql, distinct_on_open, group_by, is_not_null, join_sql, null_test_sql, order_by_sql};
+ghost use Rattle.sql_leaf.specs.Words.{among_word, combinator_sql, distinct_on_open, group_by, order_by_sql};
+ghost use Rattle.sql_node.specs.Pieces.{all_pieces};
 ghost use Rattle.sql_fused.specs.inside.Sinks.{Pours, sunk};
-ghost use Rattle.sql_fused.specs.inside.Writing.{after, among_open, at_second, before, behind_first, behind_select, between, comma, comparison_word, distinct_word, join_open, logic_word};
+ghost use Rattle.sql_fused.specs.inside.Writing.{after, among_open, at_second, before, behind_first, behind_select, between, comma, distinct_word, join_open};
 
 use crate::sink::Sink;
-use sql_dialect::{ArrayComparison, Backend, BindError, Combinator, Dialect, DuplicateRule};
-use sql_flat::{Combining, Comparison, FlatKind, Form, Logic, Uniqueness};
-use sql_leaf::{Direction, JoinKind, LimitOffsetClause, LockingClause};
+use sql_dialect::{ArrayComparison, Backend, BindError, Dialect, DuplicateRule};
+use sql_flat::{Combining, FlatKind, Form, Uniqueness};
+use sql_leaf::{
+    ALL, ASC, CLOSE, CLOSE_BOTH, COMMA, COUNT_OPEN, DESC, DISTINCT, DISTINCT_ON_CLOSE,
+    DISTINCT_ON_OPEN, Direction, EXISTS_OPEN, FROM, GROUP_BY, HAVING, LimitOffsetClause,
+    LockingClause, ON, OPEN, ORDER_BY, SELECT, WHERE, among_text, combinator_text, join_text,
+};
 
 /// How the dialect compares with the values of a list.
 pub(crate) fn array_comparison(dialect: Dialect) -> ArrayComparison
@@ -28,97 +33,31 @@ pub(crate) fn array_comparison(dialect: Dialect) -> ArrayComparison
     }
 }
 
-fn comparison_text(by: Comparison) -> &'static str
-    ensures { result.now ≡ comparison_word by }
-{
-    match by {
-        Comparison::Eq => " = ",
-        Comparison::Ne => " != ",
-        Comparison::Gt => " > ",
-        Comparison::Ge => " >= ",
-        Comparison::Lt => " < ",
-        Comparison::Le => " <= ",
-    }
-}
-
-fn logic_text(by: Logic) -> &'static str
-    ensures { result.now ≡ logic_word by }
-{
-    match by {
-        Logic::And => " AND ",
-        Logic::Or => " OR ",
-    }
-}
-
-fn among_text(comparison: ArrayComparison, negated: bool) -> &'static str
-    ensures { result.now ≡ among_word comparison negated }
-{
-    match comparison {
-        ArrayComparison::PgStyleArrayComparison => match negated {
-            false => " = ANY(",
-            true => " != ALL(",
-        },
-        ArrayComparison::AnsiSqlArrayComparison => match negated {
-            false => " IN (",
-            true => " NOT IN (",
-        },
-    }
-}
-
-fn join_text(kind: JoinKind) -> &'static str
-    ensures { result.now ≡ join_sql kind }
-{
-    match kind {
-        JoinKind::Inner => " INNER JOIN ",
-        JoinKind::LeftOuter => " LEFT OUTER JOIN ",
-    }
-}
-
-fn combinator_text(combinator: Combinator) -> &'static str
-    ensures { result.now ≡ combinator_sql combinator }
-{
-    match combinator {
-        Combinator::Union => " UNION ",
-        Combinator::Intersect => " INTERSECT ",
-        Combinator::Except => " EXCEPT ",
-    }
-}
-
-#[tactic(auto, unfolding(sql_node::specs::Pieces::is_not_null))]
-fn null_test_text(negated: bool) -> &'static str
-    ensures { result.now ≡ null_test_sql negated }
-{
-    match negated {
-        false => " IS NULL)",
-        true => " IS NOT NULL)",
-    }
-}
-
-#[tactic(auto, unfolding(sql_node::specs::Pieces::distinct_on_open))]
+#[tactic(auto, unfolding(sql_leaf::specs::Words::distinct_on_open))]
 fn push_distinct_on<DB: Backend>(sink: &mut Sink<DB>) -> Result<(), BindError>
     ensures { Pours DB.speaks (sunk DB.QueryBuilder.text DB.QueryBuilder.count sink.old)
         (one (Text distinct_on_open)) result
         (sunk DB.QueryBuilder.text DB.QueryBuilder.count sink.new) }
 {
-    sink.push_sql("DISTINCT ON (")
+    sink.push_sql(DISTINCT_ON_OPEN)
 }
 
-#[tactic(auto, unfolding(sql_node::specs::Pieces::group_by))]
+#[tactic(auto, unfolding(sql_leaf::specs::Words::group_by))]
 fn push_group_by<DB: Backend>(sink: &mut Sink<DB>) -> Result<(), BindError>
     ensures { Pours DB.speaks (sunk DB.QueryBuilder.text DB.QueryBuilder.count sink.old)
         (one (Text group_by)) result
         (sunk DB.QueryBuilder.text DB.QueryBuilder.count sink.new) }
 {
-    sink.push_sql(" GROUP BY ")
+    sink.push_sql(GROUP_BY)
 }
 
-#[tactic(auto, unfolding(sql_node::specs::Pieces::order_by_sql))]
+#[tactic(auto, unfolding(sql_leaf::specs::Words::order_by_sql))]
 fn push_order_by<DB: Backend>(sink: &mut Sink<DB>) -> Result<(), BindError>
     ensures { Pours DB.speaks (sunk DB.QueryBuilder.text DB.QueryBuilder.count sink.old)
         (one (Text order_by_sql)) result
         (sunk DB.QueryBuilder.text DB.QueryBuilder.count sink.new) }
 {
-    sink.push_sql(" ORDER BY ")
+    sink.push_sql(ORDER_BY)
 }
 
 #[tactic(auto, unfolding(sql_pass::specs::Parts::from_open))]
@@ -137,7 +76,7 @@ fn push_side_open<DB: Backend>(sink: &mut Sink<DB>) -> Result<(), BindError>
         (sunk DB.QueryBuilder.text DB.QueryBuilder.count sink.new) }
 {
     match sink.dialect() {
-        Dialect::Pg | Dialect::Mysql | Dialect::Bracket => sink.push_sql("("),
+        Dialect::Pg | Dialect::Mysql | Dialect::Bracket => sink.push_sql(OPEN),
         Dialect::Sqlite => push_from_open(sink),
     }
 }
@@ -148,12 +87,12 @@ fn push_among_open<DB: Backend>(values: bool, sink: &mut Sink<DB>) -> Result<(),
         (sunk DB.QueryBuilder.text DB.QueryBuilder.count sink.new) }
 {
     match array_comparison(sink.dialect()) {
-        ArrayComparison::PgStyleArrayComparison => sink.push_sql("("),
+        ArrayComparison::PgStyleArrayComparison => sink.push_sql(OPEN),
         ArrayComparison::AnsiSqlArrayComparison => match values {
-            false => sink.push_sql("("),
+            false => sink.push_sql(OPEN),
             true => {
                 sink.mark_unsafe();
-                sink.push_sql("(")
+                sink.push_sql(OPEN)
             }
         },
     }
@@ -166,7 +105,7 @@ fn push_join_open<DB: Backend>(has_on: bool, sink: &mut Sink<DB>) -> Result<(), 
 {
     match has_on {
         false => Ok(()),
-        true => sink.push_sql("("),
+        true => sink.push_sql(OPEN),
     }
 }
 
@@ -177,7 +116,7 @@ fn push_unique<DB: Backend>(unique: Uniqueness, sink: &mut Sink<DB>) -> Result<(
 {
     match unique {
         Uniqueness::Every | Uniqueness::DistinctOn => Ok(()),
-        Uniqueness::Distinct => sink.push_sql("DISTINCT "),
+        Uniqueness::Distinct => sink.push_sql(DISTINCT),
     }
 }
 
@@ -186,7 +125,7 @@ fn push_select<DB: Backend>(unique: Uniqueness, sink: &mut Sink<DB>) -> Result<(
         (one (Text (codes "SELECT ")) ++ distinct_word unique) result
         (sunk DB.QueryBuilder.text DB.QueryBuilder.count sink.new) }
 {
-    sink.push_sql("SELECT ")?;
+    sink.push_sql(SELECT)?;
     push_unique(unique, sink)
 }
 
@@ -200,37 +139,25 @@ pub(crate) fn push_before<DB: Backend>(
         (sunk DB.QueryBuilder.text DB.QueryBuilder.count sink.new) }
 {
     match kind {
-        FlatKind::Not => sink.push_sql("NOT ("),
-        FlatKind::NullTest(_) => sink.push_sql("("),
-        FlatKind::Count => sink.push_sql("COUNT("),
-        FlatKind::Compared(_) => sink.push_sql("("),
-        FlatKind::Joined(_) => sink.push_sql("("),
-        FlatKind::Exists => sink.push_sql("EXISTS ("),
-        FlatKind::Single => sink.push_sql("("),
+        FlatKind::Unary(operator) => sink.push_sql(operator.before()),
+        FlatKind::Count => sink.push_sql(COUNT_OPEN),
+        FlatKind::Compared(_) => sink.push_sql(OPEN),
+        FlatKind::Joined(_) => sink.push_sql(OPEN),
+        FlatKind::Exists => sink.push_sql(EXISTS_OPEN),
+        FlatKind::Single => sink.push_sql(OPEN),
         FlatKind::Among(_, values) => push_among_open(*values, sink),
         FlatKind::Join(_, has_on) => push_join_open(*has_on, sink),
-        FlatKind::On => sink.push_sql(" ON "),
-        FlatKind::From => sink.push_sql(" FROM "),
+        FlatKind::On => sink.push_sql(ON),
+        FlatKind::From => sink.push_sql(FROM),
         FlatKind::DistinctOn => push_distinct_on(sink),
-        FlatKind::Where => sink.push_sql(" WHERE "),
+        FlatKind::Where => sink.push_sql(WHERE),
         FlatKind::GroupBy => push_group_by(sink),
-        FlatKind::Having => sink.push_sql(" HAVING "),
+        FlatKind::Having => sink.push_sql(HAVING),
         FlatKind::OrderBy => push_order_by(sink),
         FlatKind::Positions => push_order_by(sink),
         FlatKind::Select(selecting) => push_select(selecting.unique, sink),
         FlatKind::Side => push_side_open(sink),
-        FlatKind::Column(_, _) => Ok(()),
-        FlatKind::Value(_, _) => Ok(()),
-        FlatKind::List => Ok(()),
-        FlatKind::CountStar => Ok(()),
-        FlatKind::Nullable => Ok(()),
-        FlatKind::Values(_) => Ok(()),
-        FlatKind::Element(_, _) => Ok(()),
-        FlatKind::Table(_) => Ok(()),
-        FlatKind::Alias(_) => Ok(()),
-        FlatKind::Item(_) => Ok(()),
-        FlatKind::Combination(_) => Ok(()),
-        FlatKind::Position(_) => Ok(()),
+        _ => Ok(()),
     }
 }
 
@@ -256,7 +183,7 @@ fn push_next<DB: Backend>(begun: usize, sink: &mut Sink<DB>) -> Result<(), BindE
     if begun == 0 {
         Ok(())
     } else {
-        sink.push_sql(", ")
+        sink.push_sql(COMMA)
     }
 }
 
@@ -267,7 +194,7 @@ fn push_all<DB: Backend>(rule: DuplicateRule, sink: &mut Sink<DB>) -> Result<(),
 {
     match rule {
         DuplicateRule::Distinct => Ok(()),
-        DuplicateRule::All => sink.push_sql("ALL "),
+        DuplicateRule::All => sink.push_sql(ALL),
     }
 }
 
@@ -327,37 +254,15 @@ pub(crate) fn push_between<DB: Backend>(
         (sunk DB.QueryBuilder.text DB.QueryBuilder.count sink.new) }
 {
     match kind {
-        FlatKind::Compared(by) => push_second(comparison_text(*by), begun, sink),
-        FlatKind::Joined(by) => push_second(logic_text(*by), begun, sink),
+        FlatKind::Compared(by) => push_second(by.text(), begun, sink),
+        FlatKind::Joined(by) => push_second(by.text(), begun, sink),
         FlatKind::Among(negated, _) => push_among_word(*negated, begun, sink),
         FlatKind::Values(_) => push_next(begun, sink),
         FlatKind::Join(kind, _) => push_second(join_text(*kind), begun, sink),
         FlatKind::OrderBy => push_next(begun, sink),
         FlatKind::Positions => push_next(begun, sink),
         FlatKind::Combination(combining) => push_between_sides(combining, begun, sink),
-        FlatKind::Column(_, _) => Ok(()),
-        FlatKind::Value(_, _) => Ok(()),
-        FlatKind::List => Ok(()),
-        FlatKind::CountStar => Ok(()),
-        FlatKind::Nullable => Ok(()),
-        FlatKind::Not => Ok(()),
-        FlatKind::NullTest(_) => Ok(()),
-        FlatKind::Count => Ok(()),
-        FlatKind::Exists => Ok(()),
-        FlatKind::Single => Ok(()),
-        FlatKind::Element(_, _) => Ok(()),
-        FlatKind::Table(_) => Ok(()),
-        FlatKind::Alias(_) => Ok(()),
-        FlatKind::On => Ok(()),
-        FlatKind::From => Ok(()),
-        FlatKind::DistinctOn => Ok(()),
-        FlatKind::Where => Ok(()),
-        FlatKind::GroupBy => Ok(()),
-        FlatKind::Having => Ok(()),
-        FlatKind::Item(_) => Ok(()),
-        FlatKind::Select(_) => Ok(()),
-        FlatKind::Side => Ok(()),
-        FlatKind::Position(_) => Ok(()),
+        _ => Ok(()),
     }
 }
 
@@ -368,8 +273,8 @@ fn push_direction<DB: Backend>(by: Direction, sink: &mut Sink<DB>) -> Result<(),
 {
     match by {
         Direction::None => Ok(()),
-        Direction::Asc => sink.push_sql(" ASC"),
-        Direction::Desc => sink.push_sql(" DESC"),
+        Direction::Asc => sink.push_sql(ASC),
+        Direction::Desc => sink.push_sql(DESC),
     }
 }
 
@@ -410,36 +315,19 @@ pub(crate) fn push_after<DB: Backend>(kind: &FlatKind, sink: &mut Sink<DB>) -> R
         (sunk DB.QueryBuilder.text DB.QueryBuilder.count sink.new) }
 {
     match kind {
-        FlatKind::Not => sink.push_sql(")"),
-        FlatKind::NullTest(negated) => sink.push_sql(null_test_text(*negated)),
-        FlatKind::Count => sink.push_sql(")"),
-        FlatKind::Compared(_) => sink.push_sql(")"),
-        FlatKind::Joined(_) => sink.push_sql(")"),
-        FlatKind::Exists => sink.push_sql(")"),
-        FlatKind::Single => sink.push_sql(")"),
-        FlatKind::Among(_, _) => sink.push_sql("))"),
-        FlatKind::On => sink.push_sql(")"),
-        FlatKind::DistinctOn => sink.push_sql(") "),
+        FlatKind::Unary(operator) => sink.push_sql(operator.after()),
+        FlatKind::Count => sink.push_sql(CLOSE),
+        FlatKind::Compared(_) => sink.push_sql(CLOSE),
+        FlatKind::Joined(_) => sink.push_sql(CLOSE),
+        FlatKind::Exists => sink.push_sql(CLOSE),
+        FlatKind::Single => sink.push_sql(CLOSE),
+        FlatKind::Among(_, _) => sink.push_sql(CLOSE_BOTH),
+        FlatKind::On => sink.push_sql(CLOSE),
+        FlatKind::DistinctOn => sink.push_sql(DISTINCT_ON_CLOSE),
         FlatKind::Item(by) => push_direction(*by, sink),
         FlatKind::Select(selecting) => push_select_end(selecting.rows, selecting.form, sink),
-        FlatKind::Side => sink.push_sql(")"),
+        FlatKind::Side => sink.push_sql(CLOSE),
         FlatKind::Combination(combining) => sink.push_rows(combining.rows),
-        FlatKind::Column(_, _) => Ok(()),
-        FlatKind::Value(_, _) => Ok(()),
-        FlatKind::List => Ok(()),
-        FlatKind::CountStar => Ok(()),
-        FlatKind::Nullable => Ok(()),
-        FlatKind::Values(_) => Ok(()),
-        FlatKind::Element(_, _) => Ok(()),
-        FlatKind::Table(_) => Ok(()),
-        FlatKind::Alias(_) => Ok(()),
-        FlatKind::Join(_, _) => Ok(()),
-        FlatKind::From => Ok(()),
-        FlatKind::Where => Ok(()),
-        FlatKind::GroupBy => Ok(()),
-        FlatKind::Having => Ok(()),
-        FlatKind::OrderBy => Ok(()),
-        FlatKind::Positions => Ok(()),
-        FlatKind::Position(_) => Ok(()),
+        _ => Ok(()),
     }
 }

@@ -8,7 +8,7 @@ use Rattle.sql_schema.specs.declared.declaration.ColumnDecl.{ColumnDecl}
 use Rattle.sql_schema.specs.declared.declaration.TableDecl.{TableDecl}
 use Rattle.sql_rose.specs.Rose.{Roses, flat}
 use Rattle.sql_loops.specs.Folds.{sites}
-use Rattle.sql_node.specs.Tree.{Origin, Expr, column, value, list, count_star, nullable, not_of, null_test, count, compared, joined, exists, single, among_values, among_rows, Exprs, no_exprs, more_exprs}
+use Rattle.sql_node.specs.Tree.{Origin, Expr, column, value, list, count_star, nullable, unary, count, compared, joined, exists, single, among_values, among_rows, Exprs, no_exprs, more_exprs}
 use Rattle.sql_schema.specs.Equality.{same_column}
 use Rattle.sql_origin.specs.Origins.{a_table, same_origin}
 use Rattle.sql_origin.proofs.OriginLaws.{origin-decides}
@@ -51,8 +51,7 @@ module _ (t : TableDecl) where
   node-decides v K.List w = itself false
   node-decides v K.CountStar w = itself true
   node-decides v K.Nullable w = itself false
-  node-decides v K.Not w = itself false
-  node-decides v (K.NullTest n) w = itself false
+  node-decides v (K.Unary u) w = itself false
   node-decides v K.Count w = itself true
   node-decides v (K.Compared by) w = itself false
   node-decides v (K.Joined by) w = itself false
@@ -77,8 +76,7 @@ module _ (t : TableDecl) where
   to-expr v (list es) h = absurd (false≢true h)
   to-expr v count_star h = λ n. n tt
   to-expr v (nullable e) h = absurd (false≢true h)
-  to-expr v (not_of e) h = absurd (false≢true h)
-  to-expr v (null_test m e) h = absurd (false≢true h)
+  to-expr v (unary u e) h = absurd (false≢true h)
   to-expr v (count e) h = λ n. n tt
   to-expr v (compared by a b) h = absurd (false≢true h)
   to-expr v (joined by a b) h = absurd (false≢true h)
@@ -94,8 +92,7 @@ module _ (t : TableDecl) where
   of-expr v (list es) n = absurd (n (λ b. b))
   of-expr v count_star n = refl
   of-expr v (nullable e) n = absurd (n (λ b. b))
-  of-expr v (not_of e) n = absurd (n (λ b. b))
-  of-expr v (null_test m e) n = absurd (n (λ b. b))
+  of-expr v (unary u e) n = absurd (n (λ b. b))
   of-expr v (count e) n = refl
   of-expr v (compared by a b) n = absurd (n (λ b. b))
   of-expr v (joined by a b) n = absurd (n (λ b. b))
@@ -115,8 +112,7 @@ module _ (t : TableDecl) where
     inside v (list es) h = inr (inside-each v es h)
     inside v count_star h = absurd h
     inside v (nullable e) h = inr (inside v e h)
-    inside v (not_of e) h = inr (inside v e h)
-    inside v (null_test m e) h = inr (inside v e h)
+    inside v (unary u e) h = inr (inside v e h)
     inside v (count e) h = inl (λ n. n tt)
     inside v (compared by a b) h =
         inr (elim (any_split (seen.PartOut Foreign NoClause Never Never NoSelect NoCombination NoSource) (in_expr v a)

@@ -5,7 +5,7 @@ use Rattle.std.specs.List.{list_any}
 use Rattle.std.proofs.lemmas.Bool.{false≢true}
 use Rattle.sql_leaf.specs.declared.position.PositionalItem.{PositionalItem}
 use Rattle.sql_rose.specs.Rose.{Roses}
-use Rattle.sql_node.specs.Tree.{Expr, column, value, list, count_star, nullable, not_of, null_test, count, compared, joined, exists, single, among_values, among_rows, Items, no_items, more_items, MaybeExpr, no_expr, an_expr, Source, of_table, of_alias, join, From, no_source, from, Distinct, every, distinct, distinct_on, Order, no_order, order_by, Statement}
+use Rattle.sql_node.specs.Tree.{Expr, column, value, list, count_star, nullable, unary, count, compared, joined, exists, single, among_values, among_rows, Items, no_items, more_items, MaybeExpr, no_expr, an_expr, Source, of_table, of_alias, join, From, no_source, from, Distinct, every, distinct, distinct_on, Order, no_order, order_by, Statement}
 use Rattle.sql_rules.specs.Lists.{AnyOf}
 use Rattle.sql_rules.specs.Rules.{Present}
 use Rattle.sql_rules.specs.Scope.{View, Part, a_select, a_combination, parts, Place, in_selection, in_distinct_on, in_on, in_where, in_group_by, in_having, in_order_by, Clause, Select, clauses, own, widest, origins, maybe_clause, ons, ons_of, distinct_clause, item_clauses, order_clauses, nodes}
@@ -46,8 +46,7 @@ node-decides v (K.Value t x) w = itself false
 node-decides v K.List w = itself false
 node-decides v K.CountStar w = itself true
 node-decides v K.Nullable w = itself false
-node-decides v K.Not w = itself false
-node-decides v (K.NullTest n) w = itself false
+node-decides v (K.Unary u) w = itself false
 node-decides v K.Count w = itself true
 node-decides v (K.Compared by) w = itself false
 node-decides v (K.Joined by) w = itself false
@@ -65,8 +64,7 @@ to-expr v (value t x) h = absurd (false≢true h)
 to-expr v (list es) h = absurd (false≢true h)
 to-expr v count_star h = tt
 to-expr v (nullable e) h = absurd (false≢true h)
-to-expr v (not_of e) h = absurd (false≢true h)
-to-expr v (null_test n e) h = absurd (false≢true h)
+to-expr v (unary u e) h = absurd (false≢true h)
 to-expr v (count e) h = tt
 to-expr v (compared by a b) h = absurd (false≢true h)
 to-expr v (joined by a b) h = absurd (false≢true h)
@@ -81,8 +79,7 @@ of-expr v (value t x) h = absurd h
 of-expr v (list es) h = absurd h
 of-expr v count_star h = refl
 of-expr v (nullable e) h = absurd h
-of-expr v (not_of e) h = absurd h
-of-expr v (null_test n e) h = absurd h
+of-expr v (unary u e) h = absurd h
 of-expr v (count e) h = refl
 of-expr v (compared by a b) h = absurd h
 of-expr v (joined by a b) h = absurd h

@@ -12,7 +12,7 @@ use Rattle.sql_leaf.specs.declared.locking.LockingClause.TheVariants.{NoLockingC
 use Rattle.sql_rose.specs.Rose.{Roses, sizes, flats}
 use Rattle.sql_loops.specs.Folds.{gathered}
 use Rattle.sql_node.specs.Tree as t
-use Rattle.sql_node.specs.Tree.{Distinct, every, distinct, distinct_on, Expr, column, value, list, count_star, nullable, not_of, null_test, count, compared, joined, exists, single, among_values, among_rows, MaybeExpr, no_expr, an_expr, From, no_source, from, Order, no_order, order_by, Statement, unboxed, boxed}
+use Rattle.sql_node.specs.Tree.{Distinct, every, distinct, distinct_on, Expr, column, value, list, count_star, nullable, unary, count, compared, joined, exists, single, among_values, among_rows, MaybeExpr, no_expr, an_expr, From, no_source, from, Order, no_order, order_by, Statement, unboxed, boxed}
 use Rattle.sql_rules.specs.Rules.{Broken, HasLock, IsDistinct, IsIncompatible, PartBreaks, Present, misuse}
 use Rattle.sql_rules.specs.Scope.{View, Part, a_select, a_combination, Select, parts}
 use Rattle.sql_rules.specs.declared.rule.Rule.TheVariants as rule
@@ -90,8 +90,7 @@ no-clause (value t x) = refl
 no-clause (list es) = refl
 no-clause count_star = refl
 no-clause (nullable e) = refl
-no-clause (not_of e) = refl
-no-clause (null_test n e) = refl
+no-clause (unary n e) = refl
 no-clause (count e) = refl
 no-clause (compared by a b) = refl
 no-clause (joined by a b) = refl

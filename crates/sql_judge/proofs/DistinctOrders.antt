@@ -10,7 +10,7 @@ use Rattle.sql_dialect.specs.declared.backend.Dialect.{Dialect}
 use Rattle.sql_leaf.specs.declared.locking.LockingClause.{LockingClause}
 use Rattle.sql_rose.specs.Rose.{Rose, node, Roses, none, more, one}
 use Rattle.sql_node.specs.Tree as t
-use Rattle.sql_node.specs.Tree.{Expr, column, value, list, count_star, nullable, not_of, null_test, count, compared, joined, exists, single, among_values, among_rows, Exprs, no_exprs, more_exprs, Items, no_items, more_items, MaybeExpr, no_expr, an_expr, From, no_source, from, Distinct, every, distinct, distinct_on, Order, no_order, order_by, Statement, unboxed, boxed, under}
+use Rattle.sql_node.specs.Tree.{Expr, column, value, list, count_star, nullable, unary, count, compared, joined, exists, single, among_values, among_rows, Exprs, no_exprs, more_exprs, Items, no_items, more_items, MaybeExpr, no_expr, an_expr, From, no_source, from, Distinct, every, distinct, distinct_on, Order, no_order, order_by, Statement, unboxed, boxed, under}
 use Rattle.sql_rules.specs.Lists.{Differ}
 use Rattle.sql_rules.specs.Rules.{Broken, OrderDiffers, PartBreaks}
 use Rattle.sql_rules.specs.Scope.{View, Part, a_select, a_combination, Select, flat, flat_items, flat_of as flat_exprs, parts}

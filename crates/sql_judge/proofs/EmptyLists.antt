@@ -7,7 +7,7 @@ use Rattle.sql_dialect.specs.declared.backend.Dialect.{Dialect}
 use Rattle.sql_leaf.specs.declared.position.PositionalItem.{PositionalItem}
 use Rattle.sql_rose.specs.Rose.{Roses}
 use Rattle.sql_loops.specs.Folds.{folded_each}
-use Rattle.sql_node.specs.Tree.{Expr, column, value, list, count_star, nullable, not_of, null_test, count, compared, joined, exists, single, among_values, among_rows, Source, of_table, of_alias, join, From, no_source, from, Order, no_order, order_by, Statement}
+use Rattle.sql_node.specs.Tree.{Expr, column, value, list, count_star, nullable, unary, count, compared, joined, exists, single, among_values, among_rows, Source, of_table, of_alias, join, From, no_source, from, Order, no_order, order_by, Statement}
 use Rattle.sql_rules.specs.Lists.{AnyOf}
 use Rattle.sql_rules.specs.Rules.{Broken, IsEmptyList, IsEmptyOrder, PartBreaks}
 use Rattle.sql_rules.specs.Scope.{View, Part, a_select, a_combination, Place, in_selection, in_distinct_on, in_on, in_where, in_group_by, in_having, in_order_by, Clause, Select, clauses, nodes, flat, flat_items, parts}
@@ -107,8 +107,7 @@ no-node v (column o c) h = h
 no-node v (list es) h = h
 no-node v count_star h = h
 no-node v (nullable e) h = h
-no-node v (not_of e) h = h
-no-node v (null_test n e) h = h
+no-node v (unary n e) h = h
 no-node v (count e) h = h
 no-node v (compared by a b) h = h
 no-node v (joined by a b) h = h

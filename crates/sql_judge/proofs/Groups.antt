@@ -6,7 +6,7 @@ use Rattle.std.proofs.lemmas.List.Folds.{list_any-append}
 use Rattle.sql_schema.specs.declared.declaration.ColumnDecl.{ColumnDecl}
 use Rattle.sql_rose.specs.Rose.{Rose, Roses, node, more, one}
 use Rattle.sql_loops.specs.Folds.{gathered, gathered_each}
-use Rattle.sql_node.specs.Tree.{Origin, Expr, column, value, list, count_star, nullable, not_of, null_test, count, compared, joined, exists, single, among_values, among_rows, Exprs, no_exprs, more_exprs, Items, no_items, more_items, MaybeExpr, no_expr, an_expr, From, no_source, from, Distinct, every, distinct, distinct_on, Order, no_order, order_by, Statement, select, combination}
+use Rattle.sql_node.specs.Tree.{Origin, Expr, column, value, list, count_star, nullable, unary, count, compared, joined, exists, single, among_values, among_rows, Exprs, no_exprs, more_exprs, Items, no_items, more_items, MaybeExpr, no_expr, an_expr, From, no_source, from, Distinct, every, distinct, distinct_on, Order, no_order, order_by, Statement, select, combination}
 use Rattle.sql_rules.specs.Lists.{AnyOf}
 use Rattle.sql_rules.specs.Rules.{CountsAggregate}
 use Rattle.sql_rules.specs.Scope.{nodes, nodes_of}
@@ -44,8 +44,7 @@ mutual
   fields-held (list es) = fields-each es
   fields-held count_star = refl
   fields-held (nullable e) = append-nil (gathered field_at field_passed (expr_rose e)) ∙ fields-held e
-  fields-held (not_of e) = refl
-  fields-held (null_test n e) = refl
+  fields-held (unary n e) = refl
   fields-held (count e) = refl
   fields-held (compared by a b) = refl
   fields-held (joined by a b) = refl
@@ -84,8 +83,7 @@ mutual
   any-held (list es) = any-each es
   any-held count_star = refl
   any-held (nullable e) = any-one (own e) (holds_aggregate e) (any-held e)
-  any-held (not_of e) = any-one (own e) (holds_aggregate e) (any-held e)
-  any-held (null_test n e) = any-one (own e) (holds_aggregate e) (any-held e)
+  any-held (unary n e) = any-one (own e) (holds_aggregate e) (any-held e)
   any-held (count e) = refl
   any-held (compared by a b) =
       any-two (own a) (own b) (holds_aggregate a) (holds_aggregate b) (any-held a) (any-held b)
@@ -201,8 +199,7 @@ module _ (g : MaybeExpr) where
     agrees (list es) = alone (list es) es (agrees-each es)
     agrees count_star = inr refl
     agrees (nullable e) = below (nullable e) e (agrees e)
-    agrees (not_of e) = below (not_of e) e (agrees e)
-    agrees (null_test n e) = below (null_test n e) e (agrees e)
+    agrees (unary n e) = below (unary n e) e (agrees e)
     agrees (count e) = count-agrees e (holds_aggregate e) refl
     agrees (compared by a b) = both (compared by a b) a b (agrees a) (agrees b)
     agrees (joined by a b) = both (joined by a b) a b (agrees a) (agrees b)
@@ -271,8 +268,7 @@ group-selection (value t x) rest = refl
 group-selection (list es) rest = refl
 group-selection count_star rest = refl
 group-selection (nullable e) rest = refl
-group-selection (not_of e) rest = refl
-group-selection (null_test n e) rest = refl
+group-selection (unary n e) rest = refl
 group-selection (count e) rest = refl
 group-selection (compared by a b) rest = refl
 group-selection (joined by a b) rest = refl
@@ -345,8 +341,7 @@ module _ (g : Option (List Field)) where
   sum-selection s (list es) rest = refl
   sum-selection s count_star rest = refl
   sum-selection s (nullable e) rest = refl
-  sum-selection s (not_of e) rest = refl
-  sum-selection s (null_test n e) rest = refl
+  sum-selection s (unary n e) rest = refl
   sum-selection s (count e) rest = refl
   sum-selection s (compared by a b) rest = refl
   sum-selection s (joined by a b) rest = refl

@@ -13,7 +13,7 @@ use Rattle.sql_schema.specs.declared.types.Base.TheVariants.{Bool as BoolBase}
 use Rattle.sql_dialect.specs.declared.backend.Dialect.{Dialect}
 use Rattle.sql_rose.specs.Rose.{Roses}
 use Rattle.sql_loops.specs.Folds.{folded, folded_each}
-use Rattle.sql_node.specs.Tree.{Expr, column, value, list, count_star, nullable, not_of, null_test, count, compared, joined, exists, single, among_values, among_rows, Exprs, no_exprs, more_exprs, Source, of_table, of_alias, join, From, no_source, from, Order, no_order, order_by, Statement}
+use Rattle.sql_node.specs.Tree.{Expr, column, value, list, count_star, nullable, unary, count, compared, joined, exists, single, among_values, among_rows, Exprs, no_exprs, more_exprs, Source, of_table, of_alias, join, From, no_source, from, Order, no_order, order_by, Statement}
 use Rattle.sql_rules.specs.Lists.{AnyOf}
 use Rattle.sql_rules.specs.Rules.{Broken, IsBool, IsIllTyped, IsIllTypedClause, PartBreaks}
 use Rattle.sql_rules.specs.Scope.{View, Part, a_select, a_combination, Place, in_selection, in_distinct_on, in_on, in_where, in_group_by, in_having, in_order_by, Clause, Select, clauses, nodes, nodes_of, flat, flat_of, parts}
@@ -147,8 +147,7 @@ of-misfit v (column o c) h = absurd h
 of-misfit v (list es) h = absurd h
 of-misfit v count_star h = absurd h
 of-misfit v (nullable e) h = absurd h
-of-misfit v (not_of e) h = absurd h
-of-misfit v (null_test n e) h = absurd h
+of-misfit v (unary n e) h = absurd h
 of-misfit v (count e) h = absurd h
 of-misfit v (compared by a b) h = absurd h
 of-misfit v (joined by a b) h = absurd h
@@ -163,8 +162,7 @@ to-misfit v (column o c) h = absurd (false≢true h)
 to-misfit v (list es) h = absurd (false≢true h)
 to-misfit v count_star h = absurd (false≢true h)
 to-misfit v (nullable e) h = absurd (false≢true h)
-to-misfit v (not_of e) h = absurd (false≢true h)
-to-misfit v (null_test n e) h = absurd (false≢true h)
+to-misfit v (unary n e) h = absurd (false≢true h)
 to-misfit v (count e) h = absurd (false≢true h)
 to-misfit v (compared by a b) h = absurd (false≢true h)
 to-misfit v (joined by a b) h = absurd (false≢true h)
@@ -220,8 +218,7 @@ module _ (v : View) where
     flat-inside (column o c) h = only h
     flat-inside (value t x) h = only h
     flat-inside count_star h = only h
-    flat-inside (not_of e) h = only h
-    flat-inside (null_test n e) h = only h
+    flat-inside (unary n e) h = only h
     flat-inside (count e) h = only h
     flat-inside (compared by a b) h = only h
     flat-inside (joined by a b) h = only h
@@ -249,8 +246,7 @@ module _ (v : View) where
     inside-flat (column o c) h = inl h
     inside-flat (value t x) h = inl h
     inside-flat count_star h = inl h
-    inside-flat (not_of e) h = inl h
-    inside-flat (null_test n e) h = inl h
+    inside-flat (unary n e) h = inl h
     inside-flat (count e) h = inl h
     inside-flat (compared by a b) h = inl h
     inside-flat (joined by a b) h = inl h

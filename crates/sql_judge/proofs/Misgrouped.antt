@@ -10,7 +10,7 @@ use Rattle.sql_dialect.specs.declared.backend.Dialect.{Dialect}
 use Rattle.sql_rose.specs.Rose.{Roses}
 use Rattle.sql_loops.specs.Folds.{gathered_each}
 use Rattle.sql_node.specs.Tree as t
-use Rattle.sql_node.specs.Tree.{unboxed, boxed, Expr, column, value, list, count_star, nullable, not_of, null_test, count, compared, joined, exists, single, among_values, among_rows, Items, no_items, more_items, MaybeExpr, no_expr, an_expr, Distinct, every, distinct, distinct_on, Order, no_order, order_by, Statement}
+use Rattle.sql_node.specs.Tree.{unboxed, boxed, Expr, column, value, list, count_star, nullable, unary, count, compared, joined, exists, single, among_values, among_rows, Items, no_items, more_items, MaybeExpr, no_expr, an_expr, Distinct, every, distinct, distinct_on, Order, no_order, order_by, Statement}
 use Rattle.sql_rules.specs.Lists.{AnyOf}
 use Rattle.sql_rules.specs.Rules.{Broken, CountsAggregate, HasAggregate, IsMisgrouped, IsUnboxed, PartBreaks, distinct_verdict, items_verdict, order_verdict}
 use Rattle.sql_rules.specs.Scope.{AnyExpr, Clause, in_selection, in_where, in_group_by, in_having, View, Part, a_select, a_combination, Select, clauses, distinct_clause, item_clauses, maybe_clause, nodes, ons_of, order_clauses, own, parts, widest}

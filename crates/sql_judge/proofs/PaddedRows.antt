@@ -12,7 +12,7 @@ use Rattle.sql_leaf.specs.declared.table_source.JoinKind.{JoinKind}
 use Rattle.sql_leaf.specs.declared.table_source.JoinKind.TheVariants.{Inner, LeftOuter}
 use Rattle.sql_rose.specs.Rose.{Roses}
 use Rattle.sql_loops.specs.Folds.{folded, folded_each}
-use Rattle.sql_node.specs.Tree.{Origin, Expr, column, value, list, count_star, nullable, not_of, null_test, count, compared, joined, exists, single, among_values, among_rows, Exprs, no_exprs, more_exprs, MaybeExpr, no_expr, an_expr, Source, of_table, of_alias, join, From, no_source, from, Distinct, every, distinct, distinct_on, Order, no_order, order_by, Statement, select, combination}
+use Rattle.sql_node.specs.Tree.{Origin, Expr, column, value, list, count_star, nullable, unary, count, compared, joined, exists, single, among_values, among_rows, Exprs, no_exprs, more_exprs, MaybeExpr, no_expr, an_expr, Source, of_table, of_alias, join, From, no_source, from, Distinct, every, distinct, distinct_on, Order, no_order, order_by, Statement, select, combination}
 use Rattle.sql_origin.proofs.OriginLaws.{origin-decides}
 use Rattle.sql_origin.specs.Leaves.{Leaf, in_right_side, is_padded, leaves}
 use Rattle.sql_origin.specs.Origins.{same_origin}
@@ -61,8 +61,7 @@ mutual
   expr-held (list es) = ap bares (exprs-held es)
   expr-held count_star = refl
   expr-held (nullable e) = refl
-  expr-held (not_of e) = ap (λ h. bares (h.bare ++ [])) (expr-held e) ∙ ap bares (bare-alone (bare e))
-  expr-held (null_test n e) = ap (λ h. bares (h.bare ++ [])) (expr-held e) ∙ ap bares (bare-alone (bare e))
+  expr-held (unary n e) = ap (λ h. bares (h.bare ++ [])) (expr-held e) ∙ ap bares (bare-alone (bare e))
   expr-held (count e) = ap (λ h. bares (h.bare ++ [])) (expr-held e) ∙ ap bares (bare-alone (bare e))
   expr-held (compared by a b) =
       (λ i. bares ((expr-held a i).bare ++ ((expr-held b i).bare ++ [])))

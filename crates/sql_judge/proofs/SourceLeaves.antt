@@ -4,7 +4,7 @@ use Rattle.sql_leaf.specs.declared.table_source.JoinKind.{JoinKind}
 use Rattle.sql_leaf.specs.declared.table_source.JoinKind.TheVariants.{Inner, LeftOuter}
 use Rattle.sql_rose.specs.Rose.{Rose, Roses, none, more}
 use Rattle.sql_loops.specs.Folds.{gathered}
-use Rattle.sql_node.specs.Tree.{Origin, Form, unboxed, boxed, Expr, column, value, list, count_star, nullable, not_of, null_test, count, compared, joined, exists, single, among_values, among_rows, MaybeExpr, no_expr, an_expr, Source, of_table, of_alias, join, From, no_source, from, Distinct, every, distinct, distinct_on, Order, no_order, order_by}
+use Rattle.sql_node.specs.Tree.{Origin, Form, unboxed, boxed, Expr, column, value, list, count_star, nullable, unary, count, compared, joined, exists, single, among_values, among_rows, MaybeExpr, no_expr, an_expr, Source, of_table, of_alias, join, From, no_source, from, Distinct, every, distinct, distinct_on, Order, no_order, order_by}
 use Rattle.sql_origin.specs.Leaves.{Leaf, leaves, in_right_side}
 use Rattle.sql_origin.specs.Origins.{a_table, an_alias}
 use Rattle.sql_rules.specs.Scope.{View, origins, origins_of, widest}
@@ -22,8 +22,7 @@ no-leaf (value t x) = refl
 no-leaf (list es) = refl
 no-leaf count_star = refl
 no-leaf (nullable e) = refl
-no-leaf (not_of e) = refl
-no-leaf (null_test n e) = refl
+no-leaf (unary n e) = refl
 no-leaf (count e) = refl
 no-leaf (compared by a b) = refl
 no-leaf (joined by a b) = refl

@@ -5,7 +5,7 @@ use Rattle.sql_rose.specs.Rose.{leaf, roses_of}
 use Rattle.sql_loops.specs.Folds.{folded, folded_each}
 use Rattle.sql_schema.specs.declared.types.SqlType.{SqlType}
 use Rattle.sql_pass.specs.declared.value.Value.{Value}
-use Rattle.sql_node.specs.Tree.{Form, unboxed, boxed, Expr, column, value, list, count_star, nullable, not_of, null_test, count, compared, joined, exists, single, among_values, among_rows, Exprs, no_exprs, more_exprs, Items, no_items, more_items, MaybeExpr, From, Order, Distinct, every, distinct, distinct_on, Statement, select, combination}
+use Rattle.sql_node.specs.Tree.{Form, unboxed, boxed, Expr, column, value, list, count_star, nullable, unary, count, compared, joined, exists, single, among_values, among_rows, Exprs, no_exprs, more_exprs, Items, no_items, more_items, MaybeExpr, From, Order, Distinct, every, distinct, distinct_on, Statement, select, combination}
 use Rattle.sql_rules.specs.Scope.{flat, flat_items}
 use Rattle.sql_rules.specs.Types.{one, many, given, given_each, columns, element_types, form_columns, fits, all_fit, only_type, compared_type, type_of}
 use Rattle.sql_rules.proofs.Nulled.{elements}
@@ -53,8 +53,7 @@ mutual
   expr-typed (list es) = ap many (exprs-typed es)
   expr-typed count_star = refl
   expr-typed (nullable e) = rw (expr-typed e) refl
-  expr-typed (not_of e) = rw (expr-typed e) refl
-  expr-typed (null_test n e) = rw (expr-typed e) refl
+  expr-typed (unary n e) = rw (expr-typed e) refl
   expr-typed (count e) = rw (expr-typed e) refl
   expr-typed (compared by a b) = rw (expr-typed a, expr-typed b) refl
   expr-typed (joined by a b) = rw (expr-typed a, expr-typed b) refl

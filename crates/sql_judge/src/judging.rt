@@ -12,7 +12,9 @@ use crate::stack::{Done, has_none, list_types, next, next_type, selection, value
 use crate::types::{element_type, types_differ};
 use sql_flat::{Combining, FlatKind, Form, Selecting};
 use sql_schema::{NoMemory, SqlType};
-use sql_types::{as_nullable, big_type, bool_type, compared_type, if_typed, joined_type, not_type};
+use sql_types::{
+    as_nullable, big_type, bool_type, compared_type, if_typed, joined_type, unary_type,
+};
 use std::alloc::Global;
 
 fn columns(
@@ -146,8 +148,7 @@ pub(crate) fn judged_at(
         FlatKind::List => list(alloc, done, end),
         FlatKind::CountStar => Ok(Judged::one(big_type())),
         FlatKind::Nullable => nullable(alloc, done, end),
-        FlatKind::Not => Ok(Judged::one(not_type(next_type(done, end)))),
-        FlatKind::NullTest(_) => Ok(Judged::one(if_typed(next_type(done, end), bool_type(false)))),
+        FlatKind::Unary(operator) => Ok(Judged::one(unary_type(*operator, next_type(done, end)))),
         FlatKind::Count => Ok(Judged::one(if_typed(next_type(done, end), big_type()))),
         FlatKind::Compared(_) => Ok(Judged::one(compared(done, end))),
         FlatKind::Joined(_) => Ok(Judged::one(joined(done, end))),

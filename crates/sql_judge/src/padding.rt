@@ -235,9 +235,7 @@ fn held_at<'s>(
 {
     match kind {
         FlatKind::Column(alias, column) => one_bare(alloc, origin_under(alias, column)),
-        FlatKind::List | FlatKind::Not | FlatKind::NullTest(_) | FlatKind::Count => {
-            all_held_bare(alloc, parts, end)
-        }
+        FlatKind::List | FlatKind::Unary(_) | FlatKind::Count => all_held_bare(alloc, parts, end),
         FlatKind::Compared(_) | FlatKind::Joined(_) | FlatKind::Among(_, _) => {
             all_held_bare(alloc, parts, end)
         }

@@ -18,16 +18,18 @@ use Rattle.sql_leaf.specs.contracts.locking.LockMode.{the_type as the_lock_mode}
 use Rattle.sql_leaf.specs.contracts.locking.LockModePartialEq.TheImpl as lock_mode_eq
 use Rattle.sql_leaf.specs.contracts.locking.Modifier.{the_type as the_modifier}
 use Rattle.sql_leaf.specs.contracts.locking.ModifierPartialEq.TheImpl as modifier_eq
+use Rattle.sql_leaf.specs.contracts.operator.Comparison.{the_type as the_comparison}
+use Rattle.sql_leaf.specs.contracts.operator.ComparisonPartialEq.TheImpl as comparison_eq
+use Rattle.sql_leaf.specs.contracts.operator.Logic.{the_type as the_logic}
+use Rattle.sql_leaf.specs.contracts.operator.LogicPartialEq.TheImpl as logic_eq
+use Rattle.sql_leaf.specs.contracts.operator.Unary.{the_type as the_unary}
+use Rattle.sql_leaf.specs.contracts.operator.UnaryPartialEq.TheImpl as unary_eq
 use Rattle.sql_leaf.specs.contracts.position.Direction.{the_type as the_direction}
 use Rattle.sql_leaf.specs.contracts.position.DirectionPartialEq.TheImpl as direction_eq
 use Rattle.sql_leaf.specs.contracts.table_source.JoinKind.{the_type as the_join_kind}
 use Rattle.sql_leaf.specs.contracts.table_source.JoinKindPartialEq.TheImpl as join_kind_eq
 use Rattle.sql_leaf.specs.contracts.table_source.TablesampleMethod.{the_type as the_tablesample_method}
 use Rattle.sql_leaf.specs.contracts.table_source.TablesampleMethodPartialEq.TheImpl as tablesample_method_eq
-use Rattle.sql_flat.specs.contracts.kind.Comparison.{the_type as the_comparison}
-use Rattle.sql_flat.specs.contracts.kind.ComparisonPartialEq.TheImpl as comparison_eq
-use Rattle.sql_flat.specs.contracts.kind.Logic.{the_type as the_logic}
-use Rattle.sql_flat.specs.contracts.kind.LogicPartialEq.TheImpl as logic_eq
 use Rattle.sql_flat.specs.contracts.kind.Uniqueness.{the_type as the_uniqueness}
 use Rattle.sql_flat.specs.contracts.kind.UniquenessPartialEq.TheImpl as uniqueness_eq
 use Rattle.sql_leaf.specs.contracts.marks.MarksPartialEq.TheImpl as marks_eq
@@ -84,6 +86,9 @@ exact-join_kind a b h = same_true the_join_kind tt a b h
 
 exact-tablesample_method : IsExact (tablesample_method_eq.ghosts).eq
 exact-tablesample_method a b h = same_true the_tablesample_method tt a b h
+
+exact-unary : IsExact (unary_eq.ghosts).eq
+exact-unary a b h = same_true the_unary tt a b h
 
 exact-comparison : IsExact (comparison_eq.ghosts).eq
 exact-comparison a b h = same_true the_comparison tt a b h
@@ -190,7 +195,7 @@ exact-combining a b h =
 exact-flat_kind : IsExact (flat_kind_eq.ghosts).eq
 exact-flat_kind =
     exact-enum the_flat_kind _
-    (two (exact-option exact-text) exact-column, (two exact-type exact-value, (none, (none, (none, (none, (one exact-bool, (none, (one exact-comparison, (one exact-logic, (none, (none, (two exact-bool exact-bool, (one exact-type, (two exact-type exact-value, (one exact-table_source, (one exact-alias, (two exact-join_kind exact-bool, (none, (none, (none, (none, (none, (none, (none, (one exact-direction, (one exact-selecting, (one exact-combining, (none, (none, (one exact-positional_item, tt)))))))))))))))))))))))))))))))
+    (two (exact-option exact-text) exact-column, (two exact-type exact-value, (none, (none, (none, (one exact-unary, (none, (one exact-comparison, (one exact-logic, (none, (none, (two exact-bool exact-bool, (one exact-type, (two exact-type exact-value, (one exact-table_source, (one exact-alias, (two exact-join_kind exact-bool, (none, (none, (none, (none, (none, (none, (none, (one exact-direction, (one exact-selecting, (one exact-combining, (none, (none, (one exact-positional_item, tt))))))))))))))))))))))))))))))
 
 exact-node : IsExact (node_eq.ghosts).eq
 exact-node a b h =

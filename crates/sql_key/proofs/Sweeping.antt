@@ -4,9 +4,9 @@ use Rattle.sql_schema.specs.declared.types.SqlType.{SqlType}
 use Rattle.sql_pass.specs.declared.value.Value.{Value}
 use Rattle.sql_pass.specs.declared.value.Value.TheVariants.{Null}
 use Rattle.sql_leaf.specs.declared.position.PositionalItem.{PositionalItem}
-use Rattle.sql_node.specs.Tree.{Expr, column, value, list, count_star, nullable, not_of, null_test, count, compared, joined as logical, exists, single, among_values, among_rows, Exprs, no_exprs, more_exprs, Items, no_items, more_items, MaybeExpr, no_expr, an_expr, Source, of_table, of_alias, join, From, no_source, from, Distinct, every, distinct, distinct_on, Order, no_order, order_by, Statement, select, combination}
+use Rattle.sql_node.specs.Tree.{Expr, column, value, list, count_star, nullable, unary, count, compared, joined as logical, exists, single, among_values, among_rows, Exprs, no_exprs, more_exprs, Items, no_items, more_items, MaybeExpr, no_expr, an_expr, Source, of_table, of_alias, join, From, no_source, from, Distinct, every, distinct, distinct_on, Order, no_order, order_by, Statement, select, combination}
 use Rattle.sql_rose.specs.Rose.{Rose, node, Roses, none, more, leaf, one, two, joined, roses_of}
-use Rattle.sql_flat.specs.Flat.{expr_rose, exprs_roses, items_roses, maybe_roses, source_rose, from_roses, distinct_roses, order_roses, positions_roses, rose, selecting_of, comparison_of, logic_of, uniqueness, has_on, form_of}
+use Rattle.sql_flat.specs.Flat.{expr_rose, exprs_roses, items_roses, maybe_roses, source_rose, from_roses, distinct_roses, order_roses, positions_roses, rose, selecting_of, uniqueness, has_on, form_of}
 use Rattle.sql_flat.specs.declared.kind.FlatKind.{FlatKind}
 use Rattle.sql_flat.specs.declared.kind.FlatKind.TheVariants as K
 use Rattle.sql_flat.specs.declared.kind.Uniqueness.{Uniqueness}
@@ -48,13 +48,12 @@ module _ (lists : Bool) where
     expr-swept (list es) = ap (λ ts. one (node K.List ts)) (exprs-swept es)
     expr-swept count_star = refl
     expr-swept (nullable e) = ap (λ ts. one (node K.Nullable (joined ts none))) (expr-swept e)
-    expr-swept (not_of e) = ap (λ ts. one (node K.Not (joined ts none))) (expr-swept e)
-    expr-swept (null_test n e) = ap (λ ts. one (node (K.NullTest n) (joined ts none))) (expr-swept e)
+    expr-swept (unary n e) = ap (λ ts. one (node (K.Unary n) (joined ts none))) (expr-swept e)
     expr-swept (count e) = ap (λ ts. one (node K.Count (joined ts none))) (expr-swept e)
     expr-swept (compared by a b) =
-        λ i. one (node (K.Compared (comparison_of by)) (joined (expr-swept a i) (joined (expr-swept b i) none)))
+        λ i. one (node (K.Compared by) (joined (expr-swept a i) (joined (expr-swept b i) none)))
     expr-swept (logical by a b) =
-        λ i. one (node (K.Joined (logic_of by)) (joined (expr-swept a i) (joined (expr-swept b i) none)))
+        λ i. one (node (K.Joined by) (joined (expr-swept a i) (joined (expr-swept b i) none)))
     expr-swept (exists q) = ap (λ ts. one (node K.Exists (joined ts none))) (statement-swept q)
     expr-swept (single q) = ap (λ ts. one (node K.Single (joined ts none))) (statement-swept q)
     expr-swept (among_values n e t vs) =

@@ -6,7 +6,7 @@ use Rattle.sql_leaf.specs.declared.locking.LockMode.TheVariants as lock
 use Rattle.sql_leaf.specs.declared.locking.Modifier.TheVariants as way
 use Rattle.sql_node.specs.Tree as t
 use Rattle.sql_node.specs.View.{Among, among_list, among_query, among_of, Item, exprs_of, items_of}
-use Rattle.sql_node.specs.Words.{And, Or}
+use Rattle.sql_leaf.specs.Operators.{And, Or}
 use Rattle.sql_source.specs.Joins.{alone, joined_by}
 use Rattle.sql_select.specs.Changes.{ordered, ordered_then, combined, single_value_of}
 use Rattle.sql_select.specs.Clauses.{only}
@@ -39,22 +39,14 @@ module _ (schema : Declarations) (d : Dialect) where
   -- ## Operators and calls
 
   one-known : (by : UnaryOperator) (e : t.Expr) → KnownExpr schema e → KnownExpr schema (made_of_one by e)
-  one-known unary.Not e h = h
-  one-known unary.IsNull e h = h
-  one-known unary.IsNotNull e h = h
+  one-known (unary.Condition by) e h = h
   one-known unary.Nullable e h = h
   one-known unary.Count e h = h
 
   two-known : (by : BinaryOperator) (a b : t.Expr) → KnownExpr schema a → KnownExpr schema b
       → KnownExpr schema (made_of_two by a b)
-  two-known binary.Eq a b h k = (h, k)
-  two-known binary.Ne a b h k = (h, k)
-  two-known binary.Gt a b h k = (h, k)
-  two-known binary.Ge a b h k = (h, k)
-  two-known binary.Lt a b h k = (h, k)
-  two-known binary.Le a b h k = (h, k)
-  two-known binary.And a b h k = (h, k)
-  two-known binary.Or a b h k = (h, k)
+  two-known (binary.Compare by) a b h k = (h, k)
+  two-known (binary.Join by) a b h k = (h, k)
 
   among-known : (n : Bool) (e : t.Expr) (m : Among) → KnownExpr schema e → KnownAmong schema m
       → KnownExpr schema (among_of n e m)

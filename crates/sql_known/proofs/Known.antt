@@ -3,7 +3,7 @@
 use Rattle.std.specs.Prelude.{Option, IfSome}
 use Rattle.sql_schema.specs.Columns.{DeclaredColumn}
 use Rattle.sql_schema.specs.Declarations.{Declarations}
-use Rattle.sql_node.specs.Tree.{Origin, Expr, column, value, list, count_star, nullable, not_of, null_test, count, compared, joined, exists, single, among_values, among_rows, Exprs, no_exprs, more_exprs, Items, no_items, more_items, MaybeExpr, no_expr, an_expr, Source, of_table, of_alias, join, From, no_source, from, Distinct, every, distinct, distinct_on, Order, no_order, order_by, Statement, select, combination}
+use Rattle.sql_node.specs.Tree.{Origin, Expr, column, value, list, count_star, nullable, unary, count, compared, joined, exists, single, among_values, among_rows, Exprs, no_exprs, more_exprs, Items, no_items, more_items, MaybeExpr, no_expr, an_expr, Source, of_table, of_alias, join, From, no_source, from, Distinct, every, distinct, distinct_on, Order, no_order, order_by, Statement, select, combination}
 use Rattle.sql_node.specs.View.{Among, among_list, among_query}
 use Rattle.sql_expr.specs.Joining.{Side}
 use Rattle.sql_origin.specs.Leaves.{Leaf}
@@ -18,8 +18,7 @@ module _ (schema : Declarations) where
     KnownExpr (list es) = KnownExprs es
     KnownExpr count_star = Unit {0}
     KnownExpr (nullable e) = KnownExpr e
-    KnownExpr (not_of e) = KnownExpr e
-    KnownExpr (null_test n e) = KnownExpr e
+    KnownExpr (unary n e) = KnownExpr e
     KnownExpr (count e) = KnownExpr e
     KnownExpr (compared by a b) = KnownExpr a × KnownExpr b
     KnownExpr (joined by a b) = KnownExpr a × KnownExpr b

@@ -2,7 +2,7 @@
 use Rattle.std.proofs.Common.{[], ◌++◌, true, inl, inr}
 use Rattle.sql_schema.specs.Declarations.{Declarations}
 use Rattle.sql_dialect.specs.declared.backend.Dialect.{Dialect}
-use Rattle.sql_node.specs.Tree.{Expr, column, value, list, count_star, nullable, not_of, null_test, count, compared, joined, exists, single, among_values, among_rows, Exprs, no_exprs, more_exprs, Items, no_items, more_items, MaybeExpr, no_expr, an_expr, Source, of_table, of_alias, join, From, no_source, from, Distinct, every, distinct, distinct_on, Order, no_order, order_by, Statement, select, combination}
+use Rattle.sql_node.specs.Tree.{Expr, column, value, list, count_star, nullable, unary, count, compared, joined, exists, single, among_values, among_rows, Exprs, no_exprs, more_exprs, Items, no_items, more_items, MaybeExpr, no_expr, an_expr, Source, of_table, of_alias, join, From, no_source, from, Distinct, every, distinct, distinct_on, Order, no_order, order_by, Statement, select, combination}
 use Rattle.sql_origin.specs.Leaves.{leaves}
 use Rattle.sql_rules.specs.Lists.{Each}
 use Rattle.sql_rules.specs.Rules.{IsUnknownColumn, PartBreaks, Broken}
@@ -35,8 +35,7 @@ module _ (schema : Declarations) where
     nodes-declared (list es) h = (none, nodes_of-declared es h)
     nodes-declared count_star h = (none, tt)
     nodes-declared (nullable e) h = (none, nodes-declared e h)
-    nodes-declared (not_of e) h = (none, nodes-declared e h)
-    nodes-declared (null_test n e) h = (none, nodes-declared e h)
+    nodes-declared (unary n e) h = (none, nodes-declared e h)
     nodes-declared (count e) h = (none, nodes-declared e h)
     nodes-declared (compared by a b) h =
         (none, each_append IsDeclared (nodes a) (nodes b) (nodes-declared a h.0) (nodes-declared b h.1))
@@ -118,8 +117,7 @@ module _ (schema : Declarations) where
     expr-parts v (list es) h = exprs-parts v es h
     expr-parts v count_star h = tt
     expr-parts v (nullable e) h = expr-parts v e h
-    expr-parts v (not_of e) h = expr-parts v e h
-    expr-parts v (null_test n e) h = expr-parts v e h
+    expr-parts v (unary n e) h = expr-parts v e h
     expr-parts v (count e) h = expr-parts v e h
     expr-parts v (compared by a b) h =
         each_append KnownPart (in_expr v a) (in_expr v b) (expr-parts v a h.0) (expr-parts v b h.1)

@@ -6,12 +6,12 @@ use Rattle.std.proofs.lemmas.List.{map-append}
 use Rattle.sql_schema.specs.declared.declaration.ColumnDecl.{ColumnDecl}
 use Rattle.sql_schema.specs.declared.types.SqlType.{SqlType}
 use Rattle.sql_pass.specs.declared.value.Value.{Value}
-use Rattle.sql_node.specs.Tree.{Origin, Form, unboxed, boxed, Expr, column, list, count_star, nullable, not_of, null_test, count, compared, joined, exists, single, among_values, among_rows, Exprs, no_exprs, more_exprs, Items, no_items, more_items, MaybeExpr, no_expr, an_expr, Source, of_table, of_alias, join, From, no_source, from, Distinct, distinct_on, Order, no_order, order_by, Statement, select, combination}
+use Rattle.sql_node.specs.Tree.{Origin, Form, unboxed, boxed, Expr, column, list, count_star, nullable, unary, count, compared, joined, exists, single, among_values, among_rows, Exprs, no_exprs, more_exprs, Items, no_items, more_items, MaybeExpr, no_expr, an_expr, Source, of_table, of_alias, join, From, no_source, from, Distinct, distinct_on, Order, no_order, order_by, Statement, select, combination}
 use Rattle.sql_origin.specs.Leaves.{leaves, in_right_side}
 use Rattle.sql_shape.specs.Shape.{blank_rows}
 use Rattle.sql_rules.specs.Rules.{bare, bare_of}
 use Rattle.sql_rules.specs.Scope.{View, origins, leaves_of, origins_of, widest, Select, Combination, Part, a_select, a_combination, parts, in_expr, in_exprs, in_items, in_maybe, in_source, in_from, in_distinct, in_order, Place, in_selection, in_order_by, in_on, in_where, in_group_by, in_having, Clause, clauses, clauses_by, maybe_clause, ons, ons_of, distinct_clause, item_clauses, order_clauses, own, nodes, nodes_of, flat, flat_of, flat_items}
-use Rattle.sql_rules.specs.Types.{all_fit, one, many, given, given_each, columns, only_type, element_types, all_nullable, as_nullable, single_type, not_type, if_typed, bool_type, big_type, compared_type, joined_type, form_columns}
+use Rattle.sql_rules.specs.Types.{all_fit, one, many, given, given_each, columns, only_type, element_types, all_nullable, as_nullable, single_type, unary_type, if_typed, big_type, compared_type, joined_type, form_columns}
 use Rattle.sql_rules.specs.Verdicts.{NoVerdict, Yes, mix, is_aggregate, holds_aggregate, fields, fields_of, holds_column, holds_key, column_verdict, verdict, verdict_of}
 use Rattle.sql_law.proofs.Change.{change_expr, change_exprs, change_items, change_maybe, change_source, change_from, change_distinct, change_order, change}
 
@@ -85,8 +85,7 @@ module _ (v : SqlType → Value → Value) (l : SqlType → List Value → List 
     expr-parts : (e : Expr) (w : View) → in_expr w (change_expr v l e) ≡ map change_part (in_expr w e)
     expr-parts (list es) w = exprs-parts es w
     expr-parts (nullable e) w = expr-parts e w
-    expr-parts (not_of e) w = expr-parts e w
-    expr-parts (null_test n e) w = expr-parts e w
+    expr-parts (unary n e) w = expr-parts e w
     expr-parts (count e) w = expr-parts e w
     expr-parts (compared by a b) w = both _ (in_expr w a) (in_expr w b) (expr-parts a w) (expr-parts b w)
     expr-parts (joined by a b) w = both _ (in_expr w a) (in_expr w b) (expr-parts a w) (expr-parts b w)
@@ -223,8 +222,7 @@ module _ (v : SqlType → Value → Value) (l : SqlType → List Value → List 
     pub nodes-same : (e : Expr) → nodes (change_expr v l e) ≡ map (change_expr v l) (nodes e)
     nodes-same (list es) = ap (λ x. change_expr v l (list es) ∷ x) (all-nodes-same es)
     nodes-same (nullable e) = ap (λ x. change_expr v l (nullable e) ∷ x) (nodes-same e)
-    nodes-same (not_of e) = ap (λ x. change_expr v l (not_of e) ∷ x) (nodes-same e)
-    nodes-same (null_test n e) = ap (λ x. change_expr v l (null_test n e) ∷ x) (nodes-same e)
+    nodes-same (unary n e) = ap (λ x. change_expr v l (unary n e) ∷ x) (nodes-same e)
     nodes-same (count e) = ap (λ x. change_expr v l (count e) ∷ x) (nodes-same e)
     nodes-same (compared by a b) =
         ap (λ x. change_expr v l (compared by a b) ∷ x) (both _ (nodes a) (nodes b) (nodes-same a) (nodes-same b))
@@ -255,8 +253,7 @@ module _ (v : SqlType → Value → Value) (l : SqlType → List Value → List 
   mutual
     pub bare-same : (e : Expr) → bare (change_expr v l e) ≡ bare e
     bare-same (list es) = all-bare-same es
-    bare-same (not_of e) = bare-same e
-    bare-same (null_test n e) = bare-same e
+    bare-same (unary n e) = bare-same e
     bare-same (count e) = bare-same e
     bare-same (compared by a b) = λ i. bare-same a i ++ bare-same b i
     bare-same (joined by a b) = λ i. bare-same a i ++ bare-same b i
@@ -300,8 +297,7 @@ module _ (v : SqlType → Value → Value) (l : SqlType → List Value → List 
     verdict-same g (column o c) = column-same g o c
     verdict-same g (list es) = all-verdict-same g es
     verdict-same g (nullable e) = verdict-same g e
-    verdict-same g (not_of e) = verdict-same g e
-    verdict-same g (null_test n e) = verdict-same g e
+    verdict-same g (unary n e) = verdict-same g e
     verdict-same g (count e) = λ i. if holds-same e i then NoVerdict else Yes
     verdict-same g (compared by a b) = λ i. mix (verdict-same g a i) (verdict-same g b i)
     verdict-same g (joined by a b) = λ i. mix (verdict-same g a i) (verdict-same g b i)
@@ -325,8 +321,7 @@ module _
       pub given-same : (e : Expr) → given (change_expr v l e) ≡ given e
       given-same (list es) = λ i. many (all-given-same es i)
       given-same (nullable e) = λ i. all_nullable (given-same e i)
-      given-same (not_of e) = λ i. one (not_type (only_type (given-same e i)))
-      given-same (null_test n e) = λ i. one (if_typed (only_type (given-same e i)) (bool_type false))
+      given-same (unary u e) = λ i. one (unary_type u (only_type (given-same e i)))
       given-same (count e) = λ i. one (if_typed (only_type (given-same e i)) big_type)
       given-same (compared by a b) =
           λ i. one (compared_type (only_type (given-same a i)) (only_type (given-same b i)))

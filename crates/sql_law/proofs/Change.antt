@@ -9,7 +9,7 @@ use Rattle.sql_pass.specs.declared.value.Value.{Value}
 use Rattle.sql_pass.specs.declared.value.Value.TheVariants as V
 use Rattle.sql_leaf.specs.declared.limit_offset.LimitOffsetClause.{LimitOffsetClause}
 use Rattle.sql_leaf.specs.declared.table_source.Tablesample.{Tablesample}
-use Rattle.sql_node.specs.Tree.{Expr, column, value, list, count_star, nullable, not_of, null_test, count, compared, joined, exists, single, among_values, among_rows, Exprs, no_exprs, more_exprs, Items, no_items, more_items, MaybeExpr, no_expr, an_expr, Source, of_table, of_alias, join, From, no_source, from, Distinct, every, distinct, distinct_on, Order, no_order, order_by, Statement, select, combination}
+use Rattle.sql_node.specs.Tree.{Expr, column, value, list, count_star, nullable, unary, count, compared, joined, exists, single, among_values, among_rows, Exprs, no_exprs, more_exprs, Items, no_items, more_items, MaybeExpr, no_expr, an_expr, Source, of_table, of_alias, join, From, no_source, from, Distinct, every, distinct, distinct_on, Order, no_order, order_by, Statement, select, combination}
 use Rattle.sql_shape.specs.Shape.{blank, blank_rows, blank_sample, erased_expr, erased_exprs, erased_items, erased_maybe, erased_source, erased_from, erased_distinct, erased_order, erased}
 use Rattle.sql_rules.specs.Types.{fits, all_fit}
 use Rattle.sql_law.specs.Lengths.{shape_without_lengths}
@@ -23,8 +23,7 @@ module _ (v : SqlType → Value → Value) (l : SqlType → List Value → List 
     change_expr (list es) = list (change_exprs es)
     change_expr count_star = count_star
     change_expr (nullable e) = nullable (change_expr e)
-    change_expr (not_of e) = not_of (change_expr e)
-    change_expr (null_test n e) = null_test n (change_expr e)
+    change_expr (unary n e) = unary n (change_expr e)
     change_expr (count e) = count (change_expr e)
     change_expr (compared by a b) = compared by (change_expr a) (change_expr b)
     change_expr (joined by a b) = joined by (change_expr a) (change_expr b)
@@ -96,8 +95,7 @@ module _
       pub expr-erased : (e : Expr) → erased_expr many (change_expr v l e) ≡ erased_expr many e
       expr-erased (list es) = λ i. list (exprs-erased es i)
       expr-erased (nullable e) = λ i. nullable (expr-erased e i)
-      expr-erased (not_of e) = λ i. not_of (expr-erased e i)
-      expr-erased (null_test n e) = λ i. null_test n (expr-erased e i)
+      expr-erased (unary n e) = λ i. unary n (expr-erased e i)
       expr-erased (count e) = λ i. count (expr-erased e i)
       expr-erased (compared by a b) = λ i. compared by (expr-erased a i) (expr-erased b i)
       expr-erased (joined by a b) = λ i. joined by (expr-erased a i) (expr-erased b i)
@@ -210,8 +208,7 @@ mutual
   expr-outline (list es) k = let p = exprs-outline es k in λ i. list (p i)
   expr-outline count_star k = refl
   expr-outline (nullable e) k = let p = expr-outline e k in λ i. nullable (p i)
-  expr-outline (not_of e) k = let p = expr-outline e k in λ i. not_of (p i)
-  expr-outline (null_test n e) k = let p = expr-outline e k in λ i. null_test n (p i)
+  expr-outline (unary n e) k = let p = expr-outline e k in λ i. unary n (p i)
   expr-outline (count e) k = let p = expr-outline e k in λ i. count (p i)
   expr-outline (compared by a b) k =
       let p = expr-outline a (first_so (fit_expr a) (fit_expr b) k) in

@@ -3,7 +3,7 @@ use Rattle.std.proofs.Common.{◌≡◌, ◌↔◌, Bool, true, false, ◌&&◌,
 use Rattle.std.specs.List.{list_all}
 use Rattle.std.specs.Cmp.{first_so, second_so}
 use Rattle.std.proofs.lemmas.List.Folds.{list_all-append}
-use Rattle.sql_node.specs.Tree.{Expr, column, value, list, count_star, nullable, not_of, null_test, count, compared, joined, exists, single, among_values, among_rows, Exprs, no_exprs, more_exprs, Items, no_items, more_items, MaybeExpr, no_expr, an_expr, Source, of_table, of_alias, join, From, no_source, from, Distinct, every, distinct, distinct_on, Order, no_order, order_by, Statement, select, combination}
+use Rattle.sql_node.specs.Tree.{Expr, column, value, list, count_star, nullable, unary, count, compared, joined, exists, single, among_values, among_rows, Exprs, no_exprs, more_exprs, Items, no_items, more_items, MaybeExpr, no_expr, an_expr, Source, of_table, of_alias, join, From, no_source, from, Distinct, every, distinct, distinct_on, Order, no_order, order_by, Statement, select, combination}
 use Rattle.sql_node.specs.View.{Among, among_list, among_query, among_of}
 use Rattle.sql_rules.specs.Lists.{Each}
 use Rattle.sql_rules.specs.Scope.{View, origins, origins_of, widest, Part, a_select, a_combination, parts, in_expr, in_exprs, in_items, in_maybe, in_source, in_from, in_distinct, in_order, Place, in_selection, in_distinct_on, in_on, in_where, in_group_by, in_having, in_order_by, Clause, clauses, maybe_clause, ons, ons_of, distinct_clause, item_clauses, order_clauses, nodes, nodes_of, EachExprIn}
@@ -68,8 +68,7 @@ mutual
   expr-says v (list es) = exprs-says v es
   expr-says v count_star = refl
   expr-says v (nullable e) = expr-says v e
-  expr-says v (not_of e) = expr-says v e
-  expr-says v (null_test n e) = expr-says v e
+  expr-says v (unary n e) = expr-says v e
   expr-says v (count e) = expr-says v e
   expr-says v (compared by a b) =
       zip expr_fits (fit_expr a) (fit_expr b) (nodes a) (nodes b) (in_expr v a) (in_expr v b) (expr-says v a)

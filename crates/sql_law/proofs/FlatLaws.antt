@@ -4,7 +4,7 @@ use Rattle.std.proofs.lemmas.List.{map-append}
 use Rattle.sql_dialect.specs.declared.backend.Dialect.{Dialect}
 use Rattle.sql_leaf.specs.declared.limit_offset.LimitOffsetClause.{LimitOffsetClause}
 use Rattle.sql_leaf.specs.declared.marks.Marks.{Marks}
-use Rattle.sql_node.specs.Tree.{Form, Expr, column, value, list, count_star, nullable, not_of, null_test, count, compared, joined, exists, single, among_values, among_rows, Exprs, no_exprs, more_exprs, MaybeExpr, From, Distinct, Order, select}
+use Rattle.sql_node.specs.Tree.{Form, Expr, column, value, list, count_star, nullable, unary, count, compared, joined, exists, single, among_values, among_rows, Exprs, no_exprs, more_exprs, MaybeExpr, From, Distinct, Order, select}
 use Rattle.sql_reading.specs.Filled.{lead, trees, trees_in}
 use Rattle.sql_rules.specs.Scope.{flat, flat_of}
 use Rattle.sql_rules.specs.Types.{columns, form_columns, type_of}
@@ -22,8 +22,7 @@ mutual
   flat-trees d (column o c) = refl
   flat-trees d (value t x) = refl
   flat-trees d count_star = refl
-  flat-trees d (not_of e) = refl
-  flat-trees d (null_test n e) = refl
+  flat-trees d (unary n e) = refl
   flat-trees d (count e) = refl
   flat-trees d (compared by a b) = refl
   flat-trees d (joined by a b) = refl

@@ -18,8 +18,10 @@ use Rattle.sql_leaf.specs.Positions.{direction_pieces}
 use Rattle.sql_leaf.specs.Sources.{alias_pieces, only_pieces, method_open, repeatable, seed_pieces, sample_pieces}
 use Rattle.sql_leaf.specs.declared.limit_offset.LimitOffsetClause.{LimitOffsetClause}
 use Rattle.sql_leaf.specs.declared.table_source.Tablesample.{Tablesample}
-use Rattle.sql_node.specs.Pieces.{spread, each, one_by_one, among_pieces, among_sql, null_test_sql, comparison_sql, logic_sql, leaf_pieces, joined_by, join_sql, combinator_sql, all_pieces, positions_pieces, end_pieces, group_by, order_by_sql, distinct_on_open, expr_parts, exprs_parts, items_pieces, maybe_pieces, source_pieces, on_pieces, from_pieces, distinct_pieces, order_pieces, pieces}
-use Rattle.sql_node.specs.Tree.{Form, unboxed, boxed, Expr, column, value, list, count_star, nullable, not_of, null_test, count, compared, joined, exists, single, among_values, among_rows, Exprs, no_exprs, more_exprs, Items, no_items, more_items, MaybeExpr, no_expr, an_expr, Source, of_table, of_alias, join, From, no_source, from, Distinct, every, distinct, distinct_on, Order, no_order, order_by, Statement, select, combination}
+use Rattle.sql_leaf.specs.Operators.{unary_before, unary_after, comparison_sql, logic_sql}
+use Rattle.sql_leaf.specs.Words.{among_sql, join_sql, combinator_sql, group_by, order_by_sql, distinct_on_open}
+use Rattle.sql_node.specs.Pieces.{spread, each, one_by_one, among_pieces, leaf_pieces, joined_by, all_pieces, positions_pieces, end_pieces, expr_parts, exprs_parts, items_pieces, maybe_pieces, source_pieces, on_pieces, from_pieces, distinct_pieces, order_pieces, pieces}
+use Rattle.sql_node.specs.Tree.{Form, unboxed, boxed, Expr, column, value, list, count_star, nullable, unary, count, compared, joined, exists, single, among_values, among_rows, Exprs, no_exprs, more_exprs, Items, no_items, more_items, MaybeExpr, no_expr, an_expr, Source, of_table, of_alias, join, From, no_source, from, Distinct, every, distinct, distinct_on, Order, no_order, order_by, Statement, select, combination}
 use Rattle.sql_rules.specs.Rules.{IsNotPg}
 use Rattle.sql_shape.specs.Shape.{blank, blank_rows, blank_sample, erased_expr, erased_exprs, erased_items, erased_maybe, erased_source, erased_from, erased_distinct, erased_order, erased}
 use Rattle.sql_law.proofs.Alike.{Alike, alike-same, alike-append, alike-bind, alike-behind, alike-before, alike-around, AlikeLists, lists-append, commas-alike, AlikeWritten, spread-alike, each-alike, unsafe}
@@ -164,8 +166,7 @@ module _
       expr-alike (list es) = exprs-alike es
       expr-alike count_star = alike-same _
       expr-alike (nullable e) = expr-alike e
-      expr-alike (not_of e) = alike-around (codes "NOT (") (codes ")") (in-text e (expr-alike e))
-      expr-alike (null_test n e) = alike-around (codes "(") (null_test_sql n) (in-text e (expr-alike e))
+      expr-alike (unary u e) = alike-around (unary_before u) (unary_after u) (in-text e (expr-alike e))
       expr-alike (count e) = alike-around (codes "COUNT(") (codes ")") (in-text e (expr-alike e))
       expr-alike (compared by a b) =
           alike-append (alike-around (codes "(") (comparison_sql by) (in-text a (expr-alike a)))

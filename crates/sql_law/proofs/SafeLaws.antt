@@ -32,8 +32,10 @@ use Rattle.sql_leaf.specs.declared.table_source.JoinKind.{JoinKind}
 use Rattle.sql_leaf.specs.declared.table_source.Tablesample.{Tablesample}
 use Rattle.sql_dialect.specs.declared.combination.DuplicateRule.{DuplicateRule}
 use Rattle.sql_dialect.specs.declared.combination.DuplicateRule.TheVariants.{Distinct as DistinctRows, All}
-use Rattle.sql_node.specs.Pieces.{Written, alone, many, each, spread, around, infix_of, among_pieces, joined_by, join_sql, all_pieces, positions_pieces, end_pieces, among_sql, comparison_sql, logic_sql, origin_pieces, expr_parts, exprs_parts, items_pieces, maybe_pieces, source_pieces, on_pieces, from_pieces, distinct_pieces, order_pieces, order_by_sql, group_by, combinator_sql, pieces}
-use Rattle.sql_node.specs.Tree.{Form, unboxed, boxed, Expr, column, value, list, count_star, nullable, not_of, null_test, count, compared, joined, exists, single, among_values, among_rows, Exprs, no_exprs, more_exprs, Items, no_items, more_items, MaybeExpr, no_expr, an_expr, Source, of_table, of_alias, join, From, no_source, from, Distinct, every, distinct, distinct_on, Order, no_order, order_by, Statement, select, combination}
+use Rattle.sql_leaf.specs.Operators.{comparison_sql, logic_sql}
+use Rattle.sql_leaf.specs.Words.{join_sql, among_sql, order_by_sql, group_by, combinator_sql}
+use Rattle.sql_node.specs.Pieces.{Written, alone, many, each, spread, around, infix_of, among_pieces, joined_by, all_pieces, positions_pieces, end_pieces, origin_pieces, expr_parts, exprs_parts, items_pieces, maybe_pieces, source_pieces, on_pieces, from_pieces, distinct_pieces, order_pieces, pieces}
+use Rattle.sql_node.specs.Tree.{Form, unboxed, boxed, Expr, column, value, list, count_star, nullable, unary, count, compared, joined, exists, single, among_values, among_rows, Exprs, no_exprs, more_exprs, Items, no_items, more_items, MaybeExpr, no_expr, an_expr, Source, of_table, of_alias, join, From, no_source, from, Distinct, every, distinct, distinct_on, Order, no_order, order_by, Statement, select, combination}
 use Rattle.sql_rules.specs.Lists.{AnyOf}
 use Rattle.sql_rules.specs.Safety.{IsAmongValues, IsSafeIn, is_among_values, clause_holds_value_list, part_holds_value_list, is_pg, is_safe_in}
 use Rattle.sql_rules.specs.Scope.{View, origins, origins_of, widest, Part, a_select, a_combination, parts, in_expr, in_exprs, in_items, in_maybe, in_source, in_from, in_distinct, in_order, Place, in_selection, in_distinct_on, in_on, in_where, in_group_by, in_having, in_order_by, maybe_clause, ons, ons_of, distinct_clause, item_clauses, order_clauses, clauses, nodes, nodes_of, AnyExprIn}
@@ -319,8 +321,7 @@ mutual
   expr-says d v (list es) = exprs-says d v es
   expr-says d v count_star = and-true _ ∙ (quiet-text _).says ∙ nothing d
   expr-says d v (nullable e) = expr-says d v e
-  expr-says d v (not_of e) = and-true _ ∙ around-safe _ _ _ ∙ inside d v e (expr-says d v e)
-  expr-says d v (null_test n e) = and-true _ ∙ around-safe _ _ _ ∙ inside d v e (expr-says d v e)
+  expr-says d v (unary n e) = and-true _ ∙ around-safe _ _ _ ∙ inside d v e (expr-says d v e)
   expr-says d v (count e) = and-true _ ∙ around-safe _ _ _ ∙ inside d v e (expr-says d v e)
   expr-says d v (compared by a b) =
       and-true _ ∙ infix-safe (spread true (expr_parts d a)) (comparison_sql by) (spread true (expr_parts d b))
@@ -466,8 +467,7 @@ among-decides v (value t x) = (λ h. absurd (false≢true h), λ h. absurd h)
 among-decides v (list es) = (λ h. absurd (false≢true h), λ h. absurd h)
 among-decides v count_star = (λ h. absurd (false≢true h), λ h. absurd h)
 among-decides v (nullable e) = (λ h. absurd (false≢true h), λ h. absurd h)
-among-decides v (not_of e) = (λ h. absurd (false≢true h), λ h. absurd h)
-among-decides v (null_test n e) = (λ h. absurd (false≢true h), λ h. absurd h)
+among-decides v (unary n e) = (λ h. absurd (false≢true h), λ h. absurd h)
 among-decides v (count e) = (λ h. absurd (false≢true h), λ h. absurd h)
 among-decides v (compared by a b) = (λ h. absurd (false≢true h), λ h. absurd h)
 among-decides v (joined by a b) = (λ h. absurd (false≢true h), λ h. absurd h)

@@ -8,7 +8,7 @@ use Rattle.sql_dialect.specs.declared.backend.Dialect.{Dialect}
 use Rattle.sql_leaf.specs.declared.locking.LockingClause.TheVariants.{NoLockingClause}
 use Rattle.sql_pass.specs.Pieces.{values_of}
 use Rattle.sql_node.specs.Pieces.{pieces}
-use Rattle.sql_node.specs.Tree.{unboxed, Expr, column, value, list, count_star, nullable, not_of, null_test, count, compared, joined, exists, single, among_values, among_rows, Exprs, no_exprs, more_exprs, Items, no_items, more_items, MaybeExpr, no_expr, an_expr, Source, of_table, of_alias, join, From, no_source, from, Distinct, every, distinct, distinct_on, Order, no_order, order_by, Statement, select, combination}
+use Rattle.sql_node.specs.Tree.{unboxed, Expr, column, value, list, count_star, nullable, unary, count, compared, joined, exists, single, among_values, among_rows, Exprs, no_exprs, more_exprs, Items, no_items, more_items, MaybeExpr, no_expr, an_expr, Source, of_table, of_alias, join, From, no_source, from, Distinct, every, distinct, distinct_on, Order, no_order, order_by, Statement, select, combination}
 use Rattle.sql_reading.specs.inside.HasText.{IsSingle, ExprHasText, ExprsHaveText, ItemsHaveText, MaybeHasText, GroupHasText, OnHasText, SourceHasText, FromHasText, DistinctHasText, OrderHasText, HasText, HasNumbers}
 use Rattle.sql_rules.specs.Lists.{AnyOf, Each}
 use Rattle.sql_rules.specs.Rules.{Present, IsIllTyped, IsEmptyList, IsEmptyOrder, IsIllTypedClause, LacksOn, FromLacksOn, IsNotPg, IsDistinctOn, HasTableMarks, FromHasMarks, IsSelectUnsupported, IsCombinationUnsupported, PartBreaks, Broken}
@@ -39,8 +39,7 @@ first_typed (value k x) t = t.0
 first_typed (list es) t = t.0
 first_typed count_star t = t.0
 first_typed (nullable e) t = t.0
-first_typed (not_of e) t = t.0
-first_typed (null_test n e) t = t.0
+first_typed (unary n e) t = t.0
 first_typed (count e) t = t.0
 first_typed (compared by a b) t = t.0
 first_typed (joined by a b) t = t.0
@@ -63,8 +62,7 @@ module _ (d : Dialect) where
     expr_law (list es) v t g = exprs_law es v t g
     expr_law count_star v t g = tt
     expr_law (nullable e) v t g = expr_law e v t g
-    expr_law (not_of e) v t g = operand d e t (expr_law e v (inside_one e t) g)
-    expr_law (null_test n e) v t g = operand d e t (expr_law e v (inside_one e t) g)
+    expr_law (unary n e) v t g = operand d e t (expr_law e v (inside_one e t) g)
     expr_law (count e) v t g = operand d e t (expr_law e v (inside_one e t) g)
     expr_law (compared by a b) v t g =
         let l : AreTyped (nodes a) = each_front _ (nodes a) (nodes b) t in

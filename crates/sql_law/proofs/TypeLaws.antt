@@ -2,11 +2,11 @@
 use Rattle.std.proofs.Common.{◌≡◌, true, false, ◌&&◌, ◌++◌, IsTrue, refl, sym, ap, ◌∙◌}
 use Rattle.std.proofs.lemmas.Bool.{false≢true}
 use Rattle.std.specs.Cmp.{first_so, second_so}
-use Rattle.sql_node.specs.Tree.{Expr, column, value, list, count_star, nullable, not_of, null_test, count, compared, joined, exists, single, among_values, among_rows, Exprs, no_exprs, more_exprs, Statement, select, combination}
+use Rattle.sql_node.specs.Tree.{Expr, column, value, list, count_star, nullable, unary, count, compared, joined, exists, single, among_values, among_rows, Exprs, no_exprs, more_exprs, Statement, select, combination}
 use Rattle.sql_shape.specs.Ids.{expr_keeps_id, exprs_keep_id, from_keeps_id, distinct_keeps_id, maybe_keeps_id, order_keeps_id, is_plain_form, lacks_places, has_id}
 use Rattle.sql_shape.specs.Shape.{nulls, erased_expr, erased_exprs, shape}
 use Rattle.sql_shape.proofs.IdLaws.{same-id}
-use Rattle.sql_rules.specs.Types.{many, one, given, given_each, columns, only_type, element_types, all_nullable, as_nullable, single_type, not_type, if_typed, bool_type, big_type, compared_type, joined_type, form_columns}
+use Rattle.sql_rules.specs.Types.{many, one, given, given_each, columns, only_type, element_types, all_nullable, as_nullable, single_type, unary_type, if_typed, big_type, compared_type, joined_type, form_columns}
 
 mutual
   expr-types : (e : Expr) → expr_keeps_id e ≡ true → given (erased_expr nulls e) ≡ given e
@@ -15,8 +15,7 @@ mutual
   expr-types (list es) h = ap many (exprs-types es h)
   expr-types count_star h = refl
   expr-types (nullable e) h = ap all_nullable (expr-types e h)
-  expr-types (not_of e) h = ap (λ g. one (not_type (only_type g))) (expr-types e h)
-  expr-types (null_test n e) h = ap (λ g. one (if_typed (only_type g) (bool_type false))) (expr-types e h)
+  expr-types (unary u e) h = ap (λ g. one (unary_type u (only_type g))) (expr-types e h)
   expr-types (count e) h = ap (λ g. one (if_typed (only_type g) big_type)) (expr-types e h)
   expr-types (compared by a b) h =
       let p = expr-types a (first_so (expr_keeps_id a) (expr_keeps_id b) h) in

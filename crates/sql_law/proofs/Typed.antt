@@ -1,7 +1,7 @@
 -- What has a type is no list, and a list that is not empty has an element.
 use Rattle.std.proofs.Common.{◌≡◌, List, [], ◌∷◌, ◌++◌, map, Option, refl, ap, inl, inr, ◌⊎◌}
 use Rattle.sql_schema.specs.declared.types.SqlType.{SqlType}
-use Rattle.sql_node.specs.Tree.{Expr, column, value, list, count_star, nullable, not_of, null_test, count, compared, joined, exists, single, among_values, among_rows, Exprs, no_exprs, more_exprs}
+use Rattle.sql_node.specs.Tree.{Expr, column, value, list, count_star, nullable, unary, count, compared, joined, exists, single, among_values, among_rows, Exprs, no_exprs, more_exprs}
 use Rattle.sql_reading.specs.inside.HasText.{IsSingle, HasElement, SomeElement}
 use Rattle.sql_rules.specs.Lists.{AnyOf, Each}
 use Rattle.sql_rules.specs.Rules.{IsIllTyped}
@@ -47,8 +47,7 @@ below (value t x) = []
 below (list es) = nodes_of es
 below count_star = []
 below (nullable e) = nodes e
-below (not_of e) = nodes e
-below (null_test n e) = nodes e
+below (unary n e) = nodes e
 below (count e) = nodes e
 below (compared by a b) = nodes a ++ nodes b
 below (joined by a b) = nodes a ++ nodes b

@@ -7,8 +7,8 @@ use Rattle.sql_pass.specs.declared.value.Value.{Value}
 use Rattle.sql_pass.specs.declared.value.Value.TheVariants.{Integer}
 use Rattle.sql_leaf.specs.Marking.{unmarked}
 use Rattle.sql_leaf.specs.declared.locking.LockingClause.TheVariants.{NoLockingClause}
-use Rattle.sql_node.specs.Tree.{unboxed, Expr, column, value, list, null_test, compared, among_values, no_exprs, more_exprs, no_expr, an_expr, of_table, from, every, no_order, Statement, select}
-use Rattle.sql_node.specs.Words.{Eq}
+use Rattle.sql_leaf.specs.Operators.{IsNotNull, Eq}
+use Rattle.sql_node.specs.Tree.{unboxed, Expr, column, value, list, unary, compared, among_values, no_exprs, more_exprs, no_expr, an_expr, of_table, from, every, no_order, Statement, select}
 use Rattle.sql_reading.specs.Examples.{decl, rows, table, whole_number}
 
 abbrev pub id : ColumnDecl
@@ -27,7 +27,7 @@ one_table = record { tables = users ∷ []; joinables = []; together = [] }
 abbrev pub first_users : Statement
 first_users =
     select false (list (more_exprs user_id no_exprs)) (from (of_table users false None)) every
-    (an_expr (null_test true user_id)) no_order (rows (Some (pos 5)) None) no_expr no_expr
+    (an_expr (unary IsNotNull user_id)) no_order (rows (Some (pos 5)) None) no_expr no_expr
     (unboxed NoLockingClause) unmarked
 
 -- `SELECT "users"."id" FROM "users" WHERE` a condition

@@ -1,5 +1,7 @@
 pub mod Limits
 pub mod Locks
 pub mod Marking
+pub mod Operators
 pub mod Positions
 pub mod Sources
+pub mod Words

@@ -4,6 +4,7 @@ ghost use Rattle.std.specs.Prelude.{◌≡◌, ◌++◌, decimal, Ok};
 ghost use Rattle.sql_pass.specs.Pieces.{one, Text};
 ghost use Rattle.sql_leaf.specs.Positions.{direction_pieces, position_pieces};
 
+use crate::{ASC, DESC};
 use itoa::Buffer;
 use sql_dialect::Backend;
 use sql_pass::{AstPass, PassError, QueryFragment};
@@ -71,8 +72,8 @@ impl<DB: Backend> QueryFragment<DB> for Direction {
     fn walk_ast(&self, pass: &mut AstPass<DB>) -> Result<(), PassError> {
         match self {
             Direction::None => Ok(()),
-            Direction::Asc => pass.push_sql(" ASC"),
-            Direction::Desc => pass.push_sql(" DESC"),
+            Direction::Asc => pass.push_sql(ASC),
+            Direction::Desc => pass.push_sql(DESC),
         }
     }
 }

@@ -1,21 +1,21 @@
 -- The step for each kind of expression, from what holds of its operands.
-use Rattle.std.proofs.Common.{◌≡◌, Bool, true, false, ◌||◌, List, [], ◌∷◌, ◌++◌, map, Option, Some, refl, sym, subst, ◌∙◌, inl, inr, ◌⊎◌}
+use Rattle.std.proofs.Common.{◌≡◌, Bool, true, false, ◌||◌, List, [], ◌∷◌, ◌++◌, map, Option, Some, None, refl, sym, subst, ◌∙◌, inl, inr, ◌⊎◌}
 use Rattle.std.specs.List.{AllZip}
 use Rattle.std.proofs.lemmas.Bool.{and_parts, or_left, or_right}
 use Rattle.sql_schema.specs.declared.types.Base.TheVariants as base
 use Rattle.sql_schema.specs.declared.types.SqlType.{SqlType}
 use Rattle.sql_pass.specs.declared.value.Value.{Value}
 use Rattle.sql_node.specs.Tree.{Form, unboxed, boxed}
-use Rattle.sql_node.specs.Words.{Comparison, Logic}
+use Rattle.sql_leaf.specs.Operators.{Comparison, Logic, Unary, Not, IsNull, IsNotNull}
 use Rattle.sql_rules.specs.Lists.{Each}
-use Rattle.sql_rules.specs.Types.{Given, fits, all_fit, as_nullable, bool_type, not_type, if_typed, compared_type, joined_type, single_type, among_type, form_columns, element_types, all_nullable}
+use Rattle.sql_rules.specs.Types.{Given, fits, all_fit, as_nullable, not_type, unary_type, compared_type, joined_type, single_type, among_type, form_columns, element_types, all_nullable}
 use Rattle.sql_rules.proofs.Nulled.{nulled_elements}
 use Rattle.sql_meaning.specs.Answers.{first_value, single_value}
 use Rattle.sql_meaning.specs.Fitting.{RowFits}
 use Rattle.sql_meaning.specs.Rows.{Row}
-use Rattle.sql_meaning.specs.Values.{is_null, compared_value, joined_value, not_value, null_test_value, among_value}
-use Rattle.sql_meaning.proofs.Facts.{nulled, truth, Fits, Fit, Fit-weaken, Fit-no_cause, Fit-nullable, fits_null, cause, OneNull, TruthOr-weaken, TruthOr-fits, compared-truth, joined-truth, not-truth, among-truth, null_test_fits}
-use Rattle.sql_meaning.proofs.Typed.{some_same, one-typed, not-typed, tested-typed, compared-typed, joined-typed, single-typed, nulled-typed, among-typed, all_nulled-typed, split-typed}
+use Rattle.sql_meaning.specs.Values.{is_null, compared_value, joined_value, not_value, unary_value, among_value}
+use Rattle.sql_meaning.proofs.Facts.{nulled, truth, Fits, Fit, Fit-weaken, Fit-no_cause, Fit-nullable, fits_null, cause, OneNull, TruthOr-weaken, TruthOr-fits, compared-truth, joined-truth, not-truth, among-truth, null_test_fits, not_null_fits}
+use Rattle.sql_meaning.proofs.Typed.{some_same, one-typed, not-typed, compared-typed, joined-typed, single-typed, nulled-typed, among-typed, all_nulled-typed, split-typed}
 use Rattle.sql_meaning.proofs.Lists.{Each-weaken, AllZip-append, AllZip-weaken, AllZip-map}
 
 -- each of the values fits its type, or is NULL for a cause
@@ -63,18 +63,19 @@ joined-step C by x y o p t e hx hy =
 is_truth : (t : SqlType) → t.base ≡ base.Bool → truth t.nullable ≡ t
 is_truth t e = λ i. record { base = sym e i; nullable = t.nullable }
 
-pub not-step : (C : Type 0) (x : Value) (o : Option SqlType) (t : SqlType) → not_type o ≡ Some t
+not-step : (C : Type 0) (x : Value) (o : Option SqlType) (t : SqlType) → not_type o ≡ Some t
     → ((u : SqlType) → o ≡ Some u → Fit C u x) → Fit C t (not_value x)
 not-step C x o t e hx =
     let (o_is, t_bool) = not-typed o t e in
     subst (λ u. Fit C u (not_value x)) (is_truth t t_bool)
     (TruthOr-fits t.nullable _ (TruthOr-weaken _ (cause t x (hx t o_is)) (not-truth x)))
 
-pub tested-step : (C : Type 0) (negated : Bool) (x : Value) (o : Option SqlType) (t : SqlType)
-    → if_typed o (bool_type false) ≡ Some t → Fit C t (null_test_value negated x)
-tested-step C negated x o t e =
-    inl (subst (λ u. Fits u (null_test_value negated x)) (some_same _ t (tested-typed o (bool_type false) t e))
-    (null_test_fits negated x))
+pub unary-step : (C : Type 0) (u : Unary) (x : Value) (o : Option SqlType) (t : SqlType) → unary_type u o ≡ Some t
+    → ((w : SqlType) → o ≡ Some w → Fit C w x) → Fit C t (unary_value u x)
+unary-step C u x None t e hx = absurd cc
+unary-step C Not x (Some w) t e hx = not-step C x (Some w) t e hx
+unary-step C IsNull x (Some w) t e hx = inl (subst (λ u. Fits u (unary_value IsNull x)) (some_same _ t e) (null_test_fits x))
+unary-step C IsNotNull x (Some w) t e hx = inl (subst (λ u. Fits u (unary_value IsNotNull x)) (some_same _ t e) (not_null_fits x))
 
 -- a membership, where the values that it is compared with fit a type
 among-fits : (C : Type 0) (negated : Bool) (x : Value) (ys : List Value) (u : SqlType) → Fit C u x → Each (Fits u) ys

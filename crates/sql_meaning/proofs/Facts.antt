@@ -4,10 +4,10 @@ use Rattle.sql_schema.specs.declared.types.Base.TheVariants as base
 use Rattle.sql_schema.specs.declared.types.SqlType.{SqlType}
 use Rattle.sql_pass.specs.declared.value.Value.{Value}
 use Rattle.sql_pass.specs.declared.value.Value.TheVariants as V
-use Rattle.sql_node.specs.Words.{Comparison, Eq, Logic, And, Or}
+use Rattle.sql_leaf.specs.Operators.{Comparison, Eq, Logic, And, Or, IsNull, IsNotNull}
 use Rattle.sql_rules.specs.Lists.{Each}
 use Rattle.sql_rules.specs.Types.{fits}
-use Rattle.sql_meaning.specs.Values.{is_null, is_true, is_false, compares, compared_value, joined_value, not_value, any_value, null_test_value, among_value}
+use Rattle.sql_meaning.specs.Values.{is_null, is_true, is_false, compares, compared_value, joined_value, not_value, any_value, unary_value, among_value}
 
 pub or_true : (a b : Bool) → (a || b) ≡ true → (a ≡ true) ⊎ (b ≡ true)
 or_true true b h = inl refl
@@ -146,6 +146,8 @@ among-truth false x ys hx hs = any-truth x ys hx hs
 among-truth true x ys hx hs =
     TruthOr-weaken _ (null_is_null _ (any-truth x ys hx hs)) (not-truth (any_value x ys))
 
-pub null_test_fits : (negated : Bool) (x : Value) → Fits (truth false) (null_test_value negated x)
-null_test_fits false x = refl
-null_test_fits true x = refl
+pub null_test_fits : (x : Value) → Fits (truth false) (unary_value IsNull x)
+null_test_fits x = refl
+
+pub not_null_fits : (x : Value) → Fits (truth false) (unary_value IsNotNull x)
+not_null_fits x = refl

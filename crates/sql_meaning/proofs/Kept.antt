@@ -5,7 +5,7 @@ use Rattle.std.proofs.lemmas.Bool.{false≢true}
 use Rattle.sql_schema.specs.Declarations.{Declarations}
 use Rattle.sql_schema.specs.declared.declaration.TableDecl.{TableDecl}
 use Rattle.sql_dialect.specs.declared.backend.Dialect.{Dialect}
-use Rattle.sql_node.specs.Tree.{Origin, Form, unboxed, boxed, Expr, column, value, list, count_star, nullable, not_of, null_test, count, compared, joined, exists, single, among_values, among_rows, Exprs, no_exprs, more_exprs, From, no_source, from, Statement}
+use Rattle.sql_node.specs.Tree.{Origin, Form, unboxed, boxed, Expr, column, value, list, count_star, nullable, unary, count, compared, joined, exists, single, among_values, among_rows, Exprs, no_exprs, more_exprs, From, no_source, from, Statement}
 use Rattle.sql_origin.specs.Leaves.{Leaf}
 use Rattle.sql_origin.specs.Origins.{same_origin}
 use Rattle.sql_rules.specs.Lists.{AnyOf, AnyPair, Each}
@@ -88,8 +88,7 @@ misfit_ill (column o c) h = absurd h
 misfit_ill (list es) h = absurd h
 misfit_ill count_star h = absurd h
 misfit_ill (nullable e) h = absurd h
-misfit_ill (not_of e) h = absurd h
-misfit_ill (null_test n e) h = absurd h
+misfit_ill (unary n e) h = absurd h
 misfit_ill (count e) h = absurd h
 misfit_ill (compared by a b) h = absurd h
 misfit_ill (joined by a b) h = absurd h
@@ -118,8 +117,7 @@ mutual
   misfit_flat (column o c) h = inl (inside (column o c) h)
   misfit_flat (value t x) h = inl (inside (value t x) h)
   misfit_flat count_star h = inl (inside count_star h)
-  misfit_flat (not_of e) h = inl (inside (not_of e) h)
-  misfit_flat (null_test n e) h = inl (inside (null_test n e) h)
+  misfit_flat (unary n e) h = inl (inside (unary n e) h)
   misfit_flat (count e) h = inl (inside (count e) h)
   misfit_flat (compared by a b) h = inl (inside (compared by a b) h)
   misfit_flat (joined by a b) h = inl (inside (joined by a b) h)
@@ -155,8 +153,7 @@ node-fits schema v (value t x) known seen fit = not_false (fits t x) fit
 node-fits schema v (list es) known seen fit = tt
 node-fits schema v count_star known seen fit = tt
 node-fits schema v (nullable e) known seen fit = tt
-node-fits schema v (not_of e) known seen fit = tt
-node-fits schema v (null_test n e) known seen fit = tt
+node-fits schema v (unary n e) known seen fit = tt
 node-fits schema v (count e) known seen fit = tt
 node-fits schema v (compared by a b) known seen fit = tt
 node-fits schema v (joined by a b) known seen fit = tt

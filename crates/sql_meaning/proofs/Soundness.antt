@@ -13,12 +13,12 @@ use Rattle.sql_leaf.specs.declared.limit_offset.LimitOffsetClause.{LimitOffsetCl
 use Rattle.sql_leaf.specs.declared.marks.Marks.{Marks}
 use Rattle.sql_pass.specs.declared.value.Value.{Value}
 use Rattle.sql_pass.specs.declared.value.Value.TheVariants as V
-use Rattle.sql_node.specs.Tree.{Form, Expr, column, value, list, count_star, nullable, not_of, null_test, count, compared, joined, exists, single, among_values, among_rows, Exprs, no_exprs, more_exprs, MaybeExpr, From, Distinct, Order, Statement, select, combination}
+use Rattle.sql_node.specs.Tree.{Form, Expr, column, value, list, count_star, nullable, unary, count, compared, joined, exists, single, among_values, among_rows, Exprs, no_exprs, more_exprs, MaybeExpr, From, Distinct, Order, Statement, select, combination}
 use Rattle.sql_origin.specs.Leaves.{Leaf}
 use Rattle.sql_rules.specs.Lists.{AnyOf, Each}
 use Rattle.sql_rules.specs.Rules.{Accepted, bare, bare_of}
 use Rattle.sql_rules.specs.Scope.{View, Select, parts, in_expr, in_exprs, in_distinct, in_maybe, in_from, in_order, nodes, nodes_of, leaves_of, origins_of, widest}
-use Rattle.sql_rules.specs.Types.{given, given_each, element_types, only_type, columns, compared_type, joined_type, not_type, if_typed, among_type, as_nullable, single_type, bool_type}
+use Rattle.sql_rules.specs.Types.{given, given_each, element_types, only_type, columns, compared_type, joined_type, unary_type, among_type, as_nullable, single_type, bool_type}
 use Rattle.sql_rules.specs.declared.rule.Rule.TheVariants as R
 use Rattle.sql_rules.proofs.Lists.{any_left, any_right}
 use Rattle.sql_rules.proofs.SameTypes.{types-differ}
@@ -26,14 +26,14 @@ use Rattle.sql_meaning.specs.Answers.{Gives, AllGive, Answers, KeyGives, OrderGi
 use Rattle.sql_meaning.specs.Fitting.{RowFits, Conforms, AnswersFit}
 use Rattle.sql_meaning.specs.Frames.{Database, Frame, value_of}
 use Rattle.sql_meaning.specs.Rows.{Row}
-use Rattle.sql_meaning.specs.Values.{compared_value, joined_value, not_value, null_test_value, among_value}
+use Rattle.sql_meaning.specs.Values.{compared_value, joined_value, unary_value, among_value}
 use Rattle.sql_meaning.proofs.Facts.{Fit, Fit-weaken, Fits, truth}
 use Rattle.sql_meaning.proofs.Typed.{some_same, only-typed}
 use Rattle.sql_meaning.proofs.Lists.{Each-front, Each-end, Each-map, AllZip-each, Filtered-each, IsPart-each, left_by-each, page-each}
 use Rattle.sql_meaning.proofs.Counts.{combination-each}
 use Rattle.sql_meaning.proofs.Sources.{FrameFits, IsMissing, from-fits, column-fits}
 use Rattle.sql_meaning.proofs.Kept.{Clean, Clean-left, Clean-right, accepted-clean, NodeFits, IsKept, is-kept}
-use Rattle.sql_meaning.proofs.Cases.{AllFit, one-step, compared-step, joined-step, not-step, tested-step, among_values-step, among_rows-step, single-step, nullable-step, no_exprs-step, more_exprs-step, all-weaken, no_cause-fits, form-fits}
+use Rattle.sql_meaning.proofs.Cases.{AllFit, one-step, compared-step, joined-step, unary-step, among_values-step, among_rows-step, single-step, nullable-step, no_exprs-step, more_exprs-step, all-weaken, no_cause-fits, form-fits}
 
 -- a column in it whose row may be missing stands under no nullable
 abbrev IsBare : List Leaf → View → Type 0
@@ -111,14 +111,10 @@ module _ (schema : Declarations) (d : Dialect) (db : Database) (ok : Conforms sc
     gives-fit count_star ls f ts vs n p fits t g = absurd g
     gives-fit (nullable e) ls f ts vs n p fits t g =
         nullable-step (IsBare ls (bare e)) ⊥ (given e) ts vs t (λ us is. gives-fit e ls f us vs n.1 p fits is g)
-    gives-fit (not_of e) ls f ts vs n p fits t g =
-        one-step (IsBare ls (bare e)) (not_type (only_type (given e))) (not_value g.0) ts vs t g.2
-        (λ u is. not-step (IsBare ls (bare e)) g.0 (only_type (given e)) u is
+    gives-fit (unary o e) ls f ts vs n p fits t g =
+        one-step (IsBare ls (bare e)) (unary_type o (only_type (given e))) (unary_value o g.0) ts vs t g.2
+        (λ u is. unary-step (IsBare ls (bare e)) o g.0 (only_type (given e)) u is
         (λ w w_is. (gives-fit e ls f (w ∷ []) (g.0 ∷ []) n.1 p fits (only-typed (given e) w w_is) g.1).0))
-    gives-fit (null_test neg e) ls f ts vs n p fits t g =
-        one-step (IsBare ls (bare e)) (if_typed (only_type (given e)) (bool_type false))
-        (null_test_value neg g.0) ts vs t g.2
-        (λ u is. tested-step (IsBare ls (bare e)) neg g.0 (only_type (given e)) u is)
     gives-fit (count e) ls f ts vs n p fits t g = absurd g
     gives-fit (compared by a b) ls f ts vs n p fits t g =
         one-step (IsBare ls (bare a ++ bare b)) (compared_type (only_type (given a)) (only_type (given b)))

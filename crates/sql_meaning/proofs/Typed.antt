@@ -5,7 +5,8 @@ use Rattle.sql_schema.specs.declared.types.Base.TheVariants as base
 use Rattle.sql_schema.specs.declared.types.SqlType.{SqlType}
 use Rattle.sql_schema.proofs.ExactTypes.{exact-base, exact-type}
 use Rattle.sql_pass.specs.declared.value.Value.{Value}
-use Rattle.sql_rules.specs.Types.{Given, one, many, is_bool, all_fit, only_type, element_types, bool_type, as_nullable, not_type, if_typed, compared_type, joined_type, single_type, among_type}
+use Rattle.sql_leaf.specs.Operators.{Unary}
+use Rattle.sql_rules.specs.Types.{Given, one, many, is_bool, all_fit, only_type, element_types, bool_type, as_nullable, not_type, unary_type, compared_type, joined_type, single_type, among_type}
 use Rattle.sql_meaning.proofs.Facts.{nulled, truth}
 
 pub some_same : {A : Type 0} (a b : A) → Some a ≡ Some b → a ≡ b
@@ -30,9 +31,10 @@ not-typed (Some u) t e = go (is_bool u) refl e
     go true h f = (f, subst (λ w. w.base ≡ base.Bool) (some_same u t f) (exact-base u.base base.Bool h))
     go false h f = absurd cc
 
-pub tested-typed : (o w : Option SqlType) (t : SqlType) → if_typed o w ≡ Some t → w ≡ Some t
-tested-typed None w t e = absurd cc
-tested-typed (Some u) w t e = e
+-- its operand has a type
+pub unary-typed : (u : Unary) (o : Option SqlType) (t : SqlType) → unary_type u o ≡ Some t → (w : SqlType) × (o ≡ Some w)
+unary-typed u None t e = absurd cc
+unary-typed u (Some w) t e = (w, refl)
 
 pub compared-typed : (o p : Option SqlType) (t : SqlType) → compared_type o p ≡ Some t
     → (u : SqlType) × (o ≡ Some u) × (p ≡ Some u) × (t ≡ truth u.nullable)

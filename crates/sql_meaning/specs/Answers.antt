@@ -12,12 +12,12 @@ use Rattle.sql_leaf.specs.declared.position.PositionalItem.{PositionalItem}
 use Rattle.sql_leaf.specs.declared.table_source.JoinKind.{JoinKind}
 use Rattle.sql_leaf.specs.declared.table_source.JoinKind.TheVariants.{Inner, LeftOuter}
 use Rattle.sql_leaf.specs.declared.table_source.Tablesample.{Tablesample}
-use Rattle.sql_node.specs.Tree.{Origin, Form, unboxed, Expr, column, value, list, count_star, nullable, not_of, null_test, count, compared, joined, exists, single, among_values, among_rows, Exprs, no_exprs, more_exprs, Items, no_items, more_items, MaybeExpr, no_expr, an_expr, Source, of_table, of_alias, join, From, no_source, from, Distinct, every, distinct, distinct_on, Order, no_order, order_by, Statement, select, combination}
+use Rattle.sql_node.specs.Tree.{Origin, Form, unboxed, Expr, column, value, list, count_star, nullable, unary, count, compared, joined, exists, single, among_values, among_rows, Exprs, no_exprs, more_exprs, Items, no_items, more_items, MaybeExpr, no_expr, an_expr, Source, of_table, of_alias, join, From, no_source, from, Distinct, every, distinct, distinct_on, Order, no_order, order_by, Statement, select, combination}
 use Rattle.sql_origin.specs.Leaves.{leaves}
 use Rattle.sql_origin.specs.Origins.{a_table, an_alias}
 use Rattle.sql_meaning.specs.Frames.{Database, Frame, value_of, nulls, where_sees}
 use Rattle.sql_meaning.specs.Rows.{Row, same_row, Filtered, IsPart, IsOrdered, values_at, page, count_row, combined}
-use Rattle.sql_meaning.specs.Values.{is_true, compared_value, joined_value, not_value, null_test_value, among_value}
+use Rattle.sql_meaning.specs.Values.{is_true, compared_value, joined_value, unary_value, among_value}
 
 -- ---- FROM (PostgreSQL, SELECT, FROM Clause; Table Expressions, Joined Tables)
 
@@ -121,8 +121,7 @@ abbrev mutual
   Gives count_star db f vs = ⊥
   Gives (count e) db f vs = ⊥
   Gives (nullable e) db f vs = Gives e db f vs
-  Gives (not_of e) db f vs = (x : Value) × Gives e db f (x ∷ []) × (vs ≡ not_value x ∷ [])
-  Gives (null_test n e) db f vs = (x : Value) × Gives e db f (x ∷ []) × (vs ≡ null_test_value n x ∷ [])
+  Gives (unary u e) db f vs = (x : Value) × Gives e db f (x ∷ []) × (vs ≡ unary_value u x ∷ [])
   Gives (compared by a b) db f vs =
       (x y : Value) × Gives a db f (x ∷ []) × Gives b db f (y ∷ []) × (vs ≡ compared_value by x y ∷ [])
   Gives (joined by a b) db f vs =

@@ -6,7 +6,7 @@ use Rattle.std.specs.Ordering.{nat_cmp, is_lt}
 use Rattle.sql_pass.specs.contracts.value.ValuePartialEq.TheImpl as value_eq
 use Rattle.sql_pass.specs.declared.value.Value.{Value}
 use Rattle.sql_pass.specs.declared.value.Value.TheVariants as V
-use Rattle.sql_node.specs.Words.{Comparison, Eq, Ne, Lt, Le, Gt, Ge, Logic, And, Or}
+use Rattle.sql_leaf.specs.Operators.{Comparison, Eq, Ne, Lt, Le, Gt, Ge, Logic, And, Or, Unary, Not, IsNull, IsNotNull}
 
 abbrev pub is_null : Value → Bool
 is_null V.Null = true
@@ -63,9 +63,10 @@ unfoldable pub not_value : Value → Value
 not_value x = if is_null x then V.Null else V.Bool (not (is_true x))
 
 -- IS NULL, and negated IS NOT NULL: true or false, never NULL
-abbrev pub null_test_value : Bool → Value → Value
-null_test_value false x = V.Bool (is_null x)
-null_test_value true x = V.Bool (not (is_null x))
+abbrev pub unary_value : Unary → Value → Value
+unary_value Not x = not_value x
+unary_value IsNull x = V.Bool (is_null x)
+unary_value IsNotNull x = V.Bool (not (is_null x))
 
 -- = ANY, or IN: the OR of the equalities, false where there are no values (PostgreSQL, Row and Array Comparisons)
 unfoldable pub any_value : Value → List Value → Value

@@ -5,7 +5,6 @@ use Rattle.sql_schema.specs.declared.declaration.TableDecl.{TableDecl}
 use Rattle.sql_schema.specs.declared.types.SqlType.{SqlType}
 use Rattle.sql_dialect.specs.declared.backend.Dialect.{Dialect}
 use Rattle.sql_dialect.specs.declared.combination.Combinator.{Combinator}
-use Rattle.sql_dialect.specs.declared.combination.Combinator.TheVariants.{Union, Intersect, Except}
 use Rattle.sql_dialect.specs.declared.combination.DuplicateRule.{DuplicateRule}
 use Rattle.sql_dialect.specs.declared.combination.DuplicateRule.TheVariants.{Distinct as DistinctRows, All}
 use Rattle.sql_dialect.specs.Syntax.{array}
@@ -24,65 +23,10 @@ use Rattle.sql_leaf.specs.Sources.{alias_pieces, table_source_pieces}
 use Rattle.sql_leaf.specs.declared.limit_offset.LimitOffsetClause.{LimitOffsetClause}
 use Rattle.sql_leaf.specs.declared.position.PositionalItem.{PositionalItem}
 use Rattle.sql_leaf.specs.declared.table_source.JoinKind.{JoinKind}
-use Rattle.sql_leaf.specs.declared.table_source.JoinKind.TheVariants.{Inner, LeftOuter}
-use Rattle.sql_node.specs.Words.{Comparison, Eq, Ne, Lt, Le, Gt, Ge, Logic, And, Or}
-use Rattle.sql_node.specs.Tree.{Origin, Form, unboxed, boxed, Expr, column, value, list, count_star, nullable, not_of, null_test, count, compared, joined, exists, single, among_values, among_rows, Exprs, no_exprs, more_exprs, Items, no_items, more_items, MaybeExpr, no_expr, an_expr, Source, of_table, of_alias, join, From, no_source, from, Distinct, every, distinct, distinct_on, Order, no_order, order_by, Statement, select, combination}
+use Rattle.sql_leaf.specs.Words.{among_sql, constant_sql, join_sql, combinator_sql, distinct_on_open, group_by, order_by_sql}
+use Rattle.sql_leaf.specs.Operators.{unary_before, unary_after, comparison_sql, logic_sql}
+use Rattle.sql_node.specs.Tree.{Origin, Form, unboxed, boxed, Expr, column, value, list, count_star, nullable, unary, count, compared, joined, exists, single, among_values, among_rows, Exprs, no_exprs, more_exprs, Items, no_items, more_items, MaybeExpr, no_expr, an_expr, Source, of_table, of_alias, join, From, no_source, from, Distinct, every, distinct, distinct_on, Order, no_order, order_by, Statement, select, combination}
 use Rattle.sql_node.specs.View.{Item, Sides, Among, among_list, among_query}
-
--- ---- texts; those of ten bytes or more do not unfold
-
-unfoldable pub is_not_null : List ℕ
-is_not_null = codes " IS NOT NULL)"
-
-unfoldable pub distinct_on_open : List ℕ
-distinct_on_open = codes "DISTINCT ON ("
-
-unfoldable pub group_by : List ℕ
-group_by = codes " GROUP BY "
-
-unfoldable pub order_by_sql : List ℕ
-order_by_sql = codes " ORDER BY "
-
-abbrev pub comparison_sql : Comparison → List ℕ
-comparison_sql Eq = codes " = "
-comparison_sql Ne = codes " != "
-comparison_sql Lt = codes " < "
-comparison_sql Le = codes " <= "
-comparison_sql Gt = codes " > "
-comparison_sql Ge = codes " >= "
-
-abbrev pub logic_sql : Logic → List ℕ
-logic_sql And = codes " AND "
-logic_sql Or = codes " OR "
-
-abbrev pub null_test_sql : Bool → List ℕ
-null_test_sql false = codes " IS NULL)"
-null_test_sql true = is_not_null
-
--- Whether something is among values, or negated: PostgreSQL compares with an array (Row and Array Comparisons), the
--- others look in a list.
-abbrev pub among_word : ArrayComparison → Bool → List ℕ
-among_word PgStyleArrayComparison false = codes " = ANY("
-among_word PgStyleArrayComparison true = codes " != ALL("
-among_word AnsiSqlArrayComparison false = codes " IN ("
-among_word AnsiSqlArrayComparison true = codes " NOT IN ("
-
-abbrev pub among_sql : Dialect → Bool → List ℕ
-among_sql d n = among_word (array d) n
-
--- nothing is among no values
-abbrev pub constant_sql : Bool → List ℕ
-constant_sql false = codes "(1=0)"
-constant_sql true = codes "(1=1)"
-
-abbrev pub join_sql : JoinKind → List ℕ
-join_sql Inner = codes " INNER JOIN "
-join_sql LeftOuter = codes " LEFT OUTER JOIN "
-
-abbrev pub combinator_sql : Combinator → List ℕ
-combinator_sql Union = codes " UNION "
-combinator_sql Intersect = codes " INTERSECT "
-combinator_sql Except = codes " EXCEPT "
 
 -- ---- parts
 
@@ -177,8 +121,7 @@ abbrev mutual
   expr_parts d (list es) = many (exprs_parts d es)
   expr_parts d count_star = alone (one (Text (codes "COUNT(*)")))
   expr_parts d (nullable e) = expr_parts d e
-  expr_parts d (not_of e) = alone (around (codes "NOT (") (spread true (expr_parts d e)) (codes ")"))
-  expr_parts d (null_test n e) = alone (around (codes "(") (spread true (expr_parts d e)) (null_test_sql n))
+  expr_parts d (unary u e) = alone (around (unary_before u) (spread true (expr_parts d e)) (unary_after u))
   expr_parts d (count e) = alone (around (codes "COUNT(") (spread true (expr_parts d e)) (codes ")"))
   expr_parts d (compared by a b) =
       alone (infix_of (spread true (expr_parts d a)) (comparison_sql by) (spread true (expr_parts d b)))

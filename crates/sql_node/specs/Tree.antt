@@ -14,7 +14,7 @@ use Rattle.sql_leaf.specs.declared.position.Direction.{Direction}
 use Rattle.sql_leaf.specs.declared.position.PositionalItem.{PositionalItem}
 use Rattle.sql_leaf.specs.declared.table_source.JoinKind.{JoinKind}
 use Rattle.sql_leaf.specs.declared.table_source.Tablesample.{Tablesample}
-use Rattle.sql_node.specs.Words.{Comparison, Logic}
+use Rattle.sql_leaf.specs.Operators.{Comparison, Logic, Unary}
 
 -- What a column is one of: a table, or an alias of one. Two leaves of a source are one where their origins are equal.
 pub record Origin : Type 0 where
@@ -34,9 +34,7 @@ mutual
     list : Exprs → Expr
     count_star : Expr
     nullable : Expr → Expr
-    not_of : Expr → Expr
-    -- whether it is negated, as in memberships
-    null_test : Bool → Expr → Expr
+    unary : Unary → Expr → Expr
     count : Expr → Expr
     compared : Comparison → Expr → Expr → Expr
     joined : Logic → Expr → Expr → Expr

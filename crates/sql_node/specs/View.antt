@@ -6,7 +6,7 @@ use Rattle.sql_pass.specs.declared.value.Value.{Value}
 use Rattle.sql_leaf.specs.declared.alias.AliasedField.{AliasedField}
 use Rattle.sql_leaf.specs.declared.position.Direction.{Direction}
 use Rattle.sql_leaf.specs.declared.table_source.JoinKind.{JoinKind}
-use Rattle.sql_node.specs.Words.{Eq, Ne, Lt, Le, Gt, Ge, And, Or}
+use Rattle.sql_leaf.specs.Operators.{Not, IsNull, IsNotNull, Eq, Ne, Lt, Le, Gt, Ge, And, Or}
 use Rattle.sql_node.specs.Tree as t
 use Rattle.sql_node.specs.declared.clause.DistinctClause.{DistinctClause, DistinctClause-F, fold-DistinctClause}
 use Rattle.sql_node.specs.declared.clause.FromClause.{FromClause, FromClause-F, fold-FromClause}
@@ -82,9 +82,9 @@ expr_level (Expr-F.Value x y) = t.value x y
 expr_level (Expr-F.Expr::List x) = t.list (exprs_of x)
 expr_level Expr-F.CountStar = t.count_star
 expr_level (Expr-F.Nullable x) = t.nullable x.value
-expr_level (Expr-F.Not x) = t.not_of x.value
-expr_level (Expr-F.IsNull x) = t.null_test false x.value
-expr_level (Expr-F.IsNotNull x) = t.null_test true x.value
+expr_level (Expr-F.Not x) = t.unary Not x.value
+expr_level (Expr-F.IsNull x) = t.unary IsNull x.value
+expr_level (Expr-F.IsNotNull x) = t.unary IsNotNull x.value
 expr_level (Expr-F.Count x) = t.count x.value
 expr_level (Expr-F.Exists x) = t.exists x.value
 expr_level (Expr-F.Subselect x) = t.single x.value

@@ -11,7 +11,7 @@ use crate::{
     DistinctClause, FromClause, GroupByClause, HavingClause, OrderClause, SelectClause, WhereClause,
 };
 use sql_dialect::{Backend, Dialect};
-use sql_leaf::{BoxedLimitOffset, LimitOffsetClause, Marks};
+use sql_leaf::{BoxedLimitOffset, LimitOffsetClause, Marks, SELECT};
 use sql_pass::{AstPass, PassError, QueryFragment};
 use sql_schema::NoMemory;
 use std::alloc::Global;
@@ -108,7 +108,7 @@ impl<DB: Backend> QueryFragment<DB> for BoxedSelectStatement {
 
     #[cycle(walk)]
     fn walk_ast(&self, pass: &mut AstPass<DB>) -> Result<(), PassError> {
-        pass.push_sql("SELECT ")?;
+        pass.push_sql(SELECT)?;
         self.distinct.walk_ast(pass)?;
         self.select.walk_ast(pass)?;
         self.from.walk_ast(pass)?;

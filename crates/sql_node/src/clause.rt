@@ -4,12 +4,14 @@ ghost use Rattle.std.specs.Prelude.{◌≡◌, IfOk, codes, option_map};
 ghost use Rattle.sql_pass.specs.Held.{held};
 ghost use Rattle.sql_pass.specs.Pieces.{one, Text};
 ghost use Rattle.sql_pass.specs.Walks.{Walks};
-ghost use Rattle.sql_node.specs.Pieces.{around, distinct_on_open, distinct_pieces, expr_pieces, from_pieces, group_by, maybe_pieces};
+ghost use Rattle.sql_leaf.specs.Words.{distinct_on_open, group_by};
+ghost use Rattle.sql_node.specs.Pieces.{around, distinct_pieces, expr_pieces, from_pieces, maybe_pieces};
 ghost use Rattle.sql_node.specs.View.{distinct_clause_tree, expr_tree, from_clause_tree, from_of, group_by_clause_tree, having_clause_tree, select_clause_tree, source_tree, where_clause_tree};
 
 use crate::expr::walk_around;
 use crate::{Expr, Source};
 use sql_dialect::Backend;
+use sql_leaf::{DISTINCT, DISTINCT_ON_CLOSE, DISTINCT_ON_OPEN, FROM, GROUP_BY, HAVING, WHERE};
 use sql_pass::{AstPass, PassError, QueryFragment};
 use sql_schema::NoMemory;
 use std::alloc::Global;
@@ -176,7 +178,7 @@ impl<DB: Backend> QueryFragment<DB> for FromClause {
         match self {
             FromClause::NoFromClause => Ok(()),
             FromClause::FromClause(source) => {
-                pass.push_sql(" FROM ")?;
+                pass.push_sql(FROM)?;
                 source.walk_ast(pass)
             }
         }
@@ -196,14 +198,14 @@ impl<DB: Backend> QueryFragment<DB> for SelectClause {
     }
 }
 
-#[tactic(auto, unfolding(crate::specs::Pieces::distinct_on_open))]
+#[tactic(auto, unfolding(sql_leaf::specs::Words::distinct_on_open))]
 #[cycle(walk)]
 fn walk_distinct_on<DB: Backend>(exprs: &Expr, pass: &mut AstPass<DB>) -> Result<(), PassError>
     ensures { Walks DB.speaks (held DB.QueryBuilder.text DB.QueryBuilder.count pass.old)
         (around distinct_on_open (expr_pieces DB.speaks (expr_tree exprs.now)) (codes ") ")) result
         (held DB.QueryBuilder.text DB.QueryBuilder.count pass.new) }
 {
-    walk_around("DISTINCT ON (", exprs, ") ", pass)
+    walk_around(DISTINCT_ON_OPEN, exprs, DISTINCT_ON_CLOSE, pass)
 }
 
 /// As its variants.
@@ -215,7 +217,7 @@ impl<DB: Backend> QueryFragment<DB> for DistinctClause {
     fn walk_ast(&self, pass: &mut AstPass<DB>) -> Result<(), PassError> {
         match self {
             DistinctClause::NoDistinctClause => Ok(()),
-            DistinctClause::DistinctClause => pass.push_sql("DISTINCT "),
+            DistinctClause::DistinctClause => pass.push_sql(DISTINCT),
             DistinctClause::DistinctOnClause(exprs) => walk_distinct_on(exprs, pass),
         }
     }
@@ -231,19 +233,19 @@ impl<DB: Backend> QueryFragment<DB> for WhereClause {
         match self {
             WhereClause::NoWhereClause => Ok(()),
             WhereClause::WhereClause(condition) => {
-                pass.push_sql(" WHERE ")?;
+                pass.push_sql(WHERE)?;
                 condition.walk_ast(pass)
             }
         }
     }
 }
 
-#[tactic(auto, unfolding(crate::specs::Pieces::group_by))]
+#[tactic(auto, unfolding(sql_leaf::specs::Words::group_by))]
 fn push_group_by<DB: Backend>(pass: &mut AstPass<DB>) -> Result<(), PassError>
     ensures { Walks DB.speaks (held DB.QueryBuilder.text DB.QueryBuilder.count pass.old)
         (one (Text group_by)) result (held DB.QueryBuilder.text DB.QueryBuilder.count pass.new) }
 {
-    pass.push_sql(" GROUP BY ")
+    pass.push_sql(GROUP_BY)
 }
 
 /// Nothing, or ` GROUP BY ` and the list.
@@ -273,7 +275,7 @@ impl<DB: Backend> QueryFragment<DB> for HavingClause {
         match self {
             HavingClause::NoHavingClause => Ok(()),
             HavingClause::HavingClause(condition) => {
-                pass.push_sql(" HAVING ")?;
+                pass.push_sql(HAVING)?;
                 condition.walk_ast(pass)
             }
         }

@@ -6,14 +6,14 @@ ghost use Rattle.sql_pass.specs.Held.{held};
 ghost use Rattle.sql_pass.specs.Parts.{side};
 ghost use Rattle.sql_pass.specs.Walks.{Walks};
 ghost use Rattle.sql_leaf.specs.Positions.{position_pieces};
-ghost use Rattle.sql_node.specs.Pieces.{all_pieces, combinator_sql, pieces, positions_pieces};
+ghost use Rattle.sql_node.specs.Pieces.{all_pieces, pieces, positions_pieces};
 ghost use Rattle.sql_node.specs.View.{combination_clause_tree, statement_tree};
 
 use crate::Statement;
 use crate::expr::{clone_query, drop_query};
 use crate::order::push_order_by;
 use sql_dialect::{Backend, Combinator, DuplicateRule};
-use sql_leaf::{LimitOffsetClause, PositionalItem};
+use sql_leaf::{ALL, CLOSE, COMMA, LimitOffsetClause, PositionalItem, combinator_text};
 use sql_pass::{AstPass, PassError, QueryFragment, push_side_open};
 use sql_schema::{NoMemory, SqlList};
 use std::alloc::Global;
@@ -80,23 +80,13 @@ impl CombinationClause {
     }
 }
 
-fn combinator_word(combinator: Combinator) -> &'static str
-    ensures { result.now ≡ combinator_sql combinator }
-{
-    match combinator {
-        Combinator::Union => " UNION ",
-        Combinator::Intersect => " INTERSECT ",
-        Combinator::Except => " EXCEPT ",
-    }
-}
-
 fn walk_all<DB: Backend>(rule: DuplicateRule, pass: &mut AstPass<DB>) -> Result<(), PassError>
     ensures { Walks DB.speaks (held DB.QueryBuilder.text DB.QueryBuilder.count pass.old)
         (all_pieces rule) result (held DB.QueryBuilder.text DB.QueryBuilder.count pass.new) }
 {
     match rule {
         DuplicateRule::Distinct => Ok(()),
-        DuplicateRule::All => pass.push_sql("ALL "),
+        DuplicateRule::All => pass.push_sql(ALL),
     }
 }
 
@@ -110,7 +100,7 @@ fn walk_next_position<DB: Backend>(
         (held DB.QueryBuilder.text DB.QueryBuilder.count pass.new) }
 {
     if !first {
-        pass.push_sql(", ")?;
+        pass.push_sql(COMMA)?;
     }
     item.walk_ast(pass)
 }
@@ -156,7 +146,7 @@ fn walk_side<DB: Backend>(query: &Statement, pass: &mut AstPass<DB>) -> Result<(
 {
     push_side_open(pass)?;
     query.walk_ast(pass)?;
-    pass.push_sql(")")?;
+    pass.push_sql(CLOSE)?;
     Ok(())
 }
 
@@ -168,7 +158,7 @@ impl<DB: Backend> QueryFragment<DB> for CombinationClause {
     #[cycle(walk)]
     fn walk_ast(&self, pass: &mut AstPass<DB>) -> Result<(), PassError> {
         walk_side(&self.source, pass)?;
-        pass.push_sql(combinator_word(self.combinator))?;
+        pass.push_sql(combinator_text(self.combinator))?;
         walk_all(self.duplicate_rule, pass)?;
         walk_side(&self.rhs, pass)?;
         walk_positional_order(&self.order, pass)?;

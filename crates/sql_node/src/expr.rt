@@ -1,10 +1,11 @@
 #![tactic(auto, using(sql_pass::proofs::Walking::walking))]
 
-ghost use Rattle.std.specs.Prelude.{◌≡◌, ◌++◌, IfOk, map, codes};
+ghost use Rattle.std.specs.Prelude.{◌≡◌, ◌++◌, IfOk, map};
 ghost use Rattle.sql_pass.specs.Held.{held};
 ghost use Rattle.sql_pass.specs.Pieces.{one, Text};
 ghost use Rattle.sql_pass.specs.Walks.{Walks};
-ghost use Rattle.sql_node.specs.Pieces.{around, is_not_null, expr_pieces, pieces, sought_pieces, sought_values};
+ghost use Rattle.sql_leaf.specs.Operators.{unary_after, unary_before};
+ghost use Rattle.sql_node.specs.Pieces.{around, expr_pieces, pieces, sought_pieces, sought_values};
 ghost use Rattle.sql_node.specs.View.{expr_tree, in_values_tree, statement_tree};
 
 use crate::Statement;
@@ -14,7 +15,10 @@ use crate::membership::{
     walk_value, walk_values,
 };
 use sql_dialect::{ArrayComparison, Backend};
-use sql_leaf::{AliasedField, condition_close, condition_open};
+use sql_leaf::{
+    AliasedField, CLOSE, CLOSE_BOTH, COUNT_OPEN, COUNT_STAR, Comparison, EXISTS_OPEN, Logic, OPEN,
+    Unary,
+};
 use sql_pass::{AstPass, PassError, QueryFragment, Value};
 use sql_schema::{Column, NoMemory, SqlList, SqlType};
 use std::alloc::Global;
@@ -275,62 +279,76 @@ impl<DB: Backend> QueryFragment<DB> for Expr {
                 let mut first = true;
                 walk_list(&mut first, exprs, pass)
             }
-            Expr::CountStar => pass.push_sql("COUNT(*)"),
+            Expr::CountStar => pass.push_sql(COUNT_STAR),
             Expr::Nullable(a) => (**a).walk_ast(pass),
-            Expr::Not(a) => walk_around("NOT (", a, ")", pass),
-            Expr::IsNull(a) => walk_around("(", a, " IS NULL)", pass),
-            Expr::IsNotNull(a) => walk_not_null(a, pass),
-            Expr::Count(a) => walk_around("COUNT(", a, ")", pass),
+            Expr::Not(a) => walk_unary(Unary::Not, a, pass),
+            Expr::IsNull(a) => walk_unary(Unary::IsNull, a, pass),
+            Expr::IsNotNull(a) => walk_unary(Unary::IsNotNull, a, pass),
+            Expr::Count(a) => walk_around(COUNT_OPEN, a, CLOSE, pass),
             Expr::Eq(a, b) => {
-                walk_around("(", a, " = ", pass)?;
-                walk_before(b, ")", pass)
+                walk_around(OPEN, a, Comparison::Eq.text(), pass)?;
+                walk_before(b, CLOSE, pass)
             }
             Expr::Ne(a, b) => {
-                walk_around("(", a, " != ", pass)?;
-                walk_before(b, ")", pass)
+                walk_around(OPEN, a, Comparison::Ne.text(), pass)?;
+                walk_before(b, CLOSE, pass)
             }
             Expr::Gt(a, b) => {
-                walk_around("(", a, " > ", pass)?;
-                walk_before(b, ")", pass)
+                walk_around(OPEN, a, Comparison::Gt.text(), pass)?;
+                walk_before(b, CLOSE, pass)
             }
             Expr::Ge(a, b) => {
-                walk_around("(", a, " >= ", pass)?;
-                walk_before(b, ")", pass)
+                walk_around(OPEN, a, Comparison::Ge.text(), pass)?;
+                walk_before(b, CLOSE, pass)
             }
             Expr::Lt(a, b) => {
-                walk_around("(", a, " < ", pass)?;
-                walk_before(b, ")", pass)
+                walk_around(OPEN, a, Comparison::Lt.text(), pass)?;
+                walk_before(b, CLOSE, pass)
             }
             Expr::Le(a, b) => {
-                walk_around("(", a, " <= ", pass)?;
-                walk_before(b, ")", pass)
+                walk_around(OPEN, a, Comparison::Le.text(), pass)?;
+                walk_before(b, CLOSE, pass)
             }
             Expr::And(a, b) => {
-                walk_around(condition_open(), a, " AND ", pass)?;
-                walk_before(b, condition_close(), pass)
+                walk_around(OPEN, a, Logic::And.text(), pass)?;
+                walk_before(b, CLOSE, pass)
             }
             Expr::Or(a, b) => {
-                walk_around(condition_open(), a, " OR ", pass)?;
-                walk_before(b, condition_close(), pass)
+                walk_around(OPEN, a, Logic::Or.text(), pass)?;
+                walk_before(b, CLOSE, pass)
             }
-            Expr::Exists(query) => walk_query("EXISTS (", query, ")", pass),
-            Expr::Subselect(query) => walk_query("(", query, ")", pass),
+            Expr::Exists(query) => walk_query(EXISTS_OPEN, query, CLOSE, pass),
+            Expr::Subselect(query) => walk_query(OPEN, query, CLOSE, pass),
             Expr::EqAny(a, among) => match among {
                 InValues::List(ty, values) => walk_among_values(false, a, *ty, values, pass),
                 InValues::Query(query) => {
                     walk_sought(false, a, pass)?;
-                    walk_query_before(query, "))", pass)
+                    walk_query_before(query, CLOSE_BOTH, pass)
                 }
             },
             Expr::NeAll(a, among) => match among {
                 InValues::List(ty, values) => walk_among_values(true, a, *ty, values, pass),
                 InValues::Query(query) => {
                     walk_sought(true, a, pass)?;
-                    walk_query_before(query, "))", pass)
+                    walk_query_before(query, CLOSE_BOTH, pass)
                 }
             },
         }
     }
+}
+
+/// Pushes the expression between the operator's texts.
+#[cycle(walk)]
+fn walk_unary<DB: Backend>(
+    operator: Unary,
+    a: &Expr,
+    pass: &mut AstPass<DB>,
+) -> Result<(), PassError>
+    ensures { Walks DB.speaks (held DB.QueryBuilder.text DB.QueryBuilder.count pass.old)
+        (around (unary_before operator) (expr_pieces DB.speaks (expr_tree a.now)) (unary_after operator)) result
+        (held DB.QueryBuilder.text DB.QueryBuilder.count pass.new) }
+{
+    walk_around(operator.before(), a, operator.after(), pass)
 }
 
 /// Pushes the expression between two texts.
@@ -361,16 +379,6 @@ fn walk_before<DB: Backend>(a: &Expr, after: &str, pass: &mut AstPass<DB>) -> Re
     a.walk_ast(pass)?;
     pass.push_sql(after)?;
     Ok(())
-}
-
-#[tactic(auto, unfolding(crate::specs::Pieces::is_not_null))]
-#[cycle(walk)]
-fn walk_not_null<DB: Backend>(a: &Expr, pass: &mut AstPass<DB>) -> Result<(), PassError>
-    ensures { Walks DB.speaks (held DB.QueryBuilder.text DB.QueryBuilder.count pass.old)
-        (around (codes "(") (expr_pieces DB.speaks (expr_tree a.now)) is_not_null) result
-        (held DB.QueryBuilder.text DB.QueryBuilder.count pass.new) }
-{
-    walk_around("(", a, " IS NOT NULL)", pass)
 }
 
 /// Pushes the statement between two texts.

@@ -10,6 +10,7 @@ ghost use Rattle.sql_node.specs.View.{expr_tree, exprs_of};
 
 use crate::Expr;
 use sql_dialect::Backend;
+use sql_leaf::COMMA;
 use sql_pass::{AstPass, PassError, QueryFragment};
 use sql_schema::SqlList;
 
@@ -25,7 +26,7 @@ fn walk_next<DB: Backend>(
     ensures first { OnOk result (first.new ≡ false) }
 {
     if !*first {
-        pass.push_sql(", ")?;
+        pass.push_sql(COMMA)?;
     }
     *first = false;
     a.walk_ast(pass)

@@ -8,23 +8,16 @@ ghost use Rattle.sql_pass.specs.Held.{held};
 ghost use Rattle.sql_pass.specs.Pieces.{one, Text, Bind, Unsafe};
 ghost use Rattle.sql_pass.specs.Walks.{Walks};
 ghost use Rattle.sql_pass.specs.declared.value.Bound.TheVariants.{Value as OneValue, List as ManyValues};
-ghost use Rattle.sql_node.specs.Pieces.{around, expr_pieces, among_sql, constant_sql, values_pieces, one_by_one, among_pieces};
+ghost use Rattle.sql_leaf.specs.Words.{among_sql};
+ghost use Rattle.sql_node.specs.Pieces.{around, expr_pieces, values_pieces, one_by_one, among_pieces};
 ghost use Rattle.sql_node.specs.View.{expr_tree};
 
 use crate::Expr;
 use crate::expr::walk_around;
 use sql_dialect::{ArrayComparison, Backend, Dialect};
+use sql_leaf::{CLOSE_BOTH, COMMA, OPEN, among_text, constant_text};
 use sql_pass::{AstPass, BoundRef, PassError, QueryFragment, Value};
 use sql_schema::{SqlList, SqlType};
-
-fn constant_word(negated: bool) -> &'static str
-    ensures { result.now ≡ constant_sql negated }
-{
-    match negated {
-        false => "(1=0)",
-        true => "(1=1)",
-    }
-}
 
 /// Binds the value. Whatever it is, its text is a placeholder.
 pub(crate) fn walk_value<DB: Backend>(
@@ -50,7 +43,7 @@ fn walk_next_value<DB: Backend>(
         (held DB.QueryBuilder.text DB.QueryBuilder.count pass.new) }
 {
     if !first {
-        pass.push_sql(", ")?;
+        pass.push_sql(COMMA)?;
     }
     walk_value(ty, value, pass)
 }
@@ -115,16 +108,8 @@ pub(crate) fn walk_sought<DB: Backend>(
         (around (codes "(") (expr_pieces DB.speaks (expr_tree a.now)) (among_sql DB.speaks negated))
         result (held DB.QueryBuilder.text DB.QueryBuilder.count pass.new) }
 {
-    match comparison_of(pass) {
-        ArrayComparison::PgStyleArrayComparison => match negated {
-            false => walk_around("(", a, " = ANY(", pass),
-            true => walk_around("(", a, " != ALL(", pass),
-        },
-        ArrayComparison::AnsiSqlArrayComparison => match negated {
-            false => walk_around("(", a, " IN (", pass),
-            true => walk_around("(", a, " NOT IN (", pass),
-        },
-    }
+    let word = among_text(comparison_of(pass), negated);
+    walk_around(OPEN, a, word, pass)
 }
 
 /// Pushes `(x = ANY($1))`, or `(x IN (?, ?))` with each value by itself.
@@ -144,7 +129,7 @@ pub(crate) fn walk_among_values<DB: Backend>(
         ArrayComparison::PgStyleArrayComparison => {
             walk_sought(negated, a, pass)?;
             walk_bound_list(ty, values.as_slice(), pass)?;
-            pass.push_sql("))")
+            pass.push_sql(CLOSE_BOTH)
         }
         ArrayComparison::AnsiSqlArrayComparison => {
             walk_one_by_one(negated, a, ty, values.as_slice(), pass)
@@ -166,10 +151,10 @@ fn walk_one_by_one<DB: Backend>(
 {
     mark_varying_length(pass);
     if values.is_empty() {
-        return pass.push_sql(constant_word(negated));
+        return pass.push_sql(constant_text(negated));
     }
     walk_sought(negated, a, pass)?;
     walk_values(ty, values, pass)?;
-    pass.push_sql("))")?;
+    pass.push_sql(CLOSE_BOTH)?;
     Ok(())
 }

@@ -5,12 +5,13 @@ ghost use Rattle.sql_pass.specs.Commas.{next_of, commas};
 ghost use Rattle.sql_pass.specs.Held.{held};
 ghost use Rattle.sql_pass.specs.Pieces.{one, Text};
 ghost use Rattle.sql_pass.specs.Walks.{Walks};
-ghost use Rattle.sql_node.specs.Pieces.{item_pieces, items_pieces, order_by_sql, order_pieces};
+ghost use Rattle.sql_leaf.specs.Words.{order_by_sql};
+ghost use Rattle.sql_node.specs.Pieces.{item_pieces, items_pieces, order_pieces};
 ghost use Rattle.sql_node.specs.View.{items_of, order_clause_tree, order_item_tree};
 
 use crate::Expr;
 use sql_dialect::Backend;
-use sql_leaf::Direction;
+use sql_leaf::{COMMA, Direction, ORDER_BY};
 use sql_pass::{AstPass, PassError, QueryFragment};
 use sql_schema::{NoMemory, SqlList};
 use std::alloc::Global;
@@ -90,7 +91,7 @@ fn walk_next_item<DB: Backend>(
         (held DB.QueryBuilder.text DB.QueryBuilder.count pass.new) }
 {
     if !first {
-        pass.push_sql(", ")?;
+        pass.push_sql(COMMA)?;
     }
     item.walk_ast(pass)
 }
@@ -126,13 +127,13 @@ impl<DB: Backend> QueryFragment<DB> for OrderItem {
     }
 }
 
-#[tactic(auto, unfolding(crate::specs::Pieces::order_by_sql))]
+#[tactic(auto, unfolding(sql_leaf::specs::Words::order_by_sql))]
 pub(crate) fn push_order_by<DB: Backend>(pass: &mut AstPass<DB>) -> Result<(), PassError>
     ensures { Walks DB.speaks (held DB.QueryBuilder.text DB.QueryBuilder.count pass.old)
         (one (Text order_by_sql)) result
         (held DB.QueryBuilder.text DB.QueryBuilder.count pass.new) }
 {
-    pass.push_sql(" ORDER BY ")
+    pass.push_sql(ORDER_BY)
 }
 
 /// Nothing, or ` ORDER BY ` and its items.

@@ -2,13 +2,13 @@
 
 ghost use Rattle.std.specs.Prelude.{◌≡◌, IfOk};
 ghost use Rattle.std.specs.Option.{option_map};
-ghost use Rattle.sql_node.specs.Pieces.{join_sql, sides_pieces, source_pieces};
+ghost use Rattle.sql_node.specs.Pieces.{sides_pieces, source_pieces};
 ghost use Rattle.sql_node.specs.View.{expr_tree, join_tree, join_on_tree, source_tree};
 
 use crate::Expr;
 use crate::expr::walk_around;
 use sql_dialect::Backend;
-use sql_leaf::{Alias, JoinKind, TableSource};
+use sql_leaf::{Alias, CLOSE, JoinKind, ON, OPEN, TableSource, join_text};
 use sql_pass::{AstPass, PassError, QueryFragment};
 use sql_schema::NoMemory;
 use std::alloc::Global;
@@ -117,15 +117,6 @@ impl JoinOn {
     }
 }
 
-fn join_word(kind: JoinKind) -> &'static str
-    ensures { result.now ≡ join_sql kind }
-{
-    match kind {
-        JoinKind::Inner => " INNER JOIN ",
-        JoinKind::LeftOuter => " LEFT OUTER JOIN ",
-    }
-}
-
 /// As its variants.
 impl<DB: Backend> QueryFragment<DB> for Source {
     ghost pieces = { λ s. source_pieces DB.speaks (source_tree s) };
@@ -148,7 +139,7 @@ impl<DB: Backend> QueryFragment<DB> for Join {
     #[cycle(walk)]
     fn walk_ast(&self, pass: &mut AstPass<DB>) -> Result<(), PassError> {
         self.left.walk_ast(pass)?;
-        pass.push_sql(join_word(self.kind))?;
+        pass.push_sql(join_text(self.kind))?;
         self.right.walk_ast(pass)?;
         Ok(())
     }
@@ -164,9 +155,9 @@ impl<DB: Backend> QueryFragment<DB> for JoinOn {
         match &self.on {
             None => self.join.walk_ast(pass),
             Some(on) => {
-                pass.push_sql("(")?;
+                pass.push_sql(OPEN)?;
                 self.join.walk_ast(pass)?;
-                walk_around(" ON ", on, ")", pass)
+                walk_around(ON, on, CLOSE, pass)
             }
         }
     }

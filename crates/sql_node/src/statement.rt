@@ -13,7 +13,7 @@ use crate::{
     HavingClause, OrderClause, SelectClause, WhereClause,
 };
 use sql_dialect::{Backend, Dialect};
-use sql_leaf::{LimitOffsetClause, LockingClause, Marks};
+use sql_leaf::{LimitOffsetClause, LockingClause, Marks, SELECT};
 use sql_pass::{AstPass, PassError, QueryFragment};
 use sql_schema::NoMemory;
 use std::alloc::Global;
@@ -202,7 +202,7 @@ impl<DB: Backend> QueryFragment<DB> for SelectStatement {
 
     #[cycle(walk)]
     fn walk_ast(&self, pass: &mut AstPass<DB>) -> Result<(), PassError> {
-        pass.push_sql("SELECT ")?;
+        pass.push_sql(SELECT)?;
         self.distinct.walk_ast(pass)?;
         self.select.walk_ast(pass)?;
         self.from.walk_ast(pass)?;

@@ -20,8 +20,9 @@ use Rattle.sql_pass.specs.declared.value.Bound.TheVariants.{Value as OneValue, L
 use Rattle.sql_pass.specs.Bounds.{of_i16, of_i32, of_i64}
 use Rattle.sql_leaf.specs.declared.position.PositionalItem.{PositionalItem}
 use Rattle.sql_leaf.specs.declared.table_source.Tablesample.{Tablesample}
+use Rattle.sql_leaf.specs.Operators.{Unary, Not, IsNull, IsNotNull}
 use Rattle.sql_node.specs.Pieces.{pieces}
-use Rattle.sql_node.specs.Tree.{Expr, column, value, list, count_star, nullable, not_of, null_test, count, compared, joined, exists, single, among_values, among_rows, Exprs, no_exprs, more_exprs, Items, no_items, more_items, MaybeExpr, no_expr, an_expr, Source, of_table, of_alias, join, From, no_source, from, Distinct, every, distinct, distinct_on, Order, no_order, order_by, Statement, select, combination}
+use Rattle.sql_node.specs.Tree.{Expr, column, value, list, count_star, nullable, unary, count, compared, joined, exists, single, among_values, among_rows, Exprs, no_exprs, more_exprs, Items, no_items, more_items, MaybeExpr, no_expr, an_expr, Source, of_table, of_alias, join, From, no_source, from, Distinct, every, distinct, distinct_on, Order, no_order, order_by, Statement, select, combination}
 use Rattle.sql_reading.specs.Filled as f
 use Rattle.sql_reading.specs.Filled.{lead, expressions_of, expressions_from, trees, trees_in, filled, normal, Item, items_from, items_of, item_trees, first_name, more_names, column_path}
 use Rattle.sql_reading.specs.Words as words
@@ -223,6 +224,12 @@ sample-fits d (Some s) h n r =
 -- ## Nodes
 
 module _ (d : Dialect) where
+  unary-fit : (u : Unary) (a : g.Expression Bound) → ExprFits d a → ExprFits d (words.unary_tree u a)
+  unfolding fits.FitsExpression
+  unary-fit Not a h n r = h n r
+  unary-fit IsNull a h n r = h n r
+  unary-fit IsNotNull a h n r = h n r
+
   two-fit : (a b : g.Expression Bound) → ExprFits d a → ExprFits d b → (n : ℕ)
       → Room d (after n (values_expression a ++ values_expression b))
       → fits.FitsExpression d (each_expression (mark d) n a)
@@ -240,8 +247,7 @@ module _ (d : Dialect) where
     expr-law (list es) k = exprs-law es k
     expr-law count_star k = (λ n r. tt, tt)
     expr-law (nullable e) k = expr-law e k
-    expr-law (not_of e) k = (λ n r. lead-fits d _ (expr-law e k.1) n r, tt)
-    expr-law (null_test b e) k = (λ n r. lead-fits d _ (expr-law e k.1) n r, tt)
+    expr-law (unary u e) k = (unary-fit u _ (lead-fits d _ (expr-law e k.1)), tt)
     expr-law (count e) k = (λ n r. lead-fits d _ (expr-law e k.1) n r, tt)
     expr-law (compared by a b) k = (
       λ n r. two-fit (lead (trees d a)) (lead (trees d b)) (lead-fits d _ (expr-law a k.0.1))

@@ -51,9 +51,10 @@ use Rattle.sql_leaf.specs.declared.table_source.Tablesample.{Tablesample}
 use Rattle.sql_leaf.specs.declared.table_source.TablesampleMethod.{TablesampleMethod}
 use Rattle.sql_leaf.specs.declared.table_source.TablesampleMethod.TheVariants.{BernoulliMethod, SystemMethod}
 use Rattle.sql_node.specs.Pieces as p
-use Rattle.sql_node.specs.Pieces.{Written, alone, many, each, spread, expr_parts, pieces, comparison_sql, logic_sql, null_test_sql, is_not_null, among_sql, constant_sql, join_sql, combinator_sql, origin_pieces, values_pieces, positions_pieces, all_pieces, end_pieces}
+use Rattle.sql_leaf.specs.Operators.{comparison_sql, logic_sql, unary_before, unary_after, is_not_null, Unary, Not, IsNull, IsNotNull, Comparison, Eq, Ne, Lt, Le, Gt, Ge, Logic, And, Or}
+use Rattle.sql_leaf.specs.Words.{among_sql, constant_sql, join_sql, combinator_sql, order_by_sql, group_by, distinct_on_open}
+use Rattle.sql_node.specs.Pieces.{Written, alone, many, each, spread, expr_parts, pieces, origin_pieces, values_pieces, positions_pieces, all_pieces, end_pieces}
 use Rattle.sql_node.specs.Tree.{Form, unboxed, boxed, Expr}
-use Rattle.sql_node.specs.Words.{Comparison, Eq, Ne, Lt, Le, Gt, Ge, Logic, And, Or}
 use Rattle.sql_reading.specs.Filled as f
 use Rattle.sql_reading.specs.Filled.{lead, expressions_of, expressions_from, trees, normal, Item, items_from, first_name, more_names, column_path}
 use Rattle.sql_reading.specs.Words as words
@@ -251,11 +252,6 @@ module _ (d : Dialect) where
   comparison-text Gt = record { says = λ n more. refl; has = refl }
   comparison-text Ge = record { says = λ n more. refl; has = refl }
 
-  pub null_test-text : (b : Bool) → Writes (one (Text (null_test_sql b))) (λ n r. x.null_test b r) []
-  unfolding x.null_test one is_not_null
-  null_test-text true = record { says = λ n more. refl; has = refl }
-  null_test-text false = record { says = λ n more. refl; has = refl }
-
   pub logic-text : (by : Logic) → Writes (one (Text (logic_sql by))) (λ n r. x.logic (words.logic_of by) r) []
   unfolding x.logic one
   logic-text And = record { says = λ n more. refl; has = refl }
@@ -319,16 +315,16 @@ module _ (d : Dialect) where
   unfolding one repeatable
   repeatable-text = record { says = λ n more. refl; has = refl }
 
-  pub order_by-text : Writes (one (Text p.order_by_sql)) (λ n r. codes " ORDER BY " ++ r) []
-  unfolding one p.order_by_sql
+  pub order_by-text : Writes (one (Text order_by_sql)) (λ n r. codes " ORDER BY " ++ r) []
+  unfolding one order_by_sql
   order_by-text = record { says = λ n more. refl; has = refl }
 
-  pub group_by-text : Writes (one (Text p.group_by)) (λ n r. codes " GROUP BY " ++ r) []
-  unfolding one p.group_by
+  pub group_by-text : Writes (one (Text group_by)) (λ n r. codes " GROUP BY " ++ r) []
+  unfolding one group_by
   group_by-text = record { says = λ n more. refl; has = refl }
 
-  pub distinct_on-text : Writes (one (Text p.distinct_on_open)) (λ n r. codes "DISTINCT ON (" ++ r) []
-  unfolding one p.distinct_on_open
+  pub distinct_on-text : Writes (one (Text distinct_on_open)) (λ n r. codes "DISTINCT ON (" ++ r) []
+  unfolding one distinct_on_open
   distinct_on-text = record { says = λ n more. refl; has = refl }
 
   pub least-text : Writes (one (Text least_limit)) (λ n r. codes " LIMIT -1 " ++ r) []
@@ -484,6 +480,19 @@ among_as-text PgStyleArrayComparison d negated ps t ty vs h =
     (then-none d (bind-text d (ManyValues ty vs)) (sql-text d (codes "))"))) in
     record { says = λ n more. e.says n more; has = e.has }
 among_as-text AnsiSqlArrayComparison d negated ps t ty vs h = one_by_one-text d negated ps t ty vs h
+
+pub unary-text : (d : Dialect) (u : Unary) (ps : List Piece) (t : g.Expression Bound) → ExprText d ps t
+    → ExprText d (p.around (unary_before u) ps (unary_after u)) (words.unary_tree u t)
+unfolding x.expression x.null_test is_not_null
+unary-text d Not ps t h =
+    let e = then-text d (sql-text d (codes "NOT (")) (then-none d h (sql-text d (codes ")"))) in
+    record { says = λ n more. e.says n more; has = e.has }
+unary-text d IsNull ps t h =
+    let e = then-text d (sql-text d (codes "(")) (then-none d h (sql-text d (codes " IS NULL)"))) in
+    record { says = λ n more. e.says n more; has = e.has }
+unary-text d IsNotNull ps t h =
+    let e = then-text d (sql-text d (codes "(")) (then-none d h (sql-text d is_not_null)) in
+    record { says = λ n more. e.says n more; has = e.has }
 
 pub membership-text : (d : Dialect) (negated : Bool) (ps : List Piece) (t : g.Expression Bound) (ty : SqlType)
     (vs : List Value)

@@ -8,14 +8,15 @@ use Rattle.sql_pass.specs.Pieces.{one, Text, text_of, values_of}
 use Rattle.sql_pass.specs.declared.value.Bound.TheVariants.{Value as OneValue}
 use Rattle.sql_leaf.specs.Positions.{direction_pieces}
 use Rattle.sql_node.specs.Pieces as p
-use Rattle.sql_node.specs.Pieces.{each, expr_parts, exprs_parts, expr_pieces, pieces, around, join_sql}
-use Rattle.sql_node.specs.Tree.{Expr, column, value, list, count_star, nullable, not_of, null_test, count, compared, joined, exists, single, among_values, among_rows, Exprs, no_exprs, more_exprs, Items, no_items, more_items, MaybeExpr, no_expr, an_expr, Source, of_table, of_alias, join, From, no_source, from, Distinct, every, distinct, distinct_on, Order, no_order, order_by, Statement, select, combination}
+use Rattle.sql_leaf.specs.Words.{join_sql, group_by}
+use Rattle.sql_node.specs.Pieces.{each, expr_parts, exprs_parts, expr_pieces, pieces, around}
+use Rattle.sql_node.specs.Tree.{Expr, column, value, list, count_star, nullable, unary, count, compared, joined, exists, single, among_values, among_rows, Exprs, no_exprs, more_exprs, Items, no_items, more_items, MaybeExpr, no_expr, an_expr, Source, of_table, of_alias, join, From, no_source, from, Distinct, every, distinct, distinct_on, Order, no_order, order_by, Statement, select, combination}
 use Rattle.sql_reading.specs.Filled as f
 use Rattle.sql_reading.specs.Filled.{lead, trees, trees_in, filled, normal, item_trees}
 use Rattle.sql_reading.specs.Words as words
 use Rattle.sql_reading.specs.inside.HasText.{ExprHasText, ExprsHaveText, ItemsHaveText, MaybeHasText, GroupHasText, SourceHasText, FromHasText, DistinctHasText, OrderHasText, HasText}
 use Rattle.sql_reading.proofs.Lists.{has-parts}
-use Rattle.sql_reading.proofs.PartTexts.{Writes, mark, then-text, then-none, regrouped-text, sql-text, no-text, name-text, bind-text, EachText, append-text, lead-text, elements-text, ItemText, ItemsText, items-text, comparison-text, null_test-text, logic-text, direction-text, kind-text, combinator-text, all-text, only-text, order_by-text, group_by-text, distinct_on-text, path-text, column-text, sample-text, places-text, among-text, side_open-text, membership-text, page-text, end-text}
+use Rattle.sql_reading.proofs.PartTexts.{Writes, mark, then-text, then-none, regrouped-text, sql-text, no-text, name-text, bind-text, EachText, append-text, lead-text, elements-text, ItemText, ItemsText, items-text, comparison-text, unary-text, logic-text, direction-text, kind-text, combinator-text, all-text, only-text, order_by-text, group_by-text, distinct_on-text, path-text, column-text, sample-text, places-text, among-text, side_open-text, membership-text, page-text, end-text}
 
 module _ (d : Dialect) where
   mutual
@@ -27,16 +28,7 @@ module _ (d : Dialect) where
     expr-law (list es) k = exprs-law es k
     expr-law count_star k = let h = sql-text d (codes "COUNT(*)") in (record { says = λ n more. h.says n more; has = h.has }, tt)
     expr-law (nullable e) k = expr-law e k
-    expr-law (not_of e) k =
-        let h =
-        then-text d (sql-text d (codes "NOT ("))
-        (then-none d (lead-text d e k.0 (expr-law e k.1)) (sql-text d (codes ")"))) in
-        (record { says = λ n more. h.says n more; has = h.has }, tt)
-    expr-law (null_test b e) k =
-        let h =
-        then-text d (sql-text d (codes "("))
-        (then-none d (lead-text d e k.0 (expr-law e k.1)) (null_test-text d b)) in
-        (record { says = λ n more. h.says n more; has = h.has }, tt)
+    expr-law (unary u e) k = (unary-text d u _ _ (lead-text d e k.0 (expr-law e k.1)), tt)
     expr-law (count e) k =
         let h =
         then-text d (sql-text d (codes "COUNT("))
@@ -131,7 +123,7 @@ module _ (d : Dialect) where
         record { says = λ n more. h.says n more; has = h.has }
 
     group-law : (e : MaybeExpr) → GroupHasText d e
-        → Writes d (p.maybe_pieces d p.group_by e)
+        → Writes d (p.maybe_pieces d group_by e)
         (λ n r. x.group_by d (each_maybe_expressions (mark d) n (f.group_tree d e)) r) (values_maybe_expressions (f.group_tree d e))
     group-law no_expr k = no-text d
     group-law (an_expr e) k =

@@ -11,7 +11,8 @@ use Rattle.sql_pass.specs.Pieces.{one, text_of, values_of}
 use Rattle.sql_pass.specs.Parts.{side_open, from_open}
 use Rattle.sql_leaf.specs.Limits.{least_limit, largest_limit, fetch_next, rows_only}
 use Rattle.sql_leaf.specs.Locks.{skip_locked}
-use Rattle.sql_node.specs.Pieces.{pieces, distinct_on_open, group_by, order_by_sql}
+use Rattle.sql_leaf.specs.Words.{distinct_on_open, group_by, order_by_sql}
+use Rattle.sql_node.specs.Pieces.{pieces}
 use Rattle.sql_node.specs.Tree.{Statement}
 use Rattle.sql_reading.specs.Examples.{pg_statement, mysql_statement, sqlite_statement, bracket_statement, pg_text, mysql_text, sqlite_text, bracket_text}
 use Rattle.sql_reading.specs.Filled.{normal}

@@ -16,8 +16,8 @@ use Rattle.sql_pass.specs.declared.value.Bound.TheVariants.{Value as OneValue, L
 use Rattle.sql_pass.specs.Bounds.{of_i16, of_i32, of_i64}
 use Rattle.sql_leaf.specs.declared.position.PositionalItem.{PositionalItem}
 use Rattle.sql_leaf.specs.declared.table_source.Tablesample.{Tablesample}
-use Rattle.sql_node.specs.Tree.{Form, unboxed, boxed, Expr, column, value, list, count_star, nullable, not_of, null_test, count, compared, joined, exists, single, among_values, among_rows, Exprs, no_exprs, more_exprs, Items, no_items, more_items, MaybeExpr, no_expr, an_expr, Source, of_table, of_alias, join, From, no_source, from, Distinct, every, distinct, distinct_on, Order, no_order, order_by, Statement, select, combination}
-use Rattle.sql_reading.specs.Words.{comparison_of, logic_of, direction_of, kind_of, method_of, lock_of, operator_of}
+use Rattle.sql_node.specs.Tree.{Form, unboxed, boxed, Expr, column, value, list, count_star, nullable, unary, count, compared, joined, exists, single, among_values, among_rows, Exprs, no_exprs, more_exprs, Items, no_items, more_items, MaybeExpr, no_expr, an_expr, Source, of_table, of_alias, join, From, no_source, from, Distinct, every, distinct, distinct_on, Order, no_order, order_by, Statement, select, combination}
+use Rattle.sql_reading.specs.Words.{comparison_of, logic_of, direction_of, kind_of, method_of, lock_of, operator_of, unary_tree}
 
 -- ---- names
 
@@ -117,8 +117,7 @@ abbrev mutual
   trees d (list es) = trees_in d es
   trees d count_star = g.CountAll ∷ []
   trees d (nullable e) = trees d e
-  trees d (not_of e) = g.Not (lead (trees d e)) ∷ []
-  trees d (null_test negated e) = g.NullTest negated (lead (trees d e)) ∷ []
+  trees d (unary u e) = unary_tree u (lead (trees d e)) ∷ []
   trees d (count e) = g.Count (lead (trees d e)) ∷ []
   trees d (compared by a b) = g.Compared (comparison_of by) (lead (trees d a)) (lead (trees d b)) ∷ []
   trees d (joined by a b) = g.Connected (logic_of by) (lead (trees d a)) (lead (trees d b)) ∷ []

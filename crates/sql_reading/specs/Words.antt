@@ -1,4 +1,5 @@
 -- The words of a statement as the words of its tree.
+use Rattle.std.specs.Prelude.{true, false}
 use Rattle.sql_dialect.specs.declared.combination.Combinator.{Combinator}
 use Rattle.sql_dialect.specs.declared.combination.Combinator.TheVariants as combinator
 use Rattle.sql_grammar.specs.Token as token
@@ -15,7 +16,7 @@ use Rattle.sql_leaf.specs.declared.table_source.JoinKind.{JoinKind}
 use Rattle.sql_leaf.specs.declared.table_source.JoinKind.TheVariants as kind
 use Rattle.sql_leaf.specs.declared.table_source.TablesampleMethod.{TablesampleMethod}
 use Rattle.sql_leaf.specs.declared.table_source.TablesampleMethod.TheVariants as method
-use Rattle.sql_node.specs.Words.{Comparison, Eq, Ne, Lt, Le, Gt, Ge, Logic, And, Or}
+use Rattle.sql_leaf.specs.Operators.{Unary, Not, IsNull, IsNotNull, Comparison, Eq, Ne, Lt, Le, Gt, Ge, Logic, And, Or}
 
 abbrev pub comparison_of : Comparison → token.Comparison
 comparison_of Eq = token.Equal
@@ -61,3 +62,9 @@ abbrev pub operator_of : Combinator → g.SetOperator
 operator_of combinator.Union = g.Union
 operator_of combinator.Intersect = g.Intersect
 operator_of combinator.Except = g.Except
+
+-- of an operator over a tree
+abbrev pub unary_tree : {P : Type 0} → Unary → g.Expression P → g.Expression P
+unary_tree Not a = g.Not a
+unary_tree IsNull a = g.NullTest false a
+unary_tree IsNotNull a = g.NullTest true a

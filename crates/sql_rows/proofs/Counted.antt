@@ -2,7 +2,7 @@
 use Rattle.std.proofs.Common.{◌≡◌, Bool, true, false, List, [], ◌∷◌, ◌++◌, Option, Some, None, cond}
 use Rattle.std.specs.Cmp.{first_so, second_so}
 use Rattle.sql_leaf.specs.declared.position.PositionalItem.{PositionalItem}
-use Rattle.sql_node.specs.Tree.{Expr, column, value, list, count_star, nullable, not_of, null_test, count, compared, joined, exists, single, among_values, among_rows, Exprs, no_exprs, more_exprs, Items, no_items, more_items, MaybeExpr, no_expr, an_expr, Source, of_table, of_alias, join, From, no_source, from, Distinct, every, distinct, distinct_on, Order, no_order, order_by, Statement, select, combination}
+use Rattle.sql_node.specs.Tree.{Expr, column, value, list, count_star, nullable, unary, count, compared, joined, exists, single, among_values, among_rows, Exprs, no_exprs, more_exprs, Items, no_items, more_items, MaybeExpr, no_expr, an_expr, Source, of_table, of_alias, join, From, no_source, from, Distinct, every, distinct, distinct_on, Order, no_order, order_by, Statement, select, combination}
 use Rattle.sql_shape.specs.Ids.{is_plain_form, lacks_places, expr_keeps_id, exprs_keep_id, items_keep_id, maybe_keeps_id, source_keeps_id, from_keeps_id, distinct_keeps_id, order_keeps_id, has_id}
 use Rattle.sql_key.specs.Keys.{key, id_of}
 use Rattle.sql_flat.specs.declared.kind.FlatNode.{FlatNode}
@@ -29,8 +29,7 @@ mutual
   expr-counted (list es) v h = exprs-counted es v h
   expr-counted count_star v h = tt
   expr-counted (nullable e) v h = expr-counted e v h
-  expr-counted (not_of e) v h = expr-counted e v h
-  expr-counted (null_test n e) v h = expr-counted e v h
+  expr-counted (unary n e) v h = expr-counted e v h
   expr-counted (count e) v h = expr-counted e v h
   expr-counted (compared by a b) v h =
       both (in_expr v a) (in_expr v b) (expr-counted a v (first_so (expr_keeps_id a) (expr_keeps_id b) h))

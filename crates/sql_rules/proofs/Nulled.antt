@@ -1,7 +1,7 @@
 -- The types of an expression's elements: what nullables do to them, and that they are those of its flattening.
 use Rattle.std.proofs.Common.{◌≡◌, List, [], ◌∷◌, ◌++◌, map, refl, sym, ap, ◌∙◌}
 use Rattle.std.proofs.lemmas.List.{map-append}
-use Rattle.sql_node.specs.Tree.{Expr, column, value, list, count_star, nullable, not_of, null_test, count, compared, joined, exists, single, among_values, among_rows, Exprs, no_exprs, more_exprs}
+use Rattle.sql_node.specs.Tree.{Expr, column, value, list, count_star, nullable, unary, count, compared, joined, exists, single, among_values, among_rows, Exprs, no_exprs, more_exprs}
 use Rattle.sql_rules.specs.Scope.{flat, flat_of}
 use Rattle.sql_rules.specs.Types.{Given, one, many, given, given_each, element_types, only_type, all_nullable, as_nullable, type_of}
 
@@ -26,8 +26,7 @@ mutual
   elements (column o c) = refl
   elements (value t x) = refl
   elements count_star = refl
-  elements (not_of e) = refl
-  elements (null_test n e) = refl
+  elements (unary n e) = refl
   elements (count e) = refl
   elements (compared by a b) = refl
   elements (joined by a b) = refl

@@ -8,11 +8,11 @@ use Rattle.std.proofs.lemmas.Bool.{true≢false, false≢true}
 use Rattle.std.proofs.lemmas.Bool.Decides.{Decides-at, Decides-like}
 use Rattle.sql_schema.specs.declared.types.SqlType.{SqlType}
 use Rattle.sql_pass.specs.declared.value.Value.{Value}
-use Rattle.sql_node.specs.Tree.{Expr, column, value, list, count_star, nullable, not_of, null_test, count, compared, joined, exists, single, among_values, among_rows}
+use Rattle.sql_node.specs.Tree.{Expr, column, value, list, count_star, nullable, unary, count, compared, joined, exists, single, among_values, among_rows}
 use Rattle.sql_rules.specs.Lists.{AnyOf}
 use Rattle.sql_rules.specs.Rules.{IsIllTyped}
 use Rattle.sql_rules.specs.Scope.{nodes, flat}
-use Rattle.sql_rules.specs.Types.{Given, one, many, given, only_type, all_nullable, as_nullable, not_type, if_typed, compared_type, joined_type, among_type, single_type, bool_type, big_type, columns, type_of, fits, all_fit}
+use Rattle.sql_rules.specs.Types.{Given, one, many, given, only_type, all_nullable, as_nullable, unary_type, if_typed, compared_type, joined_type, among_type, single_type, big_type, columns, type_of, fits, all_fit}
 use Rattle.sql_rules.specs.inside.Misfits.{misfit}
 use Rattle.std.proofs.lemmas.List.Folds.{list_any-append}
 use Rattle.sql_rules.proofs.Loops.{any-decides, any_each, any_map, map_any}
@@ -36,8 +36,7 @@ ill-decides (column o c) = untyped _
 ill-decides (list es) = untyped _
 ill-decides count_star = untyped _
 ill-decides (nullable e) = untyped _
-ill-decides (not_of e) = untyped _
-ill-decides (null_test n e) = untyped _
+ill-decides (unary n e) = untyped _
 ill-decides (count e) = untyped _
 ill-decides (compared by a b) = untyped _
 ill-decides (joined by a b) = untyped _
@@ -115,8 +114,7 @@ same_test (list es) = refl
 same_test count_star = refl
 same_test (nullable e) =
     below _ e (same_test e) (λ h. ap is_none (nullable-type (given e)) ∙ as_nullable-none (type_of e) ∙ h)
-same_test (not_of e) = below _ e (same_test e) (up not_type refl (type_of e))
-same_test (null_test n e) = below _ e (same_test e) (up (λ t. if_typed t (bool_type false)) refl (type_of e))
+same_test (unary u e) = below _ e (same_test e) (up (unary_type u) refl (type_of e))
 same_test (count e) = below _ e (same_test e) (up (λ t. if_typed t big_type) refl (type_of e))
 same_test (compared by a b) =
     below_both _ a b (same_test a) (same_test b) (up (λ t. compared_type t (type_of b)) refl (type_of a))

@@ -18,7 +18,7 @@ use Rattle.sql_leaf.specs.declared.locking.LockingClause.{LockingClause}
 use Rattle.sql_leaf.specs.declared.locking.LockingClause.TheVariants.{NoLockingClause, LockingClause as Locked}
 use Rattle.sql_leaf.specs.declared.marks.Marks.{Marks}
 use Rattle.sql_node.specs.Pieces.{pieces}
-use Rattle.sql_node.specs.Tree.{Origin, Form, unboxed, boxed, Expr, column, value, list, count_star, nullable, not_of, null_test, count, compared, joined, exists, single, among_values, among_rows, Exprs, no_exprs, more_exprs, Items, no_items, more_items, MaybeExpr, no_expr, an_expr, Source, of_table, of_alias, join, From, no_source, from, Distinct, every, distinct, distinct_on, Order, no_order, order_by, Statement}
+use Rattle.sql_node.specs.Tree.{Origin, Form, unboxed, boxed, Expr, column, value, list, count_star, nullable, unary, count, compared, joined, exists, single, among_values, among_rows, Exprs, no_exprs, more_exprs, Items, no_items, more_items, MaybeExpr, no_expr, an_expr, Source, of_table, of_alias, join, From, no_source, from, Distinct, every, distinct, distinct_on, Order, no_order, order_by, Statement}
 use Rattle.sql_origin.specs.Leaves.{is_padded}
 use Rattle.sql_origin.specs.Origins.{exposed_path}
 use Rattle.sql_shape.specs.Expressions.{expr_shape}
@@ -179,8 +179,7 @@ abbrev mutual
   bare (list es) = bare_of es
   bare count_star = []
   bare (nullable e) = []
-  bare (not_of e) = bare e
-  bare (null_test n e) = bare e
+  bare (unary n e) = bare e
   bare (count e) = bare e
   bare (compared by a b) = bare a ++ bare b
   bare (joined by a b) = bare a ++ bare b

@@ -6,7 +6,7 @@ use Rattle.sql_dialect.specs.declared.combination.DuplicateRule.{DuplicateRule}
 use Rattle.sql_leaf.specs.declared.limit_offset.LimitOffsetClause.{LimitOffsetClause}
 use Rattle.sql_leaf.specs.declared.marks.Marks.{Marks}
 use Rattle.sql_leaf.specs.declared.position.PositionalItem.{PositionalItem}
-use Rattle.sql_node.specs.Tree.{Origin, Form, unboxed, boxed, Expr, column, value, list, count_star, nullable, not_of, null_test, count, compared, joined, exists, single, among_values, among_rows, Exprs, no_exprs, more_exprs, Items, no_items, more_items, MaybeExpr, no_expr, an_expr, Source, of_table, of_alias, join, From, no_source, from, Distinct, every, distinct, distinct_on, Order, no_order, order_by, Statement, select, combination}
+use Rattle.sql_node.specs.Tree.{Origin, Form, unboxed, boxed, Expr, column, value, list, count_star, nullable, unary, count, compared, joined, exists, single, among_values, among_rows, Exprs, no_exprs, more_exprs, Items, no_items, more_items, MaybeExpr, no_expr, an_expr, Source, of_table, of_alias, join, From, no_source, from, Distinct, every, distinct, distinct_on, Order, no_order, order_by, Statement, select, combination}
 use Rattle.sql_origin.specs.Leaves.{Leaf, leaves}
 use Rattle.sql_rules.specs.Lists.{AnyOf, Each}
 
@@ -70,8 +70,7 @@ abbrev mutual
   in_expr v (list es) = in_exprs v es
   in_expr v count_star = []
   in_expr v (nullable e) = in_expr v e
-  in_expr v (not_of e) = in_expr v e
-  in_expr v (null_test n e) = in_expr v e
+  in_expr v (unary n e) = in_expr v e
   in_expr v (count e) = in_expr v e
   in_expr v (compared by a b) = in_expr v a ++ in_expr v b
   in_expr v (joined by a b) = in_expr v a ++ in_expr v b
@@ -202,8 +201,7 @@ abbrev mutual
   nodes (list es) = list es ∷ nodes_of es
   nodes count_star = count_star ∷ []
   nodes (nullable e) = nullable e ∷ nodes e
-  nodes (not_of e) = not_of e ∷ nodes e
-  nodes (null_test n e) = null_test n e ∷ nodes e
+  nodes (unary n e) = unary n e ∷ nodes e
   nodes (count e) = count e ∷ nodes e
   nodes (compared by a b) = compared by a b ∷ (nodes a ++ nodes b)
   nodes (joined by a b) = joined by a b ∷ (nodes a ++ nodes b)

@@ -8,7 +8,8 @@ use Rattle.sql_schema.specs.declared.types.Base.TheVariants as base
 use Rattle.sql_schema.specs.declared.types.SqlType.{SqlType}
 use Rattle.sql_pass.specs.declared.value.Value.{Value}
 use Rattle.sql_pass.specs.declared.value.Value.TheVariants as V
-use Rattle.sql_node.specs.Tree.{Form, unboxed, boxed, Expr, column, value, list, count_star, nullable, not_of, null_test, count, compared, joined, exists, single, among_values, among_rows, Exprs, no_exprs, more_exprs, Statement, select, combination}
+use Rattle.sql_leaf.specs.Operators.{Unary, Not, IsNull, IsNotNull}
+use Rattle.sql_node.specs.Tree.{Form, unboxed, boxed, Expr, column, value, list, count_star, nullable, unary, count, compared, joined, exists, single, among_values, among_rows, Exprs, no_exprs, more_exprs, Statement, select, combination}
 
 abbrev pub is_bool : SqlType → Bool
 is_bool t = same_base t.base base.Bool
@@ -64,6 +65,13 @@ abbrev pub if_typed : Option SqlType → Option SqlType → Option SqlType
 if_typed None t = None
 if_typed (Some x) t = t
 
+-- that of an operator, over an operand of that type
+abbrev pub unary_type : Unary → Option SqlType → Option SqlType
+unary_type u None = None
+unary_type Not (Some t) = not_type (Some t)
+unary_type IsNull (Some t) = bool_type false
+unary_type IsNotNull (Some t) = bool_type false
+
 -- a comparison asks equal types, and is nullable where they are
 abbrev pub compared_type : Option SqlType → Option SqlType → Option SqlType
 compared_type None b = None
@@ -99,8 +107,7 @@ abbrev mutual
   given (list es) = many (given_each es)
   given count_star = one big_type
   given (nullable e) = all_nullable (given e)
-  given (not_of e) = one (not_type (only_type (given e)))
-  given (null_test n e) = one (if_typed (only_type (given e)) (bool_type false))
+  given (unary u e) = one (unary_type u (only_type (given e)))
   given (count e) = one (if_typed (only_type (given e)) big_type)
   given (compared by a b) = one (compared_type (only_type (given a)) (only_type (given b)))
   given (joined by a b) = one (joined_type (only_type (given a)) (only_type (given b)))

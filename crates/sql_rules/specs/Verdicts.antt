@@ -4,7 +4,7 @@ use Rattle.std.specs.Prelude.{ℕ, List, [], ◌∷◌, ◌++◌, Bool, true, fa
 use Rattle.std.specs.List.{list_any, list_all}
 use Rattle.std.specs.Str.{bytes_eq}
 use Rattle.sql_schema.specs.declared.declaration.ColumnDecl.{ColumnDecl}
-use Rattle.sql_node.specs.Tree.{Origin, Expr, column, value, list, count_star, nullable, not_of, null_test, count, compared, joined, exists, single, among_values, among_rows, Exprs, no_exprs, more_exprs, MaybeExpr, no_expr, an_expr}
+use Rattle.sql_node.specs.Tree.{Origin, Expr, column, value, list, count_star, nullable, unary, count, compared, joined, exists, single, among_values, among_rows, Exprs, no_exprs, more_exprs, MaybeExpr, no_expr, an_expr}
 use Rattle.sql_origin.specs.Origins.{same_origin}
 use Rattle.sql_rules.specs.Scope.{nodes}
 
@@ -75,8 +75,7 @@ abbrev mutual
   verdict g (list es) = verdict_of g es
   verdict g count_star = Yes
   verdict g (nullable e) = verdict g e
-  verdict g (not_of e) = verdict g e
-  verdict g (null_test n e) = verdict g e
+  verdict g (unary n e) = verdict g e
   verdict g (count e) = if holds_aggregate e then NoVerdict else Yes
   verdict g (compared by a b) = mix (verdict g a) (verdict g b)
   verdict g (joined by a b) = mix (verdict g a) (verdict g b)

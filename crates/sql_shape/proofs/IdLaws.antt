@@ -1,7 +1,7 @@
 -- A statement has an id exactly where its shape has one.
 use Rattle.std.proofs.Common.{◌≡◌, ◌&&◌, refl, sym, ap, ◌∙◌, option_map, Option, None, Some}
 use Rattle.sql_leaf.specs.declared.table_source.Tablesample.{Tablesample}
-use Rattle.sql_node.specs.Tree.{Expr, column, value, list, count_star, nullable, not_of, null_test, count, compared, joined, exists, single, among_values, among_rows, Exprs, no_exprs, more_exprs, Items, no_items, more_items, MaybeExpr, no_expr, an_expr, Source, of_table, of_alias, join, From, no_source, from, Distinct, every, distinct, distinct_on, Order, no_order, order_by, Statement, select, combination}
+use Rattle.sql_node.specs.Tree.{Expr, column, value, list, count_star, nullable, unary, count, compared, joined, exists, single, among_values, among_rows, Exprs, no_exprs, more_exprs, Items, no_items, more_items, MaybeExpr, no_expr, an_expr, Source, of_table, of_alias, join, From, no_source, from, Distinct, every, distinct, distinct_on, Order, no_order, order_by, Statement, select, combination}
 use Rattle.sql_shape.specs.Ids.{lacks_sample, lacks_places, is_plain_form, expr_keeps_id, exprs_keep_id, items_keep_id, maybe_keeps_id, source_keeps_id, from_keeps_id, distinct_keeps_id, order_keeps_id, has_id}
 use Rattle.sql_shape.specs.Shape.{blank_sample, nulls, erased_expr, erased_exprs, erased_items, erased_maybe, erased_source, erased_from, erased_distinct, erased_order, shape}
 
@@ -16,8 +16,7 @@ mutual
   expr-id (list es) = exprs-id es
   expr-id count_star = refl
   expr-id (nullable e) = expr-id e
-  expr-id (not_of e) = expr-id e
-  expr-id (null_test n e) = expr-id e
+  expr-id (unary n e) = expr-id e
   expr-id (count e) = expr-id e
   expr-id (compared by a b) = λ i. expr-id a i && expr-id b i
   expr-id (joined by a b) = λ i. expr-id a i && expr-id b i

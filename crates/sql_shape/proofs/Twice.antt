@@ -3,7 +3,7 @@ use Rattle.std.proofs.Common.{◌≡◌, ℤ, List, [], Option, None, Some, opti
 use Rattle.sql_pass.specs.declared.value.Value.{Value}
 use Rattle.sql_leaf.specs.declared.limit_offset.LimitOffsetClause.{LimitOffsetClause}
 use Rattle.sql_leaf.specs.declared.table_source.Tablesample.{Tablesample}
-use Rattle.sql_node.specs.Tree.{Expr, column, value, list, count_star, nullable, not_of, null_test, count, compared, joined, exists, single, among_values, among_rows, Exprs, no_exprs, more_exprs, Items, no_items, more_items, MaybeExpr, no_expr, an_expr, Source, of_table, of_alias, join, From, no_source, from, Distinct, every, distinct, distinct_on, Order, no_order, order_by, Statement, select, combination}
+use Rattle.sql_node.specs.Tree.{Expr, column, value, list, count_star, nullable, unary, count, compared, joined, exists, single, among_values, among_rows, Exprs, no_exprs, more_exprs, Items, no_items, more_items, MaybeExpr, no_expr, an_expr, Source, of_table, of_alias, join, From, no_source, from, Distinct, every, distinct, distinct_on, Order, no_order, order_by, Statement, select, combination}
 use Rattle.sql_shape.specs.Shape.{blank, blank_rows, blank_sample, nulls, erased_expr, erased_exprs, erased_items, erased_maybe, erased_source, erased_from, erased_distinct, erased_order, erased, shape}
 
 abbrev no_values : List Value → List Value
@@ -31,8 +31,7 @@ mutual
   expr-twice (list es) = ap list (exprs-twice es)
   expr-twice count_star = refl
   expr-twice (nullable e) = ap nullable (expr-twice e)
-  expr-twice (not_of e) = ap not_of (expr-twice e)
-  expr-twice (null_test n e) = ap (null_test n) (expr-twice e)
+  expr-twice (unary n e) = ap (unary n) (expr-twice e)
   expr-twice (count e) = ap count (expr-twice e)
   expr-twice (compared by a b) = λ i. compared by (expr-twice a i) (expr-twice b i)
   expr-twice (joined by a b) = λ i. joined by (expr-twice a i) (expr-twice b i)

@@ -3,7 +3,7 @@
 use Rattle.std.specs.Prelude.{Bool, true, false, ◌&&◌, List, [], ◌∷◌, Option, None, Some}
 use Rattle.sql_leaf.specs.declared.position.PositionalItem.{PositionalItem}
 use Rattle.sql_leaf.specs.declared.table_source.Tablesample.{Tablesample}
-use Rattle.sql_node.specs.Tree.{Form, unboxed, boxed, Expr, column, value, list, count_star, nullable, not_of, null_test, count, compared, joined, exists, single, among_values, among_rows, Exprs, no_exprs, more_exprs, Items, no_items, more_items, MaybeExpr, no_expr, an_expr, Source, of_table, of_alias, join, From, no_source, from, Distinct, every, distinct, distinct_on, Order, no_order, order_by, Statement, select, combination}
+use Rattle.sql_node.specs.Tree.{Form, unboxed, boxed, Expr, column, value, list, count_star, nullable, unary, count, compared, joined, exists, single, among_values, among_rows, Exprs, no_exprs, more_exprs, Items, no_items, more_items, MaybeExpr, no_expr, an_expr, Source, of_table, of_alias, join, From, no_source, from, Distinct, every, distinct, distinct_on, Order, no_order, order_by, Statement, select, combination}
 use Rattle.sql_node.specs.View.{Among, among_list, among_query}
 
 abbrev pub is_plain_form : Form → Bool
@@ -27,8 +27,7 @@ abbrev mutual
   expr_keeps_id (list es) = exprs_keep_id es
   expr_keeps_id count_star = true
   expr_keeps_id (nullable e) = expr_keeps_id e
-  expr_keeps_id (not_of e) = expr_keeps_id e
-  expr_keeps_id (null_test n e) = expr_keeps_id e
+  expr_keeps_id (unary n e) = expr_keeps_id e
   expr_keeps_id (count e) = expr_keeps_id e
   expr_keeps_id (compared by a b) = expr_keeps_id a && expr_keeps_id b
   expr_keeps_id (joined by a b) = expr_keeps_id a && expr_keeps_id b

@@ -5,7 +5,7 @@ use Rattle.sql_pass.specs.declared.value.Value.{Value}
 use Rattle.sql_pass.specs.declared.value.Value.TheVariants.{Null}
 use Rattle.sql_leaf.specs.declared.limit_offset.LimitOffsetClause.{LimitOffsetClause}
 use Rattle.sql_leaf.specs.declared.table_source.Tablesample.{Tablesample}
-use Rattle.sql_node.specs.Tree.{Expr, column, value, list, count_star, nullable, not_of, null_test, count, compared, joined, exists, single, among_values, among_rows, Exprs, no_exprs, more_exprs, Items, no_items, more_items, MaybeExpr, no_expr, an_expr, Source, of_table, of_alias, join, From, no_source, from, Distinct, every, distinct, distinct_on, Order, no_order, order_by, Statement, select, combination}
+use Rattle.sql_node.specs.Tree.{Expr, column, value, list, count_star, nullable, unary, count, compared, joined, exists, single, among_values, among_rows, Exprs, no_exprs, more_exprs, Items, no_items, more_items, MaybeExpr, no_expr, an_expr, Source, of_table, of_alias, join, From, no_source, from, Distinct, every, distinct, distinct_on, Order, no_order, order_by, Statement, select, combination}
 
 abbrev pub blank : ℤ → ℤ
 blank n = ℤ.pos 0
@@ -26,8 +26,7 @@ module _ (many : List Value → List Value) where
     erased_expr (list es) = list (erased_exprs es)
     erased_expr count_star = count_star
     erased_expr (nullable e) = nullable (erased_expr e)
-    erased_expr (not_of e) = not_of (erased_expr e)
-    erased_expr (null_test n e) = null_test n (erased_expr e)
+    erased_expr (unary n e) = unary n (erased_expr e)
     erased_expr (count e) = count (erased_expr e)
     erased_expr (compared by a b) = compared by (erased_expr a) (erased_expr b)
     erased_expr (joined by a b) = joined by (erased_expr a) (erased_expr b)

@@ -2,7 +2,7 @@
 use Rattle.std.proofs.Common.{◌≡◌, ◌≢◌, ℕ, List, [], ◌∷◌, map, Bool, true, false, if◌then◌else◌, refl, ap}
 use Rattle.sql_schema.specs.declared.declaration.ColumnDecl.{ColumnDecl}
 use Rattle.sql_schema.specs.declared.declaration.TableDecl.{TableDecl}
-use Rattle.sql_node.specs.Tree.{Origin, Expr, column, value, list, count_star, nullable, not_of, null_test, count, compared, joined, exists, single, among_values, among_rows, Exprs, no_exprs, more_exprs}
+use Rattle.sql_node.specs.Tree.{Origin, Expr, column, value, list, count_star, nullable, unary, count, compared, joined, exists, single, among_values, among_rows, Exprs, no_exprs, more_exprs}
 use Rattle.sql_node.specs.View.{exprs_of}
 use Rattle.sql_source.specs.Fields.{aliased, fields_in, fields_in_each}
 use Rattle.sql_origin.specs.Origins.{a_table, an_alias, same_origin}
@@ -24,8 +24,7 @@ mutual
   twice-once a t (list es) = ap list (twice-once_each a t es)
   twice-once a t count_star = refl
   twice-once a t (nullable e) = ap nullable (twice-once a t e)
-  twice-once a t (not_of e) = ap not_of (twice-once a t e)
-  twice-once a t (null_test n e) = ap (null_test n) (twice-once a t e)
+  twice-once a t (unary n e) = ap (unary n) (twice-once a t e)
   twice-once a t (count e) = ap count (twice-once a t e)
   twice-once a t (compared by l r) =
       let p = twice-once a t l in let q = twice-once a t r in λ i. compared by (p i) (q i)

@@ -1,7 +1,7 @@
 -- Columns of a table as fields of its alias (diesel, `Alias::fields`).
 use Rattle.std.specs.Prelude.{ℕ, List, if◌then◌else◌}
 use Rattle.sql_schema.specs.declared.declaration.TableDecl.{TableDecl}
-use Rattle.sql_node.specs.Tree.{Origin, Expr, column, value, list, count_star, nullable, not_of, null_test, count, compared, joined, exists, single, among_values, among_rows, Exprs, no_exprs, more_exprs}
+use Rattle.sql_node.specs.Tree.{Origin, Expr, column, value, list, count_star, nullable, unary, count, compared, joined, exists, single, among_values, among_rows, Exprs, no_exprs, more_exprs}
 use Rattle.sql_origin.specs.Origins.{a_table, an_alias, same_origin}
 
 -- the table itself becomes the alias, all else stays
@@ -16,8 +16,7 @@ abbrev mutual
   fields_in a t (list es) = list (fields_in_each a t es)
   fields_in a t count_star = count_star
   fields_in a t (nullable e) = nullable (fields_in a t e)
-  fields_in a t (not_of e) = not_of (fields_in a t e)
-  fields_in a t (null_test n e) = null_test n (fields_in a t e)
+  fields_in a t (unary n e) = unary n (fields_in a t e)
   fields_in a t (count e) = count (fields_in a t e)
   fields_in a t (compared by l r) = compared by (fields_in a t l) (fields_in a t r)
   fields_in a t (joined by l r) = joined by (fields_in a t l) (fields_in a t r)

@@ -1,4 +1,5 @@
 use crate::{ColumnName, FieldName, Query};
+use sql_leaf::{Comparison, Logic, Unary};
 use sql_pass::Value;
 use sql_schema::{SqlList, SqlType};
 
@@ -6,11 +7,7 @@ use sql_schema::{SqlList, SqlType};
 #[derive(Debug, Clone, Copy, PartialEq, Eq)]
 pub enum UnaryOperator {
     /// `NOT (a)`
-    Not,
-    /// `(a IS NULL)`
-    IsNull,
-    /// `(a IS NOT NULL)`
-    IsNotNull,
+    Condition(Unary),
     /// The same as a nullable expression.
     Nullable,
     /// `COUNT(a)`
@@ -21,21 +18,9 @@ pub enum UnaryOperator {
 #[derive(Debug, Clone, Copy, PartialEq, Eq)]
 pub enum BinaryOperator {
     /// `(a = b)`
-    Eq,
-    /// `(a != b)`
-    Ne,
-    /// `(a > b)`
-    Gt,
-    /// `(a >= b)`
-    Ge,
-    /// `(a < b)`
-    Lt,
-    /// `(a <= b)`
-    Le,
+    Compare(Comparison),
     /// `(a AND b)`
-    And,
-    /// `(a OR b)`
-    Or,
+    Join(Logic),
 }
 
 /// How an expression is compared with many.

@@ -5,23 +5,23 @@ use Rattle.sql_schema.specs.declared.types.SqlType.{SqlType}
 use Rattle.sql_schema.specs.declared.declaration.ColumnDecl.{ColumnDecl}
 use Rattle.sql_schema.specs.declared.declaration.TableDecl.{TableDecl}
 use Rattle.sql_pass.specs.declared.value.Value.{Value}
-use Rattle.sql_node.specs.Tree.{Origin, Expr, column, value, list, count_star, nullable, not_of, null_test, count, compared, joined, exists, single, among_values, among_rows, Exprs, no_exprs, more_exprs, MaybeExpr, no_expr, an_expr}
+use Rattle.sql_node.specs.Tree.{Origin, Expr, column, value, list, count_star, nullable, unary, count, compared, joined, exists, single, among_values, among_rows, Exprs, no_exprs, more_exprs, MaybeExpr, no_expr, an_expr}
 use Rattle.sql_source.specs.Fields.{fields_in, fields_in_each, aliased}
 use Rattle.sql_origin.specs.Origins.{a_table, an_alias}
 use Rattle.sql_origin.proofs.OriginLaws.{same-origin_itself}
 use Rattle.sql_rules.specs.Lists.{AnyOf, Each}
 use Rattle.sql_rules.specs.Scope.{nodes, nodes_of}
-use Rattle.sql_rules.specs.Types.{given, given_each, element_types, only_type, is_bool, type_of, all_nullable, not_type, if_typed, bool_type, compared_type, joined_type, among_type, one, many}
+use Rattle.sql_rules.specs.Types.{given, given_each, element_types, only_type, is_bool, type_of, all_nullable, unary_type, compared_type, joined_type, among_type, one, many}
 use Rattle.sql_rules.proofs.Lists.{any_left, any_right}
 use Rattle.sql_rules.proofs.Nulled.{nulled_elements}
 use Rattle.sql_meaning.specs.Answers.{Gives, AllGive, Holds, first_value}
 use Rattle.sql_meaning.specs.Frames.{Database, Frame, row_of, value_in, value_of}
 use Rattle.sql_tenant.specs.Restricted.{predicate_under, predicate_of}
 use Rattle.sql_tenant.specs.Tenant.{IsBeyond, IsOwn}
-use Rattle.sql_meaning.specs.Values.{is_true, compared_value, joined_value, not_value, null_test_value, among_value}
+use Rattle.sql_meaning.specs.Values.{is_true, compared_value, joined_value, unary_value, among_value}
 use Rattle.sql_meaning.proofs.Facts.{nulled}
 use Rattle.sql_meaning.proofs.Lists.{Each-front, Each-end}
-use Rattle.sql_meaning.proofs.Typed.{one-typed, only-typed, not-typed, compared-typed, joined-typed, among-typed, all_nulled-typed, split-typed}
+use Rattle.sql_meaning.proofs.Typed.{one-typed, only-typed, unary-typed, compared-typed, joined-typed, among-typed, all_nulled-typed, split-typed}
 
 -- ---- expressions without aggregates and subselects
 
@@ -32,8 +32,7 @@ abbrev mutual
   IsFlat (list es) = AreFlat es
   IsFlat count_star = ⊥
   IsFlat (nullable e) = IsFlat e
-  IsFlat (not_of e) = IsFlat e
-  IsFlat (null_test n e) = IsFlat e
+  IsFlat (unary n e) = IsFlat e
   IsFlat (count e) = ⊥
   IsFlat (compared by a b) = IsFlat a × IsFlat b
   IsFlat (joined by a b) = IsFlat a × IsFlat b
@@ -53,8 +52,7 @@ mutual
   is-flat (list es) h = are-flat es (λ i. h (inr i))
   is-flat count_star h = h (inl tt)
   is-flat (nullable e) h = is-flat e (λ i. h (inr i))
-  is-flat (not_of e) h = is-flat e (λ i. h (inr i))
-  is-flat (null_test n e) h = is-flat e (λ i. h (inr i))
+  is-flat (unary n e) h = is-flat e (λ i. h (inr i))
   is-flat (count e) h = h (inl tt)
   is-flat (compared by a b) h = (
     is-flat a (λ i. h (inr (any_left IsBeyond (nodes a) (nodes b) i))),
@@ -88,8 +86,7 @@ abbrev mutual
   eval (list es) f = eval_all es f
   eval count_star f = []
   eval (nullable e) f = eval e f
-  eval (not_of e) f = not_value (first_value (eval e f)) ∷ []
-  eval (null_test n e) f = null_test_value n (first_value (eval e f)) ∷ []
+  eval (unary u e) f = unary_value u (first_value (eval e f)) ∷ []
   eval (count e) f = []
   eval (compared by a b) f = compared_value by (first_value (eval a f)) (first_value (eval b f)) ∷ []
   eval (joined by a b) f = joined_value by (first_value (eval a f)) (first_value (eval b f)) ∷ []
@@ -113,10 +110,8 @@ mutual
   gives-eval (list es) db f vs h g = gives_all-eval es db f vs h g
   gives-eval count_star db f vs h g = absurd h
   gives-eval (nullable e) db f vs h g = gives-eval e db f vs h g
-  gives-eval (not_of e) db f vs h g =
-      g.2 ∙ ap (λ x. not_value x ∷ []) (first_is g.0 _ (gives-eval e db f (g.0 ∷ []) h g.1))
-  gives-eval (null_test n e) db f vs h g =
-      g.2 ∙ ap (λ x. null_test_value n x ∷ []) (first_is g.0 _ (gives-eval e db f (g.0 ∷ []) h g.1))
+  gives-eval (unary u e) db f vs h g =
+      g.2 ∙ ap (λ x. unary_value u x ∷ []) (first_is g.0 _ (gives-eval e db f (g.0 ∷ []) h g.1))
   gives-eval (count e) db f vs h g = absurd h
   gives-eval (compared by a b) db f vs h g =
       g.4 ∙ ap₂ (λ x y. compared_value by x y ∷ []) (first_is g.0 _ (gives-eval a db f (g.0 ∷ []) h.0 g.2))
@@ -145,8 +140,7 @@ mutual
   gives-anywhere (list es) db db' f vs h g = gives_all-anywhere es db db' f vs h g
   gives-anywhere count_star db db' f vs h g = absurd h
   gives-anywhere (nullable e) db db' f vs h g = gives-anywhere e db db' f vs h g
-  gives-anywhere (not_of e) db db' f vs h g = (g.0, gives-anywhere e db db' f (g.0 ∷ []) h g.1, g.2)
-  gives-anywhere (null_test n e) db db' f vs h g = (g.0, gives-anywhere e db db' f (g.0 ∷ []) h g.1, g.2)
+  gives-anywhere (unary n e) db db' f vs h g = (g.0, gives-anywhere e db db' f (g.0 ∷ []) h g.1, g.2)
   gives-anywhere (count e) db db' f vs h g = absurd h
   gives-anywhere (compared by a b) db db' f vs h g =
       (g.0, g.1, gives-anywhere a db db' f (g.0 ∷ []) h.0 g.2, gives-anywhere b db db' f (g.1 ∷ []) h.1 g.3, g.4)
@@ -180,10 +174,6 @@ one-given e db f t h = subst (λ vs. Gives e db f vs) (one_value (eval e f) h.1)
 one_long : (ts : List SqlType) (t : SqlType) → ts ≡ t ∷ [] → 1 ≡ length ts
 one_long ts t e = sym (ap length e)
 
-tested-operand : (o w : Option SqlType) (t : SqlType) → if_typed o w ≡ Some t → (u : SqlType) × (o ≡ Some u)
-tested-operand None w t e = absurd cc
-tested-operand (Some u) w t e = (u, refl)
-
 no_types : (ts : List SqlType) → [] ≡ map Some ts → 0 ≡ length ts
 no_types [] e = refl
 no_types (t ∷ ts) e = absurd cc
@@ -199,20 +189,9 @@ mutual
       let (us, are, ts_are) = all_nulled-typed (element_types (given e)) ts (sym (nulled_elements (given e)) ∙ t) in
       let got = eval-given e db f us h are in
       (got.0, got.1 ∙ (sym (length-map us nulled) ∙ ap length (sym ts_are)))
-  eval-given (not_of e) db f ts h t =
-      let (u, is, are) = one-typed (not_type (only_type (given e))) ts t in
-      let operand = not-typed (only_type (given e)) u is in (
-        (
-          first_value (eval e f),
-          one-given e db f u
-              (eval-given e db f (u ∷ []) h (only-typed (given e) u operand.0)),
-          refl,
-        ),
-        one_long ts u are,
-      )
-  eval-given (null_test n e) db f ts h t =
-      let (u, is, are) = one-typed (if_typed (only_type (given e)) (bool_type false)) ts t in
-      let (w, w_is) = tested-operand (only_type (given e)) (bool_type false) u is in (
+  eval-given (unary o e) db f ts h t =
+      let (u, is, are) = one-typed (unary_type o (only_type (given e))) ts t in
+      let (w, w_is) = unary-typed o (only_type (given e)) u is in (
         (first_value (eval e f), one-given e db f w (eval-given e db f (w ∷ []) h (only-typed (given e) w w_is)), refl),
         one_long ts u are,
       )
@@ -299,8 +278,7 @@ abbrev mutual
   aimed (list es) o = list (aimed_all es o)
   aimed count_star o = count_star
   aimed (nullable e) o = nullable (aimed e o)
-  aimed (not_of e) o = not_of (aimed e o)
-  aimed (null_test n e) o = null_test n (aimed e o)
+  aimed (unary n e) o = unary n (aimed e o)
   aimed (count e) o = count (aimed e o)
   aimed (compared by a b) o = compared by (aimed a o) (aimed b o)
   aimed (joined by a b) o = joined by (aimed a o) (aimed b o)
@@ -326,9 +304,7 @@ mutual
   aimed-eval (list es) o o' f f' t r = aimed_all-eval es o o' f f' t r
   aimed-eval count_star o o' f f' t r = refl
   aimed-eval (nullable e) o o' f f' t r = aimed-eval e o o' f f' t r
-  aimed-eval (not_of e) o o' f f' t r = ap (λ vs. not_value (first_value vs) ∷ []) (aimed-eval e o o' f f' t r)
-  aimed-eval (null_test n e) o o' f f' t r =
-      ap (λ vs. null_test_value n (first_value vs) ∷ []) (aimed-eval e o o' f f' t r)
+  aimed-eval (unary u e) o o' f f' t r = ap (λ vs. unary_value u (first_value vs) ∷ []) (aimed-eval e o o' f f' t r)
   aimed-eval (count e) o o' f f' t r = refl
   aimed-eval (compared by a b) o o' f f' t r =
       ap₂ (λ vs ws. compared_value by (first_value vs) (first_value ws) ∷ []) (aimed-eval a o o' f f' t r)
@@ -356,8 +332,7 @@ mutual
   aimed-given (list es) o h = ap many (aimed_all-given es o h)
   aimed-given count_star o h = absurd h
   aimed-given (nullable e) o h = ap all_nullable (aimed-given e o h)
-  aimed-given (not_of e) o h = ap (λ g. one (not_type (only_type g))) (aimed-given e o h)
-  aimed-given (null_test n e) o h = ap (λ g. one (if_typed (only_type g) (bool_type false))) (aimed-given e o h)
+  aimed-given (unary u e) o h = ap (λ g. one (unary_type u (only_type g))) (aimed-given e o h)
   aimed-given (count e) o h = absurd h
   aimed-given (compared by a b) o h =
       ap₂ (λ g k. one (compared_type (only_type g) (only_type k))) (aimed-given a o h.0) (aimed-given b o h.1)
@@ -380,8 +355,7 @@ mutual
   aimed-flat (list es) o h = aimed_all-flat es o h
   aimed-flat count_star o h = absurd h
   aimed-flat (nullable e) o h = aimed-flat e o h
-  aimed-flat (not_of e) o h = aimed-flat e o h
-  aimed-flat (null_test n e) o h = aimed-flat e o h
+  aimed-flat (unary n e) o h = aimed-flat e o h
   aimed-flat (count e) o h = absurd h
   aimed-flat (compared by a b) o h = (aimed-flat a o h.0, aimed-flat b o h.1)
   aimed-flat (joined by a b) o h = (aimed-flat a o h.0, aimed-flat b o h.1)
@@ -405,8 +379,7 @@ own-beyond t (value ty x) h = λ b. b
 own-beyond t (list es) h = h
 own-beyond t count_star h = h
 own-beyond t (nullable e) h = h
-own-beyond t (not_of e) h = h
-own-beyond t (null_test n e) h = h
+own-beyond t (unary n e) h = h
 own-beyond t (count e) h = h
 own-beyond t (compared by a b) h = h
 own-beyond t (joined by a b) h = h
@@ -431,8 +404,7 @@ mutual
   own-itself t (list es) h = ap list (own_all-itself t es h.1)
   own-itself t count_star h = refl
   own-itself t (nullable e) h = ap nullable (own-itself t e h.1)
-  own-itself t (not_of e) h = ap not_of (own-itself t e h.1)
-  own-itself t (null_test n e) h = ap (null_test n) (own-itself t e h.1)
+  own-itself t (unary n e) h = ap (unary n) (own-itself t e h.1)
   own-itself t (count e) h = ap count (own-itself t e h.1)
   own-itself t (compared by a b) h =
       ap₂ (compared by) (own-itself t a (Each-front _ (nodes a) (nodes b) h.1))
@@ -459,8 +431,7 @@ mutual
   own-fields a t (list es) h = ap list (own_all-fields a t es h.1)
   own-fields a t count_star h = refl
   own-fields a t (nullable e) h = ap nullable (own-fields a t e h.1)
-  own-fields a t (not_of e) h = ap not_of (own-fields a t e h.1)
-  own-fields a t (null_test n e) h = ap (null_test n) (own-fields a t e h.1)
+  own-fields a t (unary n e) h = ap (unary n) (own-fields a t e h.1)
   own-fields a t (count e) h = ap count (own-fields a t e h.1)
   own-fields a t (compared by l r) h =
       ap₂ (compared by) (own-fields a t l (Each-front _ (nodes l) (nodes r) h.1))

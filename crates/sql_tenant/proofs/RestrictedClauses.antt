@@ -5,8 +5,8 @@ use Rattle.sql_schema.specs.Declarations.{Declarations}
 use Rattle.sql_schema.specs.declared.declaration.TableDecl.{TableDecl}
 use Rattle.sql_schema.specs.declared.types.Base.TheVariants as base
 use Rattle.sql_leaf.specs.declared.table_source.JoinKind.TheVariants.{Inner, LeftOuter}
-use Rattle.sql_node.specs.Tree.{Origin, Form, unboxed, boxed, Expr, column, value, list, count_star, nullable, not_of, null_test, count, compared, joined, exists, single, among_values, among_rows, Exprs, no_exprs, more_exprs, Items, no_items, more_items, MaybeExpr, no_expr, an_expr, Source, of_table, of_alias, join, From, no_source, from, Distinct, every, distinct, distinct_on, Order, no_order, order_by}
-use Rattle.sql_node.specs.Words.{And}
+use Rattle.sql_node.specs.Tree.{Origin, Form, unboxed, boxed, Expr, column, value, list, count_star, nullable, unary, count, compared, joined, exists, single, among_values, among_rows, Exprs, no_exprs, more_exprs, Items, no_items, more_items, MaybeExpr, no_expr, an_expr, Source, of_table, of_alias, join, From, no_source, from, Distinct, every, distinct, distinct_on, Order, no_order, order_by}
+use Rattle.sql_leaf.specs.Operators.{And}
 use Rattle.sql_origin.specs.Leaves.{leaves}
 use Rattle.sql_rules.specs.Lists.{AnyOf, Each}
 use Rattle.sql_rules.specs.Rules.{IsTable, IsColumn, IsSeen, IsUnknownColumn, IsOutOfScope, Present, CountsAggregate, HasAggregate}
@@ -43,8 +43,7 @@ mutual
   no_inside P v (list es) h i = none_inside P v es h i
   no_inside P v count_star h i = i
   no_inside P v (nullable e) h i = no_inside P v e h i
-  no_inside P v (not_of e) h i = no_inside P v e h i
-  no_inside P v (null_test n e) h i = no_inside P v e h i
+  no_inside P v (unary n e) h i = no_inside P v e h i
   no_inside P v (count e) h i = absurd h
   no_inside P v (compared by a b) h i =
       neither P (in_expr v a) (in_expr v b) (no_inside P v a h.0) (no_inside P v b h.1) i
@@ -107,8 +106,7 @@ mutual
   flat-nodes (list es) h = (λ b. b, flat_all-nodes es h)
   flat-nodes count_star h = absurd h
   flat-nodes (nullable e) h = (λ b. b, flat-nodes e h)
-  flat-nodes (not_of e) h = (λ b. b, flat-nodes e h)
-  flat-nodes (null_test n e) h = (λ b. b, flat-nodes e h)
+  flat-nodes (unary n e) h = (λ b. b, flat-nodes e h)
   flat-nodes (count e) h = absurd h
   flat-nodes (compared by a b) h = (λ x. x, Each-append _ (nodes a) (nodes b) (flat-nodes a h.0) (flat-nodes b h.1))
   flat-nodes (joined by a b) h = (λ x. x, Each-append _ (nodes a) (nodes b) (flat-nodes a h.0) (flat-nodes b h.1))
@@ -128,8 +126,7 @@ aggregate-beyond (column o c) n h = false≢true h
 aggregate-beyond (value t x) n h = false≢true h
 aggregate-beyond (list es) n h = false≢true h
 aggregate-beyond (nullable e) n h = false≢true h
-aggregate-beyond (not_of e) n h = false≢true h
-aggregate-beyond (null_test m e) n h = false≢true h
+aggregate-beyond (unary m e) n h = false≢true h
 aggregate-beyond (compared by a b) n h = false≢true h
 aggregate-beyond (joined by a b) n h = false≢true h
 aggregate-beyond (exists q) n h = false≢true h
@@ -162,8 +159,7 @@ mutual
   aimed-nodes t o (list es) h = (λ b. b, aimed_all-nodes t o es h.1)
   aimed-nodes t o count_star h = h
   aimed-nodes t o (nullable e) h = (λ b. b, aimed-nodes t o e h.1)
-  aimed-nodes t o (not_of e) h = (λ b. b, aimed-nodes t o e h.1)
-  aimed-nodes t o (null_test n e) h = (λ b. b, aimed-nodes t o e h.1)
+  aimed-nodes t o (unary n e) h = (λ b. b, aimed-nodes t o e h.1)
   aimed-nodes t o (count e) h = absurd (h.0 tt)
   aimed-nodes t o (compared by a b) h = (
     λ x. x,
@@ -202,8 +198,7 @@ known-aimed schema t v o g (value ty x) h n = n
 known-aimed schema t v o g (list es) h n = n
 known-aimed schema t v o g count_star h n = n
 known-aimed schema t v o g (nullable e) h n = n
-known-aimed schema t v o g (not_of e) h n = n
-known-aimed schema t v o g (null_test m e) h n = n
+known-aimed schema t v o g (unary m e) h n = n
 known-aimed schema t v o g (count e) h n = n
 known-aimed schema t v o g (compared by a b) h n = n
 known-aimed schema t v o g (joined by a b) h n = n
@@ -219,8 +214,7 @@ seen-aimed schema t v o g (value ty x) h n = n
 seen-aimed schema t v o g (list es) h n = n
 seen-aimed schema t v o g count_star h n = n
 seen-aimed schema t v o g (nullable e) h n = n
-seen-aimed schema t v o g (not_of e) h n = n
-seen-aimed schema t v o g (null_test m e) h n = n
+seen-aimed schema t v o g (unary m e) h n = n
 seen-aimed schema t v o g (count e) h n = n
 seen-aimed schema t v o g (compared by a b) h n = n
 seen-aimed schema t v o g (joined by a b) h n = n
@@ -237,8 +231,7 @@ uncounted-aimed schema t v o g (value ty x) h n = n
 uncounted-aimed schema t v o g (list es) h n = n
 uncounted-aimed schema t v o g count_star h n = n
 uncounted-aimed schema t v o g (nullable e) h n = n
-uncounted-aimed schema t v o g (not_of e) h n = n
-uncounted-aimed schema t v o g (null_test m e) h n = n
+uncounted-aimed schema t v o g (unary m e) h n = n
 uncounted-aimed schema t v o g (compared by a b) h n = n
 uncounted-aimed schema t v o g (joined by a b) h n = n
 uncounted-aimed schema t v o g (exists q) h n = n
@@ -252,8 +245,7 @@ fitting-aimed t o (column k c) h n = false≢true n
 fitting-aimed t o (list es) h n = false≢true n
 fitting-aimed t o count_star h n = false≢true n
 fitting-aimed t o (nullable e) h n = false≢true n
-fitting-aimed t o (not_of e) h n = false≢true n
-fitting-aimed t o (null_test m e) h n = false≢true n
+fitting-aimed t o (unary m e) h n = false≢true n
 fitting-aimed t o (count e) h n = false≢true n
 fitting-aimed t o (compared by a b) h n = false≢true n
 fitting-aimed t o (joined by a b) h n = false≢true n

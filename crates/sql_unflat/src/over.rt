@@ -4,12 +4,12 @@
 ghost use Rattle.std.specs.Prelude.{◌≡◌, IfOk, Some, option_map};
 ghost use Rattle.sql_node.specs.Tree as t;
 ghost use Rattle.sql_node.specs.View.{among_of, expr_tree, in_values_tree, maybe_of, source_tree, statement_tree};
-ghost use Rattle.sql_flat.specs.inside.Parts.{among_in, comparison_in, expr_of, expr_part, logic_in, on_of, over_among, over_expr, over_few, over_sides, over_source, over_sources, over_statement, over_two, positions_of, source_of, statement_of, statement_part};
+ghost use Rattle.sql_flat.specs.inside.Parts.{among_in, expr_of, expr_part, on_of, over_among, over_expr, over_few, over_sides, over_source, over_sources, over_statement, over_two, positions_of, source_of, statement_of, statement_part};
 ghost use Rattle.sql_unflat.specs.inside.Stacks.{part_of};
 
 use crate::part::Part;
-use sql_flat::{Combining, Comparison, FlatKind, Logic};
-use sql_leaf::{AliasedField, JoinKind, PositionalItem};
+use sql_flat::{Combining, FlatKind};
+use sql_leaf::{AliasedField, Comparison, JoinKind, Logic, PositionalItem, Unary};
 use sql_node::{CombinationClause, Expr, InValues, Join, JoinOn, OrderItem, Source, Statement};
 use sql_schema::{Column, NoMemory, SqlList, SqlText};
 use std::alloc::Global;
@@ -30,14 +30,14 @@ fn column_part(alloc: Global, alias: &Option<SqlText>, column: &Column) -> Resul
 }
 
 #[tactic(auto, using(sql_node::proofs::Trees::opens_expr))]
-fn null_test(alloc: Global, negated: bool, a: Expr) -> Result<Expr, NoMemory>
-    ensures { IfOk result (λ e. expr_tree e ≡ t.null_test negated (expr_tree a)) }
+fn unary(alloc: Global, operator: Unary, a: Expr) -> Result<Expr, NoMemory>
+    ensures { IfOk result (λ e. expr_tree e ≡ t.unary operator (expr_tree a)) }
 {
     let a = Box::new(alloc, a)?;
-    if negated {
-        Ok(Expr::IsNotNull(a))
-    } else {
-        Ok(Expr::IsNull(a))
+    match operator {
+        Unary::Not => Ok(Expr::Not(a)),
+        Unary::IsNull => Ok(Expr::IsNull(a)),
+        Unary::IsNotNull => Ok(Expr::IsNotNull(a)),
     }
 }
 
@@ -47,8 +47,7 @@ fn part_over_expr(alloc: Global, kind: &FlatKind, a: Expr) -> Result<Part, NoMem
 {
     match kind {
         FlatKind::Nullable => Ok(Part::Expr(Expr::Nullable(Box::new(alloc, a)?))),
-        FlatKind::Not => Ok(Part::Expr(Expr::Not(Box::new(alloc, a)?))),
-        FlatKind::NullTest(negated) => Ok(Part::Expr(null_test(alloc, *negated, a)?)),
+        FlatKind::Unary(operator) => Ok(Part::Expr(unary(alloc, *operator, a)?)),
         FlatKind::Count => Ok(Part::Expr(Expr::Count(Box::new(alloc, a)?))),
         FlatKind::On => Ok(Part::On(a)),
         FlatKind::DistinctOn => Ok(Part::DistinctOn(a)),
@@ -75,8 +74,7 @@ fn part_over_one(alloc: Global, kind: &FlatKind, one: Part) -> Result<Part, NoMe
 
 #[tactic(auto, using(sql_node::proofs::Trees::opens_expr))]
 fn compared(alloc: Global, by: Comparison, a: Expr, b: Expr) -> Result<Expr, NoMemory>
-    ensures { IfOk result (λ e. expr_tree e
-        ≡ t.compared (comparison_in by) (expr_tree a) (expr_tree b)) }
+    ensures { IfOk result (λ e. expr_tree e ≡ t.compared by (expr_tree a) (expr_tree b)) }
 {
     let a = Box::new(alloc, a)?;
     let b = Box::new(alloc, b)?;
@@ -91,7 +89,7 @@ fn compared(alloc: Global, by: Comparison, a: Expr, b: Expr) -> Result<Expr, NoM
 }
 
 fn compared_part(alloc: Global, by: Comparison, one: Part, two: Part) -> Result<Part, NoMemory>
-    ensures { IfOk result (λ p. part_of p ≡ over_two (t.compared (comparison_in by))
+    ensures { IfOk result (λ p. part_of p ≡ over_two (t.compared by)
         (expr_of (part_of one)) (expr_of (part_of two))) }
 {
     let Some(a) = one.expr() else {
@@ -105,8 +103,7 @@ fn compared_part(alloc: Global, by: Comparison, one: Part, two: Part) -> Result<
 
 #[tactic(auto, using(sql_node::proofs::Trees::opens_expr))]
 fn joined(alloc: Global, by: Logic, a: Expr, b: Expr) -> Result<Expr, NoMemory>
-    ensures { IfOk result (λ e. expr_tree e
-        ≡ t.joined (logic_in by) (expr_tree a) (expr_tree b)) }
+    ensures { IfOk result (λ e. expr_tree e ≡ t.joined by (expr_tree a) (expr_tree b)) }
 {
     let a = Box::new(alloc, a)?;
     let b = Box::new(alloc, b)?;
@@ -117,7 +114,7 @@ fn joined(alloc: Global, by: Logic, a: Expr, b: Expr) -> Result<Expr, NoMemory>
 }
 
 fn joined_part(alloc: Global, by: Logic, one: Part, two: Part) -> Result<Part, NoMemory>
-    ensures { IfOk result (λ p. part_of p ≡ over_two (t.joined (logic_in by))
+    ensures { IfOk result (λ p. part_of p ≡ over_two (t.joined by)
         (expr_of (part_of one)) (expr_of (part_of two))) }
 {
     let Some(a) = one.expr() else {
@@ -298,20 +295,6 @@ pub(crate) fn part_over_few(
         FlatKind::Combination(both) => combination_part(alloc, *both, one, two, three),
         FlatKind::Side => Ok(side_part(one)),
         FlatKind::Position(item) => Ok(Part::Position(*item)),
-        FlatKind::List
-        | FlatKind::Nullable
-        | FlatKind::Not
-        | FlatKind::NullTest(_)
-        | FlatKind::Count
-        | FlatKind::Values(_)
-        | FlatKind::On
-        | FlatKind::DistinctOn
-        | FlatKind::Where
-        | FlatKind::GroupBy
-        | FlatKind::Having
-        | FlatKind::OrderBy
-        | FlatKind::Item(_)
-        | FlatKind::Select(_)
-        | FlatKind::Positions => part_over_one(alloc, kind, one),
+        _ => part_over_one(alloc, kind, one),
     }
 }

@@ -93,32 +93,7 @@ fn part_over(
             let clauses = take_clauses(done, end, selecting.unique);
             clauses.into_part(alloc, *selecting)
         }
-        FlatKind::Column(_, _)
-        | FlatKind::Value(_, _)
-        | FlatKind::CountStar
-        | FlatKind::Nullable
-        | FlatKind::Not
-        | FlatKind::NullTest(_)
-        | FlatKind::Count
-        | FlatKind::Compared(_)
-        | FlatKind::Joined(_)
-        | FlatKind::Exists
-        | FlatKind::Single
-        | FlatKind::Among(_, _)
-        | FlatKind::Element(_, _)
-        | FlatKind::Table(_)
-        | FlatKind::Alias(_)
-        | FlatKind::Join(_, _)
-        | FlatKind::On
-        | FlatKind::From
-        | FlatKind::DistinctOn
-        | FlatKind::Where
-        | FlatKind::GroupBy
-        | FlatKind::Having
-        | FlatKind::Item(_)
-        | FlatKind::Combination(_)
-        | FlatKind::Side
-        | FlatKind::Position(_) => few_part(alloc, kind, end, done),
+        _ => few_part(alloc, kind, end, done),
     }
 }
 

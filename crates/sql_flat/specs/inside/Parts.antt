@@ -4,19 +4,14 @@ use Rattle.sql_schema.specs.declared.types.SqlType.{SqlType}
 use Rattle.sql_pass.specs.declared.value.Value.{Value}
 use Rattle.sql_leaf.specs.declared.position.PositionalItem.{PositionalItem}
 use Rattle.sql_leaf.specs.declared.table_source.JoinKind.{JoinKind}
-use Rattle.sql_node.specs.Words as w
 use Rattle.sql_node.specs.Tree as t
-use Rattle.sql_node.specs.Tree.{Expr, column, value, list, count_star, nullable, not_of, null_test, count, compared, joined, exists, single, Items, MaybeExpr, no_expr, an_expr, Source, of_table, of_alias, join, From, no_source, from, Distinct, every, distinct, distinct_on, Order, no_order, order_by, Statement, select, combination}
+use Rattle.sql_node.specs.Tree.{Expr, column, value, list, count_star, nullable, unary, count, compared, joined, exists, single, Items, MaybeExpr, no_expr, an_expr, Source, of_table, of_alias, join, From, no_source, from, Distinct, every, distinct, distinct_on, Order, no_order, order_by, Statement, select, combination}
 use Rattle.sql_node.specs.View.{Among, among_list, among_query, among_of, Item, exprs_of, items_of, maybe_of}
 use Rattle.sql_flat.specs.declared.kind.Combining.{Combining}
-use Rattle.sql_flat.specs.declared.kind.Comparison.{Comparison}
-use Rattle.sql_flat.specs.declared.kind.Comparison.TheVariants as comparison
 use Rattle.sql_flat.specs.declared.kind.FlatKind.{FlatKind}
 use Rattle.sql_flat.specs.declared.kind.FlatKind.TheVariants as K
 use Rattle.sql_flat.specs.declared.kind.Form.{Form}
 use Rattle.sql_flat.specs.declared.kind.Form.TheVariants as form
-use Rattle.sql_flat.specs.declared.kind.Logic.{Logic}
-use Rattle.sql_flat.specs.declared.kind.Logic.TheVariants as logic
 use Rattle.sql_flat.specs.declared.kind.Selecting.{Selecting}
 use Rattle.sql_flat.specs.declared.kind.Uniqueness.{Uniqueness}
 use Rattle.sql_flat.specs.declared.kind.Uniqueness.TheVariants as unique
@@ -40,18 +35,6 @@ pub data Part : Type 0 where
   positions_part : List PositionalItem → Part
   -- of no statement
   unfit : Part
-
-abbrev pub comparison_in : Comparison → w.Comparison
-comparison_in comparison.Eq = w.Eq
-comparison_in comparison.Ne = w.Ne
-comparison_in comparison.Gt = w.Gt
-comparison_in comparison.Ge = w.Ge
-comparison_in comparison.Lt = w.Lt
-comparison_in comparison.Le = w.Le
-
-abbrev pub logic_in : Logic → w.Logic
-logic_in logic.And = w.And
-logic_in logic.Or = w.Or
 
 abbrev pub form_in : Form → t.Form
 form_in (form.Unboxed l) = t.unboxed l
@@ -174,8 +157,7 @@ put_clauses c (p ∷ ps) = put_clauses (put_clause c p) ps
 abbrev pub over_expr : FlatKind → Option Expr → Part
 over_expr k None = unfit
 over_expr K.Nullable (Some e) = expr_part (nullable e)
-over_expr K.Not (Some e) = expr_part (not_of e)
-over_expr (K.NullTest n) (Some e) = expr_part (null_test n e)
+over_expr (K.Unary u) (Some e) = expr_part (unary u e)
 over_expr K.Count (Some e) = expr_part (count e)
 over_expr K.On (Some e) = on_part e
 over_expr K.DistinctOn (Some e) = distinct_on_part e
@@ -218,8 +200,8 @@ abbrev pub over_few : FlatKind → Part → Part → Part → Part
 over_few (K.Column a c) p q r = expr_part (column (record { alias = a; table = c.table }) c.decl)
 over_few (K.Value t v) p q r = expr_part (value t v)
 over_few K.CountStar p q r = expr_part count_star
-over_few (K.Compared by) p q r = over_two (compared (comparison_in by)) (expr_of p) (expr_of q)
-over_few (K.Joined by) p q r = over_two (joined (logic_in by)) (expr_of p) (expr_of q)
+over_few (K.Compared by) p q r = over_two (compared by) (expr_of p) (expr_of q)
+over_few (K.Joined by) p q r = over_two (joined by) (expr_of p) (expr_of q)
 over_few K.Exists p q r = over_statement (λ s. expr_part (exists s)) (statement_of p)
 over_few K.Single p q r = over_statement (λ s. expr_part (single s)) (statement_of p)
 over_few (K.Among n v) p q r = over_among n (expr_of p) (among_in q)

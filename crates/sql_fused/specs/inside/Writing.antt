@@ -14,32 +14,17 @@ use Rattle.sql_leaf.specs.Locks.{locking_pieces}
 use Rattle.sql_leaf.specs.Positions.{direction_pieces, position_pieces}
 use Rattle.sql_leaf.specs.Sources.{alias_pieces, table_source_pieces}
 use Rattle.sql_leaf.specs.declared.limit_offset.LimitOffsetClause.{LimitOffsetClause}
-use Rattle.sql_node.specs.Pieces.{leaf_pieces, comparison_sql, logic_sql, null_test_sql, among_sql, constant_sql, join_sql, combinator_sql, all_pieces, distinct_on_open, group_by, order_by_sql}
-use Rattle.sql_node.specs.Words as w
+use Rattle.sql_leaf.specs.Operators.{unary_before, unary_after, comparison_sql, logic_sql}
+use Rattle.sql_leaf.specs.Words.{among_sql, constant_sql, join_sql, combinator_sql, distinct_on_open, group_by, order_by_sql}
+use Rattle.sql_node.specs.Pieces.{leaf_pieces, all_pieces}
 use Rattle.sql_rose.specs.Rose.{Rose, node, Roses, none, more}
-use Rattle.sql_flat.specs.declared.kind.Comparison.{Comparison}
-use Rattle.sql_flat.specs.declared.kind.Comparison.TheVariants as comparison
 use Rattle.sql_flat.specs.declared.kind.FlatKind.{FlatKind}
 use Rattle.sql_flat.specs.declared.kind.FlatKind.TheVariants as K
 use Rattle.sql_flat.specs.declared.kind.Form.{Form}
 use Rattle.sql_flat.specs.declared.kind.Form.TheVariants as form
-use Rattle.sql_flat.specs.declared.kind.Logic.{Logic}
-use Rattle.sql_flat.specs.declared.kind.Logic.TheVariants as logic
 use Rattle.sql_flat.specs.declared.kind.Uniqueness.{Uniqueness}
 use Rattle.sql_flat.specs.declared.kind.Uniqueness.TheVariants as unique
 use Rattle.sql_fused.specs.Steps.{ends_in_values}
-
-abbrev pub comparison_word : Comparison → List ℕ
-comparison_word comparison.Eq = comparison_sql w.Eq
-comparison_word comparison.Ne = comparison_sql w.Ne
-comparison_word comparison.Gt = comparison_sql w.Gt
-comparison_word comparison.Ge = comparison_sql w.Ge
-comparison_word comparison.Lt = comparison_sql w.Lt
-comparison_word comparison.Le = comparison_sql w.Le
-
-abbrev pub logic_word : Logic → List ℕ
-logic_word logic.And = logic_sql w.And
-logic_word logic.Or = logic_sql w.Or
 
 abbrev pub distinct_word : Uniqueness → List Piece
 distinct_word unique.Every = []
@@ -120,8 +105,7 @@ join_open false = []
 join_open true = one (Text (codes "("))
 
 abbrev pub before : Dialect → FlatKind → List Piece
-before d K.Not = one (Text (codes "NOT ("))
-before d (K.NullTest n) = one (Text (codes "("))
+before d (K.Unary u) = one (Text (unary_before u))
 before d K.Count = one (Text (codes "COUNT("))
 before d (K.Compared by) = one (Text (codes "("))
 before d (K.Joined by) = one (Text (codes "("))
@@ -156,8 +140,8 @@ at_second ps (suc zero) = ps
 at_second ps (suc (suc j)) = []
 
 abbrev pub between : Dialect → FlatKind → ℕ → List Piece
-between d (K.Compared by) j = at_second (one (Text (comparison_word by))) j
-between d (K.Joined by) j = at_second (one (Text (logic_word by))) j
+between d (K.Compared by) j = at_second (one (Text (comparison_sql by))) j
+between d (K.Joined by) j = at_second (one (Text (logic_sql by))) j
 between d (K.Among n values) j = at_second (one (Text (among_sql d n))) j
 between d (K.Values t) j = behind_first comma j
 between d (K.Join k on) j = at_second (one (Text (join_sql k))) j
@@ -167,8 +151,7 @@ between d (K.Combination c) j = at_second (one (Text (combinator_sql c.combinato
 between d _ j = []
 
 abbrev pub after : Dialect → FlatKind → List Piece
-after d K.Not = one (Text (codes ")"))
-after d (K.NullTest n) = one (Text (null_test_sql n))
+after d (K.Unary u) = one (Text (unary_after u))
 after d K.Count = one (Text (codes ")"))
 after d (K.Compared by) = one (Text (codes ")"))
 after d (K.Joined by) = one (Text (codes ")"))

@@ -57,8 +57,7 @@ bare_held hs = record { leaves = []; bare = all_bare hs }
 abbrev pub holding : FlatKind → List Held → Held
 holding (K.Column a c) hs = one_bare (record { alias = a; table = c.table })
 holding K.List hs = bare_held hs
-holding K.Not hs = bare_held hs
-holding (K.NullTest n) hs = bare_held hs
+holding (K.Unary n) hs = bare_held hs
 holding K.Count hs = bare_held hs
 holding (K.Compared by) hs = bare_held hs
 holding (K.Joined by) hs = bare_held hs

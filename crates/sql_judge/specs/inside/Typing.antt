@@ -5,7 +5,7 @@ use Rattle.std.specs.List.{list_any}
 use Rattle.std.specs.Option.{is_none, option_eq}
 use Rattle.sql_schema.specs.Equality.{same_type}
 use Rattle.sql_schema.specs.declared.types.SqlType.{SqlType}
-use Rattle.sql_rules.specs.Types.{Given, one, many, only_type, element_types, bool_type, big_type, as_nullable, all_nullable, not_type, if_typed, compared_type, joined_type, single_type, fits, is_bool}
+use Rattle.sql_rules.specs.Types.{Given, one, many, only_type, element_types, bool_type, big_type, as_nullable, all_nullable, if_typed, compared_type, joined_type, single_type, fits, is_bool}
 use Rattle.sql_flat.specs.declared.kind.FlatKind.{FlatKind}
 use Rattle.sql_flat.specs.declared.kind.FlatKind.TheVariants as K
 use Rattle.sql_flat.specs.declared.kind.Form.{Form}
@@ -55,8 +55,7 @@ typing (K.Value t v) gs = one (Some t)
 typing K.List gs = many (types_of_each gs)
 typing K.CountStar gs = one big_type
 typing K.Nullable gs = all_nullable (first gs)
-typing K.Not gs = one (not_type (only_type (first gs)))
-typing (K.NullTest n) gs = one (if_typed (only_type (first gs)) (bool_type false))
+typing (K.Unary u) gs = one (unary_type u (only_type (first gs)))
 typing K.Count gs = one (if_typed (only_type (first gs)) big_type)
 typing (K.Compared by) gs = one (compared_type (only_type (first gs)) (only_type (first (others gs))))
 typing (K.Joined by) gs = one (joined_type (only_type (first gs)) (only_type (first (others gs))))

@@ -1,6 +1,6 @@
 -- Whether the values of each part of a statement fit their types, along the tree.
 use Rattle.std.specs.Prelude.{Bool, true, ◌&&◌}
-use Rattle.sql_node.specs.Tree.{Expr, column, value, list, count_star, nullable, not_of, null_test, count, compared, joined, exists, single, among_values, among_rows, Exprs, no_exprs, more_exprs, Items, no_items, more_items, MaybeExpr, no_expr, an_expr, Source, of_table, of_alias, join, From, no_source, from, Distinct, every, distinct, distinct_on, Order, no_order, order_by, Statement, select, combination}
+use Rattle.sql_node.specs.Tree.{Expr, column, value, list, count_star, nullable, unary, count, compared, joined, exists, single, among_values, among_rows, Exprs, no_exprs, more_exprs, Items, no_items, more_items, MaybeExpr, no_expr, an_expr, Source, of_table, of_alias, join, From, no_source, from, Distinct, every, distinct, distinct_on, Order, no_order, order_by, Statement, select, combination}
 use Rattle.sql_node.specs.View.{Among, among_list, among_query}
 use Rattle.sql_rules.specs.Types.{fits, all_fit}
 
@@ -11,8 +11,7 @@ abbrev mutual
   fit_expr (list es) = fit_exprs es
   fit_expr count_star = true
   fit_expr (nullable e) = fit_expr e
-  fit_expr (not_of e) = fit_expr e
-  fit_expr (null_test n e) = fit_expr e
+  fit_expr (unary n e) = fit_expr e
   fit_expr (count e) = fit_expr e
   fit_expr (compared by a b) = fit_expr a && fit_expr b
   fit_expr (joined by a b) = fit_expr a && fit_expr b

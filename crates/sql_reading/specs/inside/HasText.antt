@@ -9,7 +9,7 @@ use Rattle.sql_dialect.specs.declared.backend.Dialect.TheVariants.{Mysql}
 use Rattle.sql_grammar.specs.Fits.{OnPg, FitsOnly, FitsLock}
 use Rattle.sql_leaf.specs.declared.position.PositionalItem.{PositionalItem}
 use Rattle.sql_leaf.specs.declared.table_source.Tablesample.{Tablesample}
-use Rattle.sql_node.specs.Tree.{Form, unboxed, boxed, Expr, list, nullable, not_of, null_test, count, compared, joined, exists, single, among_values, among_rows, Exprs, no_exprs, more_exprs, Items, no_items, more_items, MaybeExpr, no_expr, an_expr, Source, of_table, of_alias, join, From, no_source, from, Distinct, every, distinct, distinct_on, Order, no_order, order_by, Statement, select, combination}
+use Rattle.sql_node.specs.Tree.{Form, unboxed, boxed, Expr, list, nullable, unary, count, compared, joined, exists, single, among_values, among_rows, Exprs, no_exprs, more_exprs, Items, no_items, more_items, MaybeExpr, no_expr, an_expr, Source, of_table, of_alias, join, From, no_source, from, Distinct, every, distinct, distinct_on, Order, no_order, order_by, Statement, select, combination}
 use Rattle.sql_reading.specs.Filled.{lock_in}
 
 -- no list, nor one under `nullable`
@@ -62,8 +62,7 @@ abbrev mutual
   pub ExprHasText : Dialect → Expr → Type 0
   ExprHasText d (list es) = ExprsHaveText d es
   ExprHasText d (nullable e) = ExprHasText d e
-  ExprHasText d (not_of e) = IsSingle e × ExprHasText d e
-  ExprHasText d (null_test negated e) = IsSingle e × ExprHasText d e
+  ExprHasText d (unary negated e) = IsSingle e × ExprHasText d e
   ExprHasText d (count e) = IsSingle e × ExprHasText d e
   ExprHasText d (compared by a b) = (IsSingle a × ExprHasText d a) × (IsSingle b × ExprHasText d b)
   ExprHasText d (joined by a b) = (IsSingle a × ExprHasText d a) × (IsSingle b × ExprHasText d b)
