@@ -5,7 +5,7 @@ use Rattle.std.specs.List.{list_any}
 use Rattle.std.specs.Option.{is_none, option_eq}
 use Rattle.sql_schema.specs.Equality.{same_type}
 use Rattle.sql_schema.specs.declared.types.SqlType.{SqlType}
-use Rattle.sql_rules.specs.Types.{Given, one, many, only_type, element_types, bool_type, big_type, as_nullable, all_nullable, if_typed, compared_type, joined_type, single_type, fits, is_bool}
+use Rattle.sql_rules.specs.Types.{Given, one, many, only_type, element_types, bool_type, big_type, as_nullable, all_nullable, unary_type, if_typed, compared_type, joined_type, single_type, fits, is_bool}
 use Rattle.sql_flat.specs.declared.kind.FlatKind.{FlatKind}
 use Rattle.sql_flat.specs.declared.kind.FlatKind.TheVariants as K
 use Rattle.sql_flat.specs.declared.kind.Form.{Form}
