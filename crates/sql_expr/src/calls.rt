@@ -1,7 +1,7 @@
 #![tactic(auto, using(sql_node::proofs::Trees::opens_expr))]
 
 ghost use Rattle.std.specs.Prelude.{◌≡◌, IfOk, option_map};
-ghost use Rattle.sql_leaf.specs.Operators.{Not};
+ghost use Rattle.sql_leaf.specs.Operators as by;
 ghost use Rattle.sql_node.specs.Tree as tree;
 ghost use Rattle.sql_node.specs.View.{expr_tree, statement_tree};
 ghost use Rattle.sql_expr.specs.Calls.{value_of};
@@ -27,7 +27,7 @@ pub(crate) fn boxed_pair(
 
 /// `NOT (a)`.
 pub fn not(alloc: Global, operand: Expr) -> Result<Expr, NoMemory>
-    ensures { IfOk result (λ e. expr_tree e ≡ tree.unary Not (expr_tree operand)) }
+    ensures { IfOk result (λ e. expr_tree e ≡ tree.unary by.Not (expr_tree operand)) }
 {
     Ok(Expr::Not(Box::new(alloc, operand)?))
 }
