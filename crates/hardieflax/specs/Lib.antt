@@ -53,6 +53,9 @@ pub use Rattle.sql_leaf.specs.declared.locking.LockMode
 pub use Rattle.sql_leaf.specs.declared.locking.LockingClause
 pub use Rattle.sql_leaf.specs.declared.locking.Modifier
 pub use Rattle.sql_leaf.specs.declared.marks.Marks
+pub use Rattle.sql_leaf.specs.declared.operator.Comparison
+pub use Rattle.sql_leaf.specs.declared.operator.Logic
+pub use Rattle.sql_leaf.specs.declared.operator.Unary
 pub use Rattle.sql_leaf.specs.declared.position.Direction
 pub use Rattle.sql_leaf.specs.declared.position.OrderColumn
 pub use Rattle.sql_leaf.specs.declared.position.PositionalItem

@@ -4,7 +4,9 @@ ghost use Rattle.std.specs.Prelude.{◌≡◌, IfOk, IsOk, option_map};
 ghost use Rattle.hardieflax.specs.Calls.{beside, value_of};
 ghost use Rattle.hardieflax.specs.Tree as tree;
 ghost use Rattle.hardieflax.specs.View.{expr_tree, statement_tree, where_clause_tree};
-ghost use Rattle.hardieflax.specs.Operators as by;
+ghost use Rattle.hardieflax.specs.Comparison.TheVariants as comparison;
+ghost use Rattle.hardieflax.specs.Logic.TheVariants as logic;
+ghost use Rattle.hardieflax.specs.Unary.TheVariants as operator;
 
 use hardieflax::{
     Bound, Column, Expr, ExpressionMethods, NoMemory, OrderDecorator, Statement, ToSql, WhereAnd,
@@ -15,14 +17,14 @@ use std::alloc::Global;
 /// `(a = b)`.
 pub fn equal<E: ExpressionMethods>(alloc: Global, left: E, right: Expr) -> Result<Expr, NoMemory>
     ensures { IfOk result (λ e. expr_tree e
-        ≡ tree.compared by.Eq (E.expression left) (expr_tree right)) }
+        ≡ tree.compared comparison.Eq (E.expression left) (expr_tree right)) }
 {
     left.eq(alloc, right)
 }
 
 /// `NOT (a)`.
 pub fn negated(alloc: Global, operand: Expr) -> Result<Expr, NoMemory>
-    ensures { IfOk result (λ e. expr_tree e ≡ tree.unary by.Not (expr_tree operand)) }
+    ensures { IfOk result (λ e. expr_tree e ≡ tree.unary operator.Not (expr_tree operand)) }
 {
     not(alloc, operand)
 }
@@ -65,7 +67,7 @@ pub fn bound_value<V: ToSql>(alloc: Global, of: &V) -> Result<Bound, NoMemory>
 /// ` WHERE (a AND b)`.
 pub fn both<C: WhereAnd>(alloc: Global, first: C, second: Expr) -> Result<WhereClause, NoMemory>
     ensures whole { IfOk result (λ c. where_clause_tree c
-        ≡ tree.an_expr (beside by.And (C.condition first) (expr_tree second))) }
+        ≡ tree.an_expr (beside logic.And (C.condition first) (expr_tree second))) }
     ensures first { C.condition first ≡ tree.no_expr → IsOk result }
 {
     first.and(alloc, second)
@@ -74,7 +76,7 @@ pub fn both<C: WhereAnd>(alloc: Global, first: C, second: Expr) -> Result<WhereC
 /// ` WHERE (a OR b)`.
 pub fn either<C: WhereOr>(alloc: Global, first: C, second: Expr) -> Result<WhereClause, NoMemory>
     ensures whole { IfOk result (λ c. where_clause_tree c
-        ≡ tree.an_expr (beside by.Or (C.condition first) (expr_tree second))) }
+        ≡ tree.an_expr (beside logic.Or (C.condition first) (expr_tree second))) }
     ensures first { C.condition first ≡ tree.no_expr → IsOk result }
 {
     first.or(alloc, second)

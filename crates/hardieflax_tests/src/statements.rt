@@ -14,7 +14,7 @@ ghost use Rattle.hardieflax.specs.StatementPieces.{pieces};
 ghost use Rattle.hardieflax.specs.Tree as tree;
 ghost use Rattle.hardieflax.specs.View.{boxed_select_statement_tree, expr_tree, items_of, order_item_tree, select_statement_tree, source_tree, statement_tree, where_clause_tree};
 ghost use Rattle.hardieflax.specs.Walks.{Walks};
-ghost use Rattle.hardieflax.specs.Operators as by;
+ghost use Rattle.hardieflax.specs.Logic.TheVariants as by;
 
 use hardieflax::methods::{
     BoxedDsl, DistinctDsl, DistinctOnDsl, FilterDsl, FindDsl, GroupByDsl, HavingDsl,

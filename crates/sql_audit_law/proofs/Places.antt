@@ -11,7 +11,8 @@ use Rattle.sql_grammar.specs.Tree as g
 use Rattle.sql_pass.specs.declared.value.Bound.{Bound}
 use Rattle.sql_pass.specs.declared.value.Bound.TheVariants.{Value as OneValue, List as ManyValues}
 use Rattle.sql_pass.specs.declared.value.Value.{Value}
-use Rattle.sql_leaf.specs.Operators.{Unary, Not, IsNull, IsNotNull}
+use Rattle.sql_leaf.specs.declared.operator.Unary.{Unary}
+use Rattle.sql_leaf.specs.declared.operator.Unary.TheVariants.{Not, IsNull, IsNotNull}
 use Rattle.sql_node.specs.Tree.{Origin, Expr, column, value, list, count_star, nullable, unary, count, compared, joined, exists, single, among_values, among_rows, Exprs, no_exprs, more_exprs, Items, no_items, more_items, MaybeExpr, no_expr, an_expr, Source, of_table, of_alias, join, From, no_source, from, Distinct, every, distinct, distinct_on, Order, no_order, order_by, Statement, select, combination}
 use Rattle.sql_reading.specs.Filled.{first_name, more_names, column_path, lead, expressions_from, expressions_of, Item, items_from, items_of, one_by_one, among_as, trees, trees_in, item_trees, maybe_tree, group_tree, on_tree, source_tree, from_tree, distinct_tree, order_tree, filled}
 use Rattle.sql_reading.specs.Words.{comparison_of, logic_of, unary_tree}

@@ -3,7 +3,7 @@ use Rattle.std.specs.Prelude.{Bool, true, false}
 use Rattle.sql_leaf.specs.declared.locking.LockMode.TheVariants as lock
 use Rattle.sql_leaf.specs.declared.locking.Modifier.TheVariants as way
 use Rattle.sql_node.specs.Tree.{Expr, count_star, nullable, unary as over, count, compared, joined, Statement, select, combination, distinct, distinct_on, Form as Kind, unboxed, boxed}
-use Rattle.sql_leaf.specs.Operators.{And, Or}
+use Rattle.sql_leaf.specs.declared.operator.Logic.TheVariants.{And, Or}
 use Rattle.sql_select.specs.Changes.{selected, nulled, with_distinct, filtered, grouped, with_having, locked, modified}
 use Rattle.sql_syntax.specs.declared.call.ClauseCall.{ClauseCall}
 use Rattle.sql_syntax.specs.declared.call.ClauseCall.TheVariants as clause

@@ -7,7 +7,12 @@ use Rattle.sql_dialect.specs.declared.combination.Combinator.{Combinator}
 use Rattle.sql_dialect.specs.declared.combination.Combinator.TheVariants.{Union, Intersect, Except}
 use Rattle.sql_dialect.specs.declared.combination.DuplicateRule.{DuplicateRule}
 use Rattle.sql_dialect.specs.declared.combination.DuplicateRule.TheVariants.{Distinct as Distinctly, All}
-use Rattle.sql_leaf.specs.Operators.{Unary, Not, IsNull, IsNotNull, Comparison, Eq, Ne, Gt, Ge, Lt, Le, Logic, And, Or}
+use Rattle.sql_leaf.specs.declared.operator.Unary.{Unary}
+use Rattle.sql_leaf.specs.declared.operator.Unary.TheVariants.{Not, IsNull, IsNotNull}
+use Rattle.sql_leaf.specs.declared.operator.Comparison.{Comparison}
+use Rattle.sql_leaf.specs.declared.operator.Comparison.TheVariants.{Eq, Ne, Gt, Ge, Lt, Le}
+use Rattle.sql_leaf.specs.declared.operator.Logic.{Logic}
+use Rattle.sql_leaf.specs.declared.operator.Logic.TheVariants.{And, Or}
 use Rattle.sql_leaf.specs.declared.position.Direction.{Direction}
 use Rattle.sql_leaf.specs.declared.position.Direction.TheVariants.{Asc, Desc}
 use Rattle.sql_leaf.specs.declared.table_source.JoinKind.{JoinKind}

@@ -5,7 +5,7 @@ use Rattle.sql_pass.specs.declared.value.Bound.TheVariants.{Value as OneValue, L
 use Rattle.sql_schema.specs.Columns.{DeclaredColumn, column_of}
 use Rattle.sql_schema.specs.declared.declaration.ColumnDecl.{ColumnDecl}
 use Rattle.sql_schema.specs.declared.declaration.TableDecl.{TableDecl}
-use Rattle.sql_leaf.specs.Operators.{Logic}
+use Rattle.sql_leaf.specs.declared.operator.Logic.{Logic}
 use Rattle.sql_node.specs.Tree.{Expr, column, value, joined, MaybeExpr, no_expr, an_expr}
 
 -- a condition beside one that may be there: the first stands alone

@@ -1,7 +1,7 @@
 #![tactic(auto, using(sql_node::proofs::Trees::opens_expr))]
 
 ghost use Rattle.std.specs.Prelude.{◌≡◌, IfOk, option_map};
-ghost use Rattle.sql_leaf.specs.Operators as by;
+ghost use Rattle.sql_leaf.specs.declared.operator.Unary.TheVariants as by;
 ghost use Rattle.sql_node.specs.Tree as tree;
 ghost use Rattle.sql_node.specs.View.{expr_tree, statement_tree};
 ghost use Rattle.sql_expr.specs.Calls.{value_of};

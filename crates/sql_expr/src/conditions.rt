@@ -3,7 +3,7 @@
 ghost use Rattle.std.specs.Prelude.{◌≡◌, IfOk, IsOk};
 ghost use Rattle.sql_node.specs.Tree.{MaybeExpr, an_expr, no_expr};
 ghost use Rattle.sql_node.specs.View.{expr_tree, where_clause_tree};
-ghost use Rattle.sql_leaf.specs.Operators as by;
+ghost use Rattle.sql_leaf.specs.declared.operator.Logic.TheVariants as by;
 ghost use Rattle.sql_expr.specs.Calls.{beside};
 
 use crate::calls::boxed_pair;

@@ -5,7 +5,9 @@ ghost use Rattle.sql_schema.specs.Columns.{DeclaredColumn};
 ghost use Rattle.sql_leaf.specs.declared.position.Direction.{Direction};
 ghost use Rattle.sql_node.specs.Tree as tree;
 ghost use Rattle.sql_node.specs.View.{among_of, expr_tree, in_values_tree, order_item_tree};
-ghost use Rattle.sql_leaf.specs.Operators as by;
+ghost use Rattle.sql_leaf.specs.declared.operator.Unary.TheVariants as operator;
+ghost use Rattle.sql_leaf.specs.declared.operator.Comparison.TheVariants as comparison;
+ghost use Rattle.sql_leaf.specs.declared.operator.Logic.TheVariants as logic;
 ghost use Rattle.sql_expr.specs.Calls.{bare_column};
 
 use crate::calls::boxed_pair;
@@ -22,50 +24,50 @@ pub trait ExpressionMethods: Sized {
     /// `(a = b)`: whether both are equal.
     fn eq(self, alloc: Global, other: Expr) -> Result<Expr, NoMemory>
         ensures { IfOk result (λ e. expr_tree e
-            ≡ tree.compared by.Eq (expression self) (expr_tree other)) };
+            ≡ tree.compared comparison.Eq (expression self) (expr_tree other)) };
 
     /// `(a != b)`: whether they differ.
     fn ne(self, alloc: Global, other: Expr) -> Result<Expr, NoMemory>
         ensures { IfOk result (λ e. expr_tree e
-            ≡ tree.compared by.Ne (expression self) (expr_tree other)) };
+            ≡ tree.compared comparison.Ne (expression self) (expr_tree other)) };
 
     /// `(a > b)`: whether it is greater.
     fn gt(self, alloc: Global, other: Expr) -> Result<Expr, NoMemory>
         ensures { IfOk result (λ e. expr_tree e
-            ≡ tree.compared by.Gt (expression self) (expr_tree other)) };
+            ≡ tree.compared comparison.Gt (expression self) (expr_tree other)) };
 
     /// `(a >= b)`: whether it is greater or equal.
     fn ge(self, alloc: Global, other: Expr) -> Result<Expr, NoMemory>
         ensures { IfOk result (λ e. expr_tree e
-            ≡ tree.compared by.Ge (expression self) (expr_tree other)) };
+            ≡ tree.compared comparison.Ge (expression self) (expr_tree other)) };
 
     /// `(a < b)`: whether it is less.
     fn lt(self, alloc: Global, other: Expr) -> Result<Expr, NoMemory>
         ensures { IfOk result (λ e. expr_tree e
-            ≡ tree.compared by.Lt (expression self) (expr_tree other)) };
+            ≡ tree.compared comparison.Lt (expression self) (expr_tree other)) };
 
     /// `(a <= b)`: whether it is less or equal.
     fn le(self, alloc: Global, other: Expr) -> Result<Expr, NoMemory>
         ensures { IfOk result (λ e. expr_tree e
-            ≡ tree.compared by.Le (expression self) (expr_tree other)) };
+            ≡ tree.compared comparison.Le (expression self) (expr_tree other)) };
 
     /// `(a AND b)`: whether both hold.
     fn and(self, alloc: Global, other: Expr) -> Result<Expr, NoMemory>
         ensures { IfOk result (λ e. expr_tree e
-            ≡ tree.joined by.And (expression self) (expr_tree other)) };
+            ≡ tree.joined logic.And (expression self) (expr_tree other)) };
 
     /// `(a OR b)`: whether one of them holds.
     fn or(self, alloc: Global, other: Expr) -> Result<Expr, NoMemory>
         ensures { IfOk result (λ e. expr_tree e
-            ≡ tree.joined by.Or (expression self) (expr_tree other)) };
+            ≡ tree.joined logic.Or (expression self) (expr_tree other)) };
 
     /// `(a IS NULL)`.
     fn is_null(self, alloc: Global) -> Result<Expr, NoMemory>
-        ensures { IfOk result (λ e. expr_tree e ≡ tree.unary by.IsNull (expression self)) };
+        ensures { IfOk result (λ e. expr_tree e ≡ tree.unary operator.IsNull (expression self)) };
 
     /// `(a IS NOT NULL)`.
     fn is_not_null(self, alloc: Global) -> Result<Expr, NoMemory>
-        ensures { IfOk result (λ e. expr_tree e ≡ tree.unary by.IsNotNull (expression self)) };
+        ensures { IfOk result (λ e. expr_tree e ≡ tree.unary operator.IsNotNull (expression self)) };
 
     /// The same as a nullable expression. It is written as it is.
     fn nullable(self, alloc: Global) -> Result<Expr, NoMemory>

@@ -6,7 +6,7 @@ use Rattle.sql_leaf.specs.declared.locking.LockMode.TheVariants as lock
 use Rattle.sql_leaf.specs.declared.locking.Modifier.TheVariants as way
 use Rattle.sql_node.specs.Tree as t
 use Rattle.sql_node.specs.View.{Among, among_list, among_query, among_of, Item, exprs_of, items_of}
-use Rattle.sql_leaf.specs.Operators.{And, Or}
+use Rattle.sql_leaf.specs.declared.operator.Logic.TheVariants.{And, Or}
 use Rattle.sql_source.specs.Joins.{alone, joined_by}
 use Rattle.sql_select.specs.Changes.{ordered, ordered_then, combined, single_value_of}
 use Rattle.sql_select.specs.Clauses.{only}

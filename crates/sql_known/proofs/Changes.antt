@@ -9,7 +9,8 @@ use Rattle.sql_leaf.specs.declared.locking.LockingClause.TheVariants.{NoLockingC
 use Rattle.sql_leaf.specs.declared.locking.Modifier.{Modifier}
 use Rattle.sql_leaf.specs.declared.position.PositionalItem.{PositionalItem}
 use Rattle.sql_leaf.specs.declared.table_source.JoinKind.{JoinKind}
-use Rattle.sql_leaf.specs.Operators.{Logic, And}
+use Rattle.sql_leaf.specs.declared.operator.Logic.{Logic}
+use Rattle.sql_leaf.specs.declared.operator.Logic.TheVariants.{And}
 use Rattle.sql_node.specs.Tree.{Origin, Form, unboxed, boxed, Expr, Items, no_items, more_items, MaybeExpr, no_expr, an_expr, Source, of_table, of_alias, join, From, no_source, from, Distinct, Order, no_order, order_by, Statement, select, combination}
 use Rattle.sql_expr.specs.Calls.{beside}
 use Rattle.sql_expr.specs.Joining.{Side}

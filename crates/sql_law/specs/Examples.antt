@@ -7,7 +7,8 @@ use Rattle.sql_pass.specs.declared.value.Value.{Value}
 use Rattle.sql_pass.specs.declared.value.Value.TheVariants.{Integer}
 use Rattle.sql_leaf.specs.Marking.{unmarked}
 use Rattle.sql_leaf.specs.declared.locking.LockingClause.TheVariants.{NoLockingClause}
-use Rattle.sql_leaf.specs.Operators.{IsNotNull, Eq}
+use Rattle.sql_leaf.specs.declared.operator.Unary.TheVariants.{IsNotNull}
+use Rattle.sql_leaf.specs.declared.operator.Comparison.TheVariants.{Eq}
 use Rattle.sql_node.specs.Tree.{unboxed, Expr, column, value, list, unary, compared, among_values, no_exprs, more_exprs, no_expr, an_expr, of_table, from, every, no_order, Statement, select}
 use Rattle.sql_reading.specs.Examples.{decl, rows, table, whole_number}
 

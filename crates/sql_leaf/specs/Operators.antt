@@ -1,12 +1,12 @@
--- The operators over one expression and over two, with what is written of each (PostgreSQL, Comparison Functions and Operators, Logical
--- Operators). This file passes on their kinds: `Operators.{Comparison, Eq}`.
+-- The operators over one expression and over two: what is written of each (PostgreSQL, Comparison Functions and Operators, Logical
+-- Operators).
 use Rattle.std.specs.Prelude.{ℕ, List, codes}
-pub use Rattle.sql_leaf.specs.declared.operator.Unary.{Unary}
-pub use Rattle.sql_leaf.specs.declared.operator.Unary.TheVariants.{Not, IsNull, IsNotNull}
-pub use Rattle.sql_leaf.specs.declared.operator.Comparison.{Comparison}
-pub use Rattle.sql_leaf.specs.declared.operator.Comparison.TheVariants.{Eq, Ne, Gt, Ge, Lt, Le}
-pub use Rattle.sql_leaf.specs.declared.operator.Logic.{Logic}
-pub use Rattle.sql_leaf.specs.declared.operator.Logic.TheVariants.{And, Or}
+use Rattle.sql_leaf.specs.declared.operator.Unary.{Unary}
+use Rattle.sql_leaf.specs.declared.operator.Unary.TheVariants.{Not, IsNull, IsNotNull}
+use Rattle.sql_leaf.specs.declared.operator.Comparison.{Comparison}
+use Rattle.sql_leaf.specs.declared.operator.Comparison.TheVariants.{Eq, Ne, Gt, Ge, Lt, Le}
+use Rattle.sql_leaf.specs.declared.operator.Logic.{Logic}
+use Rattle.sql_leaf.specs.declared.operator.Logic.TheVariants.{And, Or}
 
 -- it has ten bytes or more, and does not unfold
 unfoldable pub is_not_null : List ℕ

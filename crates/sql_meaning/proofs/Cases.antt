@@ -6,7 +6,10 @@ use Rattle.sql_schema.specs.declared.types.Base.TheVariants as base
 use Rattle.sql_schema.specs.declared.types.SqlType.{SqlType}
 use Rattle.sql_pass.specs.declared.value.Value.{Value}
 use Rattle.sql_node.specs.Tree.{Form, unboxed, boxed}
-use Rattle.sql_leaf.specs.Operators.{Comparison, Logic, Unary, Not, IsNull, IsNotNull}
+use Rattle.sql_leaf.specs.declared.operator.Unary.{Unary}
+use Rattle.sql_leaf.specs.declared.operator.Unary.TheVariants.{Not, IsNull, IsNotNull}
+use Rattle.sql_leaf.specs.declared.operator.Comparison.{Comparison}
+use Rattle.sql_leaf.specs.declared.operator.Logic.{Logic}
 use Rattle.sql_rules.specs.Lists.{Each}
 use Rattle.sql_rules.specs.Types.{Given, fits, all_fit, as_nullable, not_type, unary_type, compared_type, joined_type, single_type, among_type, form_columns, element_types, all_nullable}
 use Rattle.sql_rules.proofs.Nulled.{nulled_elements}

@@ -4,7 +4,11 @@ use Rattle.sql_schema.specs.declared.types.Base.TheVariants as base
 use Rattle.sql_schema.specs.declared.types.SqlType.{SqlType}
 use Rattle.sql_pass.specs.declared.value.Value.{Value}
 use Rattle.sql_pass.specs.declared.value.Value.TheVariants as V
-use Rattle.sql_leaf.specs.Operators.{Comparison, Eq, Logic, And, Or, IsNull, IsNotNull}
+use Rattle.sql_leaf.specs.declared.operator.Unary.TheVariants.{IsNull, IsNotNull}
+use Rattle.sql_leaf.specs.declared.operator.Comparison.{Comparison}
+use Rattle.sql_leaf.specs.declared.operator.Comparison.TheVariants.{Eq}
+use Rattle.sql_leaf.specs.declared.operator.Logic.{Logic}
+use Rattle.sql_leaf.specs.declared.operator.Logic.TheVariants.{And, Or}
 use Rattle.sql_rules.specs.Lists.{Each}
 use Rattle.sql_rules.specs.Types.{fits}
 use Rattle.sql_meaning.specs.Values.{is_null, is_true, is_false, compares, compared_value, joined_value, not_value, any_value, unary_value, among_value}

@@ -5,7 +5,7 @@ use Rattle.sql_schema.specs.declared.types.Base.TheVariants as base
 use Rattle.sql_schema.specs.declared.types.SqlType.{SqlType}
 use Rattle.sql_schema.proofs.ExactTypes.{exact-base, exact-type}
 use Rattle.sql_pass.specs.declared.value.Value.{Value}
-use Rattle.sql_leaf.specs.Operators.{Unary}
+use Rattle.sql_leaf.specs.declared.operator.Unary.{Unary}
 use Rattle.sql_rules.specs.Types.{Given, one, many, is_bool, all_fit, only_type, element_types, bool_type, as_nullable, not_type, unary_type, compared_type, joined_type, single_type, among_type}
 use Rattle.sql_meaning.proofs.Facts.{nulled, truth}
 

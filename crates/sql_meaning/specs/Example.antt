@@ -12,7 +12,7 @@ use Rattle.sql_leaf.specs.declared.locking.LockingClause.TheVariants.{NoLockingC
 use Rattle.sql_leaf.specs.Marking.{unmarked}
 use Rattle.sql_leaf.specs.declared.table_source.JoinKind.TheVariants.{LeftOuter}
 use Rattle.sql_node.specs.Tree.{unboxed, Expr, column, list, nullable, compared, no_exprs, more_exprs, no_expr, an_expr, of_table, join, from, every, no_order, Statement, select}
-use Rattle.sql_leaf.specs.Operators.{Eq}
+use Rattle.sql_leaf.specs.declared.operator.Comparison.TheVariants.{Eq}
 use Rattle.sql_origin.specs.Origins.{a_table}
 use Rattle.sql_meaning.specs.Answers.{Answers}
 use Rattle.sql_meaning.specs.Frames.{Database}

@@ -5,7 +5,7 @@ use Rattle.sql_leaf.specs.declared.locking.LockingClause.TheVariants.{NoLockingC
 use Rattle.sql_leaf.specs.Marking.{unmarked}
 use Rattle.sql_leaf.specs.declared.position.Direction.TheVariants as direction
 use Rattle.sql_node.specs.Tree.{unboxed, compared, exists, no_items, more_items, no_expr, an_expr, of_table, from, every, no_order, order_by, Statement, select}
-use Rattle.sql_leaf.specs.Operators.{Eq}
+use Rattle.sql_leaf.specs.declared.operator.Comparison.TheVariants.{Eq}
 use Rattle.sql_meaning.specs.Answers.{Answers}
 use Rattle.sql_meaning.specs.Example.{id, user_id, users, posts, database, of_users, of_posts}
 

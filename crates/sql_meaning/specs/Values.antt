@@ -6,7 +6,12 @@ use Rattle.std.specs.Ordering.{nat_cmp, is_lt}
 use Rattle.sql_pass.specs.contracts.value.ValuePartialEq.TheImpl as value_eq
 use Rattle.sql_pass.specs.declared.value.Value.{Value}
 use Rattle.sql_pass.specs.declared.value.Value.TheVariants as V
-use Rattle.sql_leaf.specs.Operators.{Comparison, Eq, Ne, Lt, Le, Gt, Ge, Logic, And, Or, Unary, Not, IsNull, IsNotNull}
+use Rattle.sql_leaf.specs.declared.operator.Unary.{Unary}
+use Rattle.sql_leaf.specs.declared.operator.Unary.TheVariants.{Not, IsNull, IsNotNull}
+use Rattle.sql_leaf.specs.declared.operator.Comparison.{Comparison}
+use Rattle.sql_leaf.specs.declared.operator.Comparison.TheVariants.{Eq, Ne, Lt, Le, Gt, Ge}
+use Rattle.sql_leaf.specs.declared.operator.Logic.{Logic}
+use Rattle.sql_leaf.specs.declared.operator.Logic.TheVariants.{And, Or}
 
 abbrev pub is_null : Value → Bool
 is_null V.Null = true

@@ -4,7 +4,8 @@ use Rattle.sql_dialect.specs.declared.combination.Combinator.TheVariants.{Union,
 use Rattle.sql_dialect.specs.declared.combination.DuplicateRule.TheVariants.{All, Distinct}
 use Rattle.sql_pass.specs.declared.value.Value.TheVariants as V
 use Rattle.sql_leaf.specs.declared.position.Direction.TheVariants as direction
-use Rattle.sql_leaf.specs.Operators.{Eq, Lt, And, Or}
+use Rattle.sql_leaf.specs.declared.operator.Comparison.TheVariants.{Eq, Lt}
+use Rattle.sql_leaf.specs.declared.operator.Logic.TheVariants.{And, Or}
 use Rattle.sql_rules.specs.Lists.{Each}
 use Rattle.sql_meaning.specs.Answers.{Line, is_keyed, first_of_each}
 use Rattle.sql_meaning.specs.Rows.{Row, row_before, page, combined}

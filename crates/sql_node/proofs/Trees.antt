@@ -9,7 +9,9 @@ use Rattle.sql_pass.specs.declared.value.Value.{Value}
 use Rattle.sql_leaf.specs.declared.alias.Alias.{Alias}
 use Rattle.sql_leaf.specs.declared.alias.AliasedField.{AliasedField}
 use Rattle.sql_leaf.specs.declared.table_source.TableSource.{TableSource}
-use Rattle.sql_leaf.specs.Operators.{Not, IsNull, IsNotNull, Eq, Ne, Lt, Le, Gt, Ge, And, Or}
+use Rattle.sql_leaf.specs.declared.operator.Unary.TheVariants.{Not, IsNull, IsNotNull}
+use Rattle.sql_leaf.specs.declared.operator.Comparison.TheVariants.{Eq, Ne, Lt, Le, Gt, Ge}
+use Rattle.sql_leaf.specs.declared.operator.Logic.TheVariants.{And, Or}
 use Rattle.sql_node.specs.Tree as t
 use Rattle.sql_node.specs.View.{Among, among_list, among_query, Selected, Item, Sides, exprs_of, items_of, maybe_of, among_of, column_of, field_of, distinct_clause_tree, from_clause_tree, group_by_clause_tree, having_clause_tree, select_clause_tree, where_clause_tree, expr_tree, in_values_tree, order_clause_tree, source_tree, statement_tree, boxed_select_statement_tree, combination_clause_tree, order_item_tree, join_tree, join_on_tree, select_statement_tree, distinct_clause_level, from_clause_level, group_by_clause_level, having_clause_level, select_clause_level, where_clause_level, expr_level, in_values_level, order_clause_level, source_level, statement_level, boxed_select_statement_level, combination_clause_level, order_item_level, join_level, join_on_level, select_statement_level}
 use Rattle.sql_node.specs.declared.clause.DistinctClause.{DistinctClause, out-DistinctClause, fold_out-DistinctClause}

@@ -14,7 +14,9 @@ use Rattle.sql_leaf.specs.declared.position.Direction.{Direction}
 use Rattle.sql_leaf.specs.declared.position.PositionalItem.{PositionalItem}
 use Rattle.sql_leaf.specs.declared.table_source.JoinKind.{JoinKind}
 use Rattle.sql_leaf.specs.declared.table_source.Tablesample.{Tablesample}
-use Rattle.sql_leaf.specs.Operators.{Comparison, Logic, Unary}
+use Rattle.sql_leaf.specs.declared.operator.Unary.{Unary}
+use Rattle.sql_leaf.specs.declared.operator.Comparison.{Comparison}
+use Rattle.sql_leaf.specs.declared.operator.Logic.{Logic}
 
 -- What a column is one of: a table, or an alias of one. Two leaves of a source are one where their origins are equal.
 pub record Origin : Type 0 where

@@ -6,7 +6,9 @@ use Rattle.sql_pass.specs.declared.value.Value.{Value}
 use Rattle.sql_leaf.specs.declared.alias.AliasedField.{AliasedField}
 use Rattle.sql_leaf.specs.declared.position.Direction.{Direction}
 use Rattle.sql_leaf.specs.declared.table_source.JoinKind.{JoinKind}
-use Rattle.sql_leaf.specs.Operators.{Not, IsNull, IsNotNull, Eq, Ne, Lt, Le, Gt, Ge, And, Or}
+use Rattle.sql_leaf.specs.declared.operator.Unary.TheVariants.{Not, IsNull, IsNotNull}
+use Rattle.sql_leaf.specs.declared.operator.Comparison.TheVariants.{Eq, Ne, Lt, Le, Gt, Ge}
+use Rattle.sql_leaf.specs.declared.operator.Logic.TheVariants.{And, Or}
 use Rattle.sql_node.specs.Tree as t
 use Rattle.sql_node.specs.declared.clause.DistinctClause.{DistinctClause, DistinctClause-F, fold-DistinctClause}
 use Rattle.sql_node.specs.declared.clause.FromClause.{FromClause, FromClause-F, fold-FromClause}

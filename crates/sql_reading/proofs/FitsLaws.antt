@@ -20,7 +20,8 @@ use Rattle.sql_pass.specs.declared.value.Bound.TheVariants.{Value as OneValue, L
 use Rattle.sql_pass.specs.Bounds.{of_i16, of_i32, of_i64}
 use Rattle.sql_leaf.specs.declared.position.PositionalItem.{PositionalItem}
 use Rattle.sql_leaf.specs.declared.table_source.Tablesample.{Tablesample}
-use Rattle.sql_leaf.specs.Operators.{Unary, Not, IsNull, IsNotNull}
+use Rattle.sql_leaf.specs.declared.operator.Unary.{Unary}
+use Rattle.sql_leaf.specs.declared.operator.Unary.TheVariants.{Not, IsNull, IsNotNull}
 use Rattle.sql_node.specs.Pieces.{pieces}
 use Rattle.sql_node.specs.Tree.{Expr, column, value, list, count_star, nullable, unary, count, compared, joined, exists, single, among_values, among_rows, Exprs, no_exprs, more_exprs, Items, no_items, more_items, MaybeExpr, no_expr, an_expr, Source, of_table, of_alias, join, From, no_source, from, Distinct, every, distinct, distinct_on, Order, no_order, order_by, Statement, select, combination}
 use Rattle.sql_reading.specs.Filled as f

@@ -51,7 +51,13 @@ use Rattle.sql_leaf.specs.declared.table_source.Tablesample.{Tablesample}
 use Rattle.sql_leaf.specs.declared.table_source.TablesampleMethod.{TablesampleMethod}
 use Rattle.sql_leaf.specs.declared.table_source.TablesampleMethod.TheVariants.{BernoulliMethod, SystemMethod}
 use Rattle.sql_node.specs.Pieces as p
-use Rattle.sql_leaf.specs.Operators.{comparison_sql, logic_sql, unary_before, unary_after, is_not_null, Unary, Not, IsNull, IsNotNull, Comparison, Eq, Ne, Lt, Le, Gt, Ge, Logic, And, Or}
+use Rattle.sql_leaf.specs.Operators.{comparison_sql, logic_sql, unary_before, unary_after, is_not_null}
+use Rattle.sql_leaf.specs.declared.operator.Unary.{Unary}
+use Rattle.sql_leaf.specs.declared.operator.Unary.TheVariants.{Not, IsNull, IsNotNull}
+use Rattle.sql_leaf.specs.declared.operator.Comparison.{Comparison}
+use Rattle.sql_leaf.specs.declared.operator.Comparison.TheVariants.{Eq, Ne, Lt, Le, Gt, Ge}
+use Rattle.sql_leaf.specs.declared.operator.Logic.{Logic}
+use Rattle.sql_leaf.specs.declared.operator.Logic.TheVariants.{And, Or}
 use Rattle.sql_leaf.specs.Words.{among_sql, constant_sql, join_sql, combinator_sql, order_by_sql, group_by, distinct_on_open}
 use Rattle.sql_node.specs.Pieces.{Written, alone, many, each, spread, expr_parts, pieces, origin_pieces, values_pieces, positions_pieces, all_pieces, end_pieces}
 use Rattle.sql_node.specs.Tree.{Form, unboxed, boxed, Expr}

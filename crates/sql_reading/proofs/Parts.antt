@@ -10,7 +10,8 @@ use Rattle.sql_leaf.specs.declared.locking.LockingClause.TheVariants.{NoLockingC
 use Rattle.sql_leaf.specs.declared.marks.Marks.{Marks}
 use Rattle.sql_node.specs.Tree.{Expr, list, nullable, compared, joined, MaybeExpr, no_expr, of_table, from, every, no_order, unboxed, select}
 use Rattle.sql_node.specs.View.{column_of, exprs_of}
-use Rattle.sql_leaf.specs.Operators.{Comparison, Logic}
+use Rattle.sql_leaf.specs.declared.operator.Comparison.{Comparison}
+use Rattle.sql_leaf.specs.declared.operator.Logic.{Logic}
 use Rattle.sql_reading.specs.inside.HasText.{IsSingle, HasElement, ExprHasText, ExprsHaveText, MaybeHasText, PageHasText, HasText, HasNumbers}
 
 -- an operand

@@ -17,7 +17,7 @@ use Rattle.sql_leaf.specs.declared.position.Direction.TheVariants.{Desc}
 use Rattle.sql_leaf.specs.declared.table_source.JoinKind.TheVariants.{LeftOuter}
 use Rattle.sql_leaf.specs.declared.table_source.TablesampleMethod.TheVariants.{SystemMethod}
 use Rattle.sql_node.specs.Tree.{Form, unboxed, boxed, Expr, column, value, list, count_star, compared, among_values, no_exprs, more_exprs, no_items, more_items, MaybeExpr, no_expr, an_expr, Source, of_table, of_alias, join, no_source, from, every, distinct_on, no_order, order_by, Statement, select, combination}
-use Rattle.sql_leaf.specs.Operators.{Eq, Gt}
+use Rattle.sql_leaf.specs.declared.operator.Comparison.TheVariants.{Eq, Gt}
 
 abbrev pub whole_number : SqlType
 whole_number = record { base = base.Integer; nullable = false }

@@ -16,7 +16,12 @@ use Rattle.sql_leaf.specs.declared.table_source.JoinKind.{JoinKind}
 use Rattle.sql_leaf.specs.declared.table_source.JoinKind.TheVariants as kind
 use Rattle.sql_leaf.specs.declared.table_source.TablesampleMethod.{TablesampleMethod}
 use Rattle.sql_leaf.specs.declared.table_source.TablesampleMethod.TheVariants as method
-use Rattle.sql_leaf.specs.Operators.{Unary, Not, IsNull, IsNotNull, Comparison, Eq, Ne, Lt, Le, Gt, Ge, Logic, And, Or}
+use Rattle.sql_leaf.specs.declared.operator.Unary.{Unary}
+use Rattle.sql_leaf.specs.declared.operator.Unary.TheVariants.{Not, IsNull, IsNotNull}
+use Rattle.sql_leaf.specs.declared.operator.Comparison.{Comparison}
+use Rattle.sql_leaf.specs.declared.operator.Comparison.TheVariants.{Eq, Ne, Lt, Le, Gt, Ge}
+use Rattle.sql_leaf.specs.declared.operator.Logic.{Logic}
+use Rattle.sql_leaf.specs.declared.operator.Logic.TheVariants.{And, Or}
 
 abbrev pub comparison_of : Comparison → token.Comparison
 comparison_of Eq = token.Equal

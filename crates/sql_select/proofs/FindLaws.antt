@@ -3,7 +3,8 @@ use Rattle.std.proofs.Common.{◌≡◌, ℕ, suc, Bool, true, nat_eq, Option, S
 use Rattle.std.proofs.lemmas.List.{length-map, map-append}
 use Rattle.sql_leaf.specs.declared.limit_offset.LimitOffsetClause.{LimitOffsetClause}
 use Rattle.sql_leaf.specs.declared.marks.Marks.{Marks}
-use Rattle.sql_leaf.specs.Operators.{Eq, And}
+use Rattle.sql_leaf.specs.declared.operator.Comparison.TheVariants.{Eq}
+use Rattle.sql_leaf.specs.declared.operator.Logic.TheVariants.{And}
 use Rattle.sql_node.specs.Tree.{Origin, Expr, compared, MaybeExpr, an_expr, From, Distinct, Order, Form, select}
 use Rattle.sql_select.specs.Changes.{filtered}
 use Rattle.sql_select.specs.Clauses.{Clauses, statement_of}

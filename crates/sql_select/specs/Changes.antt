@@ -10,7 +10,7 @@ use Rattle.sql_leaf.specs.declared.locking.LockingClause.{LockingClause}
 use Rattle.sql_leaf.specs.declared.locking.LockingClause.TheVariants.{NoLockingClause, LockingClause as Locked}
 use Rattle.sql_leaf.specs.declared.marks.Marks.{Marks}
 use Rattle.sql_leaf.specs.declared.position.PositionalItem.{PositionalItem}
-use Rattle.sql_leaf.specs.Operators.{Logic}
+use Rattle.sql_leaf.specs.declared.operator.Logic.{Logic}
 use Rattle.sql_node.specs.Tree.{Statement, combination, Expr, nullable, single, Items, no_items, more_items, an_expr, Distinct, Order, no_order, order_by, Form, unboxed, boxed}
 use Rattle.sql_expr.specs.Calls.{beside}
 use Rattle.sql_select.specs.Clauses.{Clauses, changed, rows_changed, positions_changed, all_rows}

@@ -1,7 +1,8 @@
 -- The rows whose key has given values (diesel, `FindDsl`).
 use Rattle.std.specs.Prelude.{ℕ, List, [], ◌∷◌, Bool, true, false, length, nat_eq, Option, None, Some, option_map}
 use Rattle.sql_schema.specs.Columns.{column_in}
-use Rattle.sql_leaf.specs.Operators.{Eq, And}
+use Rattle.sql_leaf.specs.declared.operator.Comparison.TheVariants.{Eq}
+use Rattle.sql_leaf.specs.declared.operator.Logic.TheVariants.{And}
 use Rattle.sql_node.specs.Tree.{Statement, Expr, compared, joined, MaybeExpr, no_expr, an_expr, From, no_source, from, Source, of_table, of_alias, join, Origin}
 use Rattle.sql_expr.specs.Calls.{beside}
 use Rattle.sql_origin.specs.Origins.{a_table, an_alias, column_under}

@@ -3,7 +3,7 @@
 ghost use Rattle.std.specs.Prelude.{◌≡◌, IfOk, IsOk};
 ghost use Rattle.sql_node.specs.Tree.{no_expr};
 ghost use Rattle.sql_node.specs.View.{expr_tree};
-ghost use Rattle.sql_leaf.specs.Operators as by;
+ghost use Rattle.sql_leaf.specs.declared.operator.Logic.TheVariants as by;
 ghost use Rattle.sql_select.specs.Changes.{filtered, grouped, with_having};
 ghost use Rattle.sql_select.specs.Parts.{condition_of};
 

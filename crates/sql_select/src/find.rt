@@ -2,7 +2,7 @@
 
 ghost use Rattle.std.specs.Prelude.{◌≡◌, IfOk, length, map, option_map};
 ghost use Rattle.sql_node.specs.Tree.{compared, no_expr};
-ghost use Rattle.sql_leaf.specs.Operators.{Eq};
+ghost use Rattle.sql_leaf.specs.declared.operator.Comparison.TheVariants.{Eq};
 ghost use Rattle.sql_node.specs.View.{expr_tree, from_clause_tree, maybe_of};
 ghost use Rattle.sql_origin.specs.Borrowed.{origin_of};
 ghost use Rattle.sql_select.specs.Finding.{all_before, and_then, equal_each, found, key_columns as columns_of_key, only_leaf};

@@ -3,7 +3,7 @@
 ghost use Rattle.std.specs.Prelude.{◌≡◌, ℤ, Some, option_map};
 ghost use Rattle.sql_node.specs.Tree.{Distinct, Expr, Items, Statement, an_expr, joined, no_expr};
 ghost use Rattle.sql_expr.specs.Calls.{beside};
-ghost use Rattle.sql_leaf.specs.Operators.{And, Or};
+ghost use Rattle.sql_leaf.specs.declared.operator.Logic.TheVariants.{And, Or};
 ghost use Rattle.sql_select.specs.Changes.{filtered, grouped, items_then, limited, offset_by, ordered, ordered_then, selected, with_distinct, with_having};
 ghost use Rattle.sql_select.specs.Parts.{clauses_of};
 

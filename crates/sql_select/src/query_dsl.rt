@@ -5,7 +5,7 @@ ghost use Rattle.sql_leaf.specs.declared.locking.Modifier.TheVariants as way;
 ghost use Rattle.sql_leaf.specs.declared.table_source.JoinKind.TheVariants as join_kind;
 ghost use Rattle.sql_node.specs.Tree as tree;
 ghost use Rattle.sql_node.specs.View.{boxed_select_statement_tree, expr_tree, items_of, order_item_tree, source_tree};
-ghost use Rattle.sql_leaf.specs.Operators as by;
+ghost use Rattle.sql_leaf.specs.declared.operator.Logic.TheVariants as by;
 ghost use Rattle.sql_select.specs.Changes.{boxed_for, filtered, grouped, limited, locked, modified, nulled, offset_by, ordered, ordered_then, selected, single_value_of, with_distinct, with_having};
 ghost use Rattle.sql_select.specs.Finding.{found};
 ghost use Rattle.sql_select.specs.Joins.{joined, joined_on};

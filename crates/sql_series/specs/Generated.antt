@@ -15,7 +15,8 @@ use Rattle.sql_leaf.specs.declared.table_source.JoinKind.{JoinKind}
 use Rattle.sql_leaf.specs.declared.table_source.JoinKind.TheVariants.{Inner, LeftOuter}
 use Rattle.sql_node.specs.Tree as tree
 use Rattle.sql_node.specs.Tree.{Expr, Source, Statement}
-use Rattle.sql_leaf.specs.Operators.{Eq, And}
+use Rattle.sql_leaf.specs.declared.operator.Comparison.TheVariants.{Eq}
+use Rattle.sql_leaf.specs.declared.operator.Logic.TheVariants.{And}
 use Rattle.sql_node.specs.View.{exprs_of}
 use Rattle.sql_source.specs.Joins.{alone}
 use Rattle.sql_origin.specs.Origins.{a_table}

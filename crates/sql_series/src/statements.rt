@@ -6,7 +6,7 @@ ghost use Rattle.sql_schema.specs.Columns.{column_in, table_named};
 ghost use Rattle.sql_dialect.specs.declared.combination.Combinator.TheVariants as combinator;
 ghost use Rattle.sql_dialect.specs.declared.combination.DuplicateRule.TheVariants as duplicate;
 ghost use Rattle.sql_node.specs.View.{boxed_select_statement_tree, expr_tree, select_statement_tree, statement_tree};
-ghost use Rattle.sql_leaf.specs.Operators as by;
+ghost use Rattle.sql_leaf.specs.declared.operator.Logic.TheVariants as by;
 ghost use Rattle.sql_select.specs.Changes.{boxed_for, combined, filtered, selected};
 ghost use Rattle.sql_series.specs.Generated as asked;
 ghost use Rattle.sql_series.specs.inside.LookedUp.{AreNamed};

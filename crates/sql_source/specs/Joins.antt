@@ -10,7 +10,7 @@ use Rattle.sql_schema.specs.declared.declaration.JoinableDecl.{JoinableDecl}
 use Rattle.sql_schema.specs.declared.declaration.TableDecl.{TableDecl}
 use Rattle.sql_leaf.specs.declared.table_source.JoinKind.{JoinKind}
 use Rattle.sql_leaf.specs.declared.table_source.JoinKind.TheVariants.{Inner}
-use Rattle.sql_leaf.specs.Operators.{Eq}
+use Rattle.sql_leaf.specs.declared.operator.Comparison.TheVariants.{Eq}
 use Rattle.sql_node.specs.Tree.{Origin, Expr, nullable, compared, Source, of_table, of_alias, join}
 use Rattle.sql_node.specs.View.{Sides, maybe_of}
 use Rattle.sql_expr.specs.Joining.{Side}

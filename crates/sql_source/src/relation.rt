@@ -3,7 +3,7 @@
 ghost use Rattle.std.specs.Prelude.{◌≡◌, IfOk, Some, option_map};
 ghost use Rattle.sql_node.specs.Tree as tree;
 ghost use Rattle.sql_node.specs.View.{expr_tree, source_tree};
-ghost use Rattle.sql_leaf.specs.Operators as by;
+ghost use Rattle.sql_leaf.specs.declared.operator.Comparison.TheVariants as by;
 ghost use Rattle.sql_source.specs.Joins.{equal_by, implicit_on as implicit, is_declared as stands_in, key_column as key_of, refers_from as goes, related_on as on_of, relation as related};
 ghost use Rattle.sql_origin.specs.Leaves.{leaves, leftmost as first_leaf};
 ghost use Rattle.sql_origin.specs.Borrowed.{origin_of};

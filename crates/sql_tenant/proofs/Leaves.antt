@@ -8,7 +8,7 @@ use Rattle.sql_pass.specs.declared.value.Value.TheVariants as V
 use Rattle.sql_leaf.specs.declared.table_source.JoinKind.{JoinKind}
 use Rattle.sql_leaf.specs.declared.table_source.JoinKind.TheVariants.{Inner, LeftOuter}
 use Rattle.sql_node.specs.Tree.{Origin, Expr, joined, MaybeExpr, no_expr, an_expr, Source, of_table, of_alias, join}
-use Rattle.sql_leaf.specs.Operators.{And}
+use Rattle.sql_leaf.specs.declared.operator.Logic.TheVariants.{And}
 use Rattle.sql_origin.specs.Leaves.{Leaf, leaves, in_right_side}
 use Rattle.sql_origin.specs.Origins.{a_table, an_alias, same_origin}
 use Rattle.sql_schema.proofs.EqualityLaws.{exact-table}

@@ -6,7 +6,7 @@ use Rattle.sql_schema.specs.declared.declaration.TableDecl.{TableDecl}
 use Rattle.sql_schema.specs.declared.types.Base.TheVariants as base
 use Rattle.sql_leaf.specs.declared.table_source.JoinKind.TheVariants.{Inner, LeftOuter}
 use Rattle.sql_node.specs.Tree.{Origin, Form, unboxed, boxed, Expr, column, value, list, count_star, nullable, unary, count, compared, joined, exists, single, among_values, among_rows, Exprs, no_exprs, more_exprs, Items, no_items, more_items, MaybeExpr, no_expr, an_expr, Source, of_table, of_alias, join, From, no_source, from, Distinct, every, distinct, distinct_on, Order, no_order, order_by}
-use Rattle.sql_leaf.specs.Operators.{And}
+use Rattle.sql_leaf.specs.declared.operator.Logic.TheVariants.{And}
 use Rattle.sql_origin.specs.Leaves.{leaves}
 use Rattle.sql_rules.specs.Lists.{AnyOf, Each}
 use Rattle.sql_rules.specs.Rules.{IsTable, IsColumn, IsSeen, IsUnknownColumn, IsOutOfScope, Present, CountsAggregate, HasAggregate}

@@ -10,7 +10,8 @@ use Rattle.sql_schema.proofs.ExactTypes.{exact-base}
 use Rattle.sql_dialect.specs.declared.backend.Dialect.{Dialect}
 use Rattle.sql_leaf.specs.declared.table_source.JoinKind.TheVariants.{Inner, LeftOuter}
 use Rattle.sql_node.specs.Tree.{Origin, Expr, joined, MaybeExpr, no_expr, an_expr, Source, of_table, of_alias, join, From, no_source, from, Statement, select, combination}
-use Rattle.sql_leaf.specs.Operators.{Logic, And}
+use Rattle.sql_leaf.specs.declared.operator.Logic.{Logic}
+use Rattle.sql_leaf.specs.declared.operator.Logic.TheVariants.{And}
 use Rattle.sql_origin.specs.Leaves.{Leaf, leaves, is_padded}
 use Rattle.sql_rules.specs.Lists.{AnyOf, AnyPair, Each}
 use Rattle.sql_rules.specs.Rules.{Accepted, Broken, PartBreaks, SelectBreaks, CombinationBreaks, IsTable, IsUnknownColumn, IsOutOfScope, IsIllTyped, IsIllTypedClause, IsEmptyList, IsBool, IsSelected, LacksOn, FromLacksOn, Present, LacksNullable, CountsAggregate, HasTableMarks, FromHasMarks, bare}

@@ -9,7 +9,7 @@ use Rattle.sql_pass.specs.declared.value.Value.{Value}
 use Rattle.sql_pass.specs.declared.value.Value.TheVariants as V
 use Rattle.sql_leaf.specs.declared.table_source.JoinKind.TheVariants.{LeftOuter}
 use Rattle.sql_node.specs.Tree.{an_expr}
-use Rattle.sql_leaf.specs.Operators.{Eq}
+use Rattle.sql_leaf.specs.declared.operator.Comparison.TheVariants.{Eq}
 use Rattle.sql_origin.specs.Origins.{a_table}
 use Rattle.sql_schema.proofs.EqualityLaws.{exact-table}
 use Rattle.sql_rules.specs.Lists.{AnyOf, Each}

@@ -7,7 +7,8 @@ use Rattle.sql_leaf.specs.declared.locking.LockingClause.TheVariants.{NoLockingC
 use Rattle.sql_leaf.specs.Marking.{unmarked}
 use Rattle.sql_leaf.specs.declared.table_source.JoinKind.TheVariants.{LeftOuter}
 use Rattle.sql_node.specs.Tree.{unboxed, Expr, value, compared, joined, MaybeExpr, no_expr, an_expr, of_table, join, from, every, no_order, Statement, select}
-use Rattle.sql_leaf.specs.Operators.{Eq, And}
+use Rattle.sql_leaf.specs.declared.operator.Comparison.TheVariants.{Eq}
+use Rattle.sql_leaf.specs.declared.operator.Logic.TheVariants.{And}
 use Rattle.sql_rules.specs.Lists.{AnyOf}
 use Rattle.sql_rules.specs.Scope.{parts}
 use Rattle.sql_meaning.specs.Example.{users, posts, user_id, of_posts, relation, selection, statement}

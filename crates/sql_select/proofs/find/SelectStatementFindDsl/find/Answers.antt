@@ -4,7 +4,7 @@ use Rattle.std.proofs.lemmas.List.{length-map}
 use Rattle.sql_node.proofs.Trees.{select_statement-out}
 use Rattle.sql_node.specs.Tree.{an_expr, no_expr}
 use Rattle.sql_node.specs.View.{expr_tree, from_clause_tree, maybe_of, select_statement_tree}
-use Rattle.sql_leaf.specs.Operators.{And}
+use Rattle.sql_leaf.specs.declared.operator.Logic.TheVariants.{And}
 use Rattle.sql_origin.specs.Borrowed.{origin_of}
 use Rattle.sql_select.specs.Changes.{filtered}
 use Rattle.sql_select.specs.Finding.{all_before, equal_each, found, has_key, key_columns, only_leaf}
