@@ -2,7 +2,6 @@
 use Rattle.std.proofs.Common.{◌≡◌, false, Option, Some, None, option_map, refl, ap, ◌∙◌}
 use Rattle.std.specs.Prelude.{ℤ}
 use Rattle.sql_leaf.specs.declared.limit_offset.LimitOffsetClause.{LimitOffsetClause}
-use Rattle.sql_leaf.specs.declared.operator.Logic.{Logic}
 use Rattle.sql_leaf.specs.declared.operator.Logic.TheVariants.{And, Or}
 use Rattle.sql_node.specs.Tree.{Statement, select, combination, Expr, MaybeExpr, no_expr, an_expr, joined, Items, no_items, more_items, order_by, Form, unboxed, boxed}
 use Rattle.sql_expr.specs.Calls.{beside}
