@@ -1,4 +1,5 @@
 ghost use Rattle.std.specs.Prelude.{◌≡◌, ◌∷◌, [], OnOk, IfOk, IfSome, false};
+ghost use Rattle.std.specs.Option.{option_map};
 ghost use Rattle.sql_grammar.proofs.Machine as m;
 ghost use Rattle.sql_grammar.specs.MarkTree as t;
 ghost use Rattle.sql_read_tree.specs.View.{kind_of, operator_of, expression_tree, source_tree, distinctness_tree, query_tree};
@@ -109,8 +110,8 @@ fn from_table(alloc: Global, stack: &mut Stack, e: Expression) -> Result<(), NoM
 }
 
 fn from_query(stack: &mut Stack, q: Option<Box<Query>>) -> Result<(), NoMemory>
-    ensures { IfSome q (λ q. OnOk result (stack_of stack.new
-        ≡ m.FromQuery (query_tree q.value) ∷ stack_of stack.old)) }
+    ensures { IfSome (option_map (λ q. query_tree q.value) q) (λ t. OnOk result
+        (stack_of stack.new ≡ m.FromQuery t ∷ stack_of stack.old)) }
 {
     match q {
         Some(q) => {
@@ -121,7 +122,7 @@ fn from_query(stack: &mut Stack, q: Option<Box<Query>>) -> Result<(), NoMemory>
     }
 }
 
-#[tactic(auto, unfolding(sql_grammar::proofs::Machine::from_expression))]
+#[tactic(auto, unfolding(sql_grammar::proofs::Machine::from_expression, sql_grammar::proofs::Machine::query_in))]
 fn from_expression(alloc: Global, stack: &mut Stack, e: Expression) -> Result<(), NoMemory>
     ensures { OnOk result (stack_of stack.new
         ≡ m.from_expression (expression_tree e) (stack_of stack.old)) }
