@@ -295,6 +295,11 @@ pub(crate) fn part_over_few(
         FlatKind::Combination(both) => combination_part(alloc, *both, one, two, three),
         FlatKind::Side => Ok(side_part(one)),
         FlatKind::Position(item) => Ok(Part::Position(*item)),
-        _ => part_over_one(alloc, kind, one),
+        FlatKind::List | FlatKind::Nullable | FlatKind::Unary(_) => part_over_one(alloc, kind, one),
+        FlatKind::Count | FlatKind::Values(_) | FlatKind::On => part_over_one(alloc, kind, one),
+        FlatKind::DistinctOn | FlatKind::Where => part_over_one(alloc, kind, one),
+        FlatKind::GroupBy | FlatKind::Having => part_over_one(alloc, kind, one),
+        FlatKind::OrderBy | FlatKind::Item(_) => part_over_one(alloc, kind, one),
+        FlatKind::Select(_) | FlatKind::Positions => part_over_one(alloc, kind, one),
     }
 }
