@@ -2,9 +2,10 @@
 
 use crate::fixture::id;
 use sql_expr::{Alias, Expr, JoinKind, JoinRhs, OnClauseWrapper, Source, TableSource};
+use sql_origin::Origin;
 use sql_source::{
     AliasFields, AppendSelection, InternalJoinDsl, JoinDsl, JoinOnDsl, JoinTo, NewAlias,
-    NewTableSource, Origin, QuerySource,
+    NewTableSource, QuerySource,
 };
 use sql_test_kit::{beside, column, gives, schema, table, writes};
 use std::alloc::Global;
