@@ -1,12 +1,13 @@
 -- The statement of the report: the first ten users of a name. None where the schema has no table `users`, or that no column `name`.
-use Rattle.std.specs.Prelude.{ℕ, List, Option, None, Some, false, codes, option_map, option_and_then, pos}
+use Rattle.std.specs.Prelude.{ℕ, List, Option, None, false, codes, option_map, option_and_then, pos}
 use Rattle.hardieflax.specs.Columns.{DeclaredColumn, column_in, table_named}
 use Rattle.hardieflax.specs.Declarations.{Declarations}
 use Rattle.hardieflax.specs.TableDecl.{TableDecl}
 use Rattle.hardieflax.specs.Base.TheVariants.{Text}
 use Rattle.hardieflax.specs.Value.TheVariants as V
 use Rattle.hardieflax.specs.Tree.{Expr, Statement, compared, of_table, value}
-use Rattle.hardieflax.specs.Words.{And, Eq}
+use Rattle.hardieflax.specs.Comparison.TheVariants.{Eq}
+use Rattle.hardieflax.specs.Logic.TheVariants.{And}
 use Rattle.hardieflax.specs.Origins.{column_under}
 use Rattle.hardieflax.specs.Changes.{filtered, limited}
 use Rattle.hardieflax.specs.Simple.{simple}
