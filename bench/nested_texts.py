@@ -6,7 +6,7 @@ import sys
 
 # Brackets nest at most so deep in a text that is read (`MAX_DEPTH` of `sql_read`).
 MAX_DEPTH = 2700
-TABLES = [{"name": "a", "columns": [{"name": "b", "type": "Integer"}]}]
+TABLES = [{"name": "a", "primary_key": ["b"], "columns": [{"name": "b", "type": "Integer"}]}]
 COLUMN = '"a"."b"'
 ALL = f'SELECT {COLUMN} FROM "a"'
 

@@ -104,10 +104,15 @@ def takes_stack(words, path, kilobytes):
 
 
 def least_stack(words, text):
-    """The fewest kilobytes of stack, within one in a hundred, with which a run over the input does not end by a signal."""
+    """The fewest kilobytes of stack, within one in a hundred, with which a run over the input does not end by a signal.
+
+    Fails where the run does not end as Done with ample stack: what is refused early takes no stack.
+    """
     with tempfile.NamedTemporaryFile("w", encoding="ascii") as file:
         file.write(text)
         file.flush()
+        with open(file.name, "rb") as source:
+            subprocess.run(words, stdin=source, stdout=subprocess.DEVNULL, check=True)
         few, enough = 64, 128
         while takes_stack(words, file.name, enough):
             few, enough = enough, enough * 2
@@ -119,6 +124,9 @@ def least_stack(words, text):
                 enough = middle
     return enough
 
+
+# Directions whose statements read a table at each level, which a guard makes a level deeper.
+DEEPER_WHEN_GUARDED = {"aliases", "left_joins"}
 
 # A guard of the table that most directions read.
 GUARD = {"table": "users", "predicate": documents.is_number(1)}
@@ -136,7 +144,12 @@ def deepest(command, direction):
     if command == "build":
         return [command], documents.DIRECTIONS[direction][1], lambda count: in_each_dialect(direction, count)
     if command == "guard":
-        return [command], documents.DIRECTIONS[direction][1], lambda count: in_each_dialect(direction, count, guard=GUARD)
+        most = documents.DIRECTIONS[direction][1]
+        return (
+            [command],
+            most // 2 if direction in DEEPER_WHEN_GUARDED else most,
+            lambda count: in_each_dialect(direction, count, guard=GUARD),
+        )
     dialect, text = nested_texts.KINDS[direction]
     if command == "read":
         return [command, dialect], nested_texts.MAX_DEPTH, text

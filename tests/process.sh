@@ -21,6 +21,13 @@ run() {
     got=$?
 }
 
+# small WORD..: the same with 2 MB of stack, as threads often have
+small() {
+    # shellcheck disable=SC3045
+    (ulimit -s 2048 && run "$@" && exit "$got")
+    got=$?
+}
+
 is_empty() { ended "$1" "$2" && [ ! -s "$work/out" ]; }
 writes() { ended 0 '' && cmp "$work/out" "$1"; }
 
@@ -174,9 +181,7 @@ nested 2701 >"$work/deep"
 run read Pg <"$work/deep"
 check 'a text that nests 2701 deep' is_empty 6 NoMemory
 nested 2700 >"$work/deep"
-# shellcheck disable=SC3045
-(ulimit -s 4096 && run read Pg <"$work/deep" && exit "$got")
-got=$?
+small read Pg <"$work/deep"
 printf '{"placeholders":1,"sql":"%s"}\n' "$(cat "$work/deep")" >"$work/line"
 check 'a text that nests 2700 deep' writes "$work/line"
 # What leaves a bracket open, or has a word that is no token, has no reading however deep it nests.
@@ -215,7 +220,7 @@ deep() {
 }
 # MAX_DEPTH (sql_build_depth) bounds what nests: out of memory, after the line of the request before, and never a signal.
 beyond() { ended 6 NoMemory && [ "$(wc -l <"$work/out")" = 1 ] && ! grep -q refused "$work/out"; }
-# As many as nest within the bound are answered, also where the stack is half of what systems give.
+# As many as nest within the bound are answered, also where the stack is a quarter of what systems give.
 within() { ended 0 '' && [ "$(wc -l <"$work/out")" = 3 ] && ! grep -q refused "$work/out"; }
 condition='{"eq":[{"col":["foo","id"]},{"bind":["Integer",1]}]}'
 join="[\"inner_join\",{\"alias\":\"a#\",\"of\":\"foo\"},$condition]"
@@ -228,9 +233,7 @@ while read -r most many call; do
         run build <"$work/deep"
         check "one call $call too many on $dialect" beyond
         deep "$most" "$call" "$dialect" >"$work/deep"
-        # shellcheck disable=SC3045
-        (ulimit -s 4096 && run build <"$work/deep" && exit "$got")
-        got=$?
+        small build <"$work/deep"
         check "$most calls $call on $dialect" within
     done
 done <<TXT
@@ -257,7 +260,7 @@ while read -r most call; do
     run guard <"$work/deep"
     check "one call $call too many for a guard" beyond
     deep "$most" "$call" | guarded >"$work/deep"
-    run guard <"$work/deep"
+    small guard <"$work/deep"
     check "a guard of $most calls $call" within
 done <<TXT
 2496 ["filter",$condition]

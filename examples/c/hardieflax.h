@@ -24,8 +24,7 @@
  * Memory. The library calls malloc, realloc and free. Where memory runs out a call returns HARDIEFLAX_NO_MEMORY, and the handle may be
  * used on. A request that nests deeper than 2,500 levels, or a text whose brackets nest deeper than 2,700, ends a call so too
  * (docs/DOCUMENT.md). The answer then has the lines before it: where it has n lines, it was the request or the text after the first n of
- * the input. For input that nests as deep as it may hardieflax_build, _open and _next take up to 2 MB of stack (bench/README.md),
- * hardieflax_guard, _read and _audit up to 6 MB.
+ * the input. Any call takes less than 1.5 MB of stack (bench/README.md), so a thread of 2 MB may make it.
  *
  * Signals. Call nothing here from a signal handler, nor in the forked child of a process with threads.
  */
