@@ -5,12 +5,12 @@ ghost use Rattle.sql_dialect.specs.declared.backend.Dialect.TheVariants as D;
 use crate::backend::{Backend, Dialect};
 use crate::builder::{BindError, NoMemory, QueryBuilder};
 use crate::combination::{Combinator, DuplicateRule};
-use crate::quote::quote;
+use crate::number::push_number;
+use crate::quote::push_quoted;
 use crate::syntax::{
     AliasSyntax, ArrayComparison, EmptyFromClauseSyntax, ExistsSyntax, SelectStatementSyntax,
     SqlDialect,
 };
-use itoa::Buffer;
 use std::alloc::Global;
 use std::marker::Model;
 
@@ -71,7 +71,6 @@ impl Backend for Bracket {
 /// Writes text in this dialect: names in square brackets, placeholders `@p1`, `@p2` and so on.
 #[derive(Debug, Drop)]
 pub struct BracketQueryBuilder {
-    alloc: Global,
     sql: String,
     bind_idx: u32,
 }
@@ -98,7 +97,6 @@ impl BracketQueryBuilder {
         ensures { result ≡ record { text = []; count = bind_idx } }
     {
         BracketQueryBuilder {
-            alloc,
             sql: String::new(alloc),
             bind_idx,
         }
@@ -124,8 +122,7 @@ impl QueryBuilder for BracketQueryBuilder {
     }
 
     fn push_identifier(&mut self, name: &str) -> Result<(), NoMemory> {
-        let quoted = quote(self.alloc, '[', ']', name)?;
-        self.sql.push_str(quoted.as_str())
+        push_quoted(&mut self.sql, '[', ']', name)
     }
 
     fn push_bind_param(&mut self) -> Result<(), BindError> {
@@ -133,15 +130,7 @@ impl QueryBuilder for BracketQueryBuilder {
             return Err(BindError::TooManyBinds);
         }
         let next = self.bind_idx + 1;
-        let mut buffer = Buffer::new();
-        let mut place = String::new(self.alloc);
-        if place.push_str("@p").is_err() {
-            return Err(BindError::NoMemory);
-        }
-        if place.push_str(buffer.format(next)).is_err() {
-            return Err(BindError::NoMemory);
-        }
-        if self.sql.push_str(place.as_str()).is_err() {
+        if push_number(&mut self.sql, "@p", next).is_err() {
             return Err(BindError::NoMemory);
         }
         self.bind_idx = next;
@@ -157,11 +146,7 @@ impl QueryBuilder for BracketQueryBuilder {
     }
 
     fn finish(self) -> String {
-        let BracketQueryBuilder {
-            alloc: _,
-            sql,
-            bind_idx: _,
-        } = self;
+        let BracketQueryBuilder { sql, bind_idx: _ } = self;
         sql
     }
 }

@@ -8,6 +8,7 @@ mod combination;
 mod laws;
 mod markers;
 mod mysql;
+mod number;
 mod pg;
 mod quote;
 mod sqlite;

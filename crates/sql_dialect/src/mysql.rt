@@ -4,7 +4,7 @@ ghost use Rattle.sql_dialect.specs.declared.backend.Dialect.TheVariants as D;
 use crate::backend::{Backend, Dialect};
 use crate::builder::{BindError, NoMemory, QueryBuilder};
 use crate::combination::{Combinator, DuplicateRule};
-use crate::quote::quote;
+use crate::quote::push_quoted;
 use crate::syntax::{
     AliasSyntax, ArrayComparison, EmptyFromClauseSyntax, ExistsSyntax, SelectStatementSyntax,
     SqlDialect,
@@ -65,7 +65,6 @@ impl Backend for Mysql {
 /// Writes text as MySQL reads it: names in backticks, each placeholder a `?`.
 #[derive(Debug, Drop)]
 pub struct MysqlQueryBuilder {
-    alloc: Global,
     sql: String,
 }
 
@@ -83,7 +82,6 @@ impl MysqlQueryBuilder {
         ensures { result ≡ [] }
     {
         MysqlQueryBuilder {
-            alloc,
             sql: String::new(alloc),
         }
     }
@@ -101,8 +99,7 @@ impl QueryBuilder for MysqlQueryBuilder {
     }
 
     fn push_identifier(&mut self, name: &str) -> Result<(), NoMemory> {
-        let quoted = quote(self.alloc, '`', '`', name)?;
-        self.sql.push_str(quoted.as_str())
+        push_quoted(&mut self.sql, '`', '`', name)
     }
 
     fn push_bind_param(&mut self) -> Result<(), BindError> {
@@ -117,7 +114,7 @@ impl QueryBuilder for MysqlQueryBuilder {
     }
 
     fn finish(self) -> String {
-        let MysqlQueryBuilder { alloc: _, sql } = self;
+        let MysqlQueryBuilder { sql } = self;
         sql
     }
 }

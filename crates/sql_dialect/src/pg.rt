@@ -5,12 +5,12 @@ ghost use Rattle.sql_dialect.specs.declared.backend.Dialect.TheVariants as D;
 use crate::backend::{Backend, Dialect};
 use crate::builder::{BindError, NoMemory, QueryBuilder};
 use crate::combination::{Combinator, DuplicateRule};
-use crate::quote::quote;
+use crate::number::push_number;
+use crate::quote::push_quoted;
 use crate::syntax::{
     AliasSyntax, ArrayComparison, EmptyFromClauseSyntax, ExistsSyntax, SelectStatementSyntax,
     SqlDialect,
 };
-use itoa::Buffer;
 use std::alloc::Global;
 use std::marker::Model;
 
@@ -67,7 +67,6 @@ impl Backend for Pg {
 /// Writes text as PostgreSQL reads it: names in double quotes, placeholders `$1`, `$2` and so on.
 #[derive(Debug, Drop)]
 pub struct PgQueryBuilder {
-    alloc: Global,
     sql: String,
     bind_idx: u32,
 }
@@ -94,7 +93,6 @@ impl PgQueryBuilder {
         ensures { result ≡ record { text = []; count = bind_idx } }
     {
         PgQueryBuilder {
-            alloc,
             sql: String::new(alloc),
             bind_idx,
         }
@@ -120,8 +118,7 @@ impl QueryBuilder for PgQueryBuilder {
     }
 
     fn push_identifier(&mut self, name: &str) -> Result<(), NoMemory> {
-        let quoted = quote(self.alloc, '"', '"', name)?;
-        self.sql.push_str(quoted.as_str())
+        push_quoted(&mut self.sql, '"', '"', name)
     }
 
     fn push_bind_param(&mut self) -> Result<(), BindError> {
@@ -129,15 +126,7 @@ impl QueryBuilder for PgQueryBuilder {
             return Err(BindError::TooManyBinds);
         }
         let next = self.bind_idx + 1;
-        let mut buffer = Buffer::new();
-        let mut place = String::new(self.alloc);
-        if place.push_str("$").is_err() {
-            return Err(BindError::NoMemory);
-        }
-        if place.push_str(buffer.format(next)).is_err() {
-            return Err(BindError::NoMemory);
-        }
-        if self.sql.push_str(place.as_str()).is_err() {
+        if push_number(&mut self.sql, "$", next).is_err() {
             return Err(BindError::NoMemory);
         }
         self.bind_idx = next;
@@ -153,11 +142,7 @@ impl QueryBuilder for PgQueryBuilder {
     }
 
     fn finish(self) -> String {
-        let PgQueryBuilder {
-            alloc: _,
-            sql,
-            bind_idx: _,
-        } = self;
+        let PgQueryBuilder { sql, bind_idx: _ } = self;
         sql
     }
 }

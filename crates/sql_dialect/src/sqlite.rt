@@ -4,7 +4,7 @@ ghost use Rattle.sql_dialect.specs.declared.backend.Dialect.TheVariants as D;
 use crate::backend::{Backend, Dialect};
 use crate::builder::{BindError, NoMemory, QueryBuilder};
 use crate::combination::{Combinator, DuplicateRule};
-use crate::quote::quote;
+use crate::quote::push_quoted;
 use crate::syntax::{
     AliasSyntax, ArrayComparison, EmptyFromClauseSyntax, ExistsSyntax, SelectStatementSyntax,
     SqlDialect,
@@ -69,7 +69,6 @@ impl Backend for Sqlite {
 /// Writes text as SQLite reads it: names in backticks, each placeholder a `?`.
 #[derive(Debug, Drop)]
 pub struct SqliteQueryBuilder {
-    alloc: Global,
     sql: String,
 }
 
@@ -87,7 +86,6 @@ impl SqliteQueryBuilder {
         ensures { result ≡ [] }
     {
         SqliteQueryBuilder {
-            alloc,
             sql: String::new(alloc),
         }
     }
@@ -105,8 +103,7 @@ impl QueryBuilder for SqliteQueryBuilder {
     }
 
     fn push_identifier(&mut self, name: &str) -> Result<(), NoMemory> {
-        let quoted = quote(self.alloc, '`', '`', name)?;
-        self.sql.push_str(quoted.as_str())
+        push_quoted(&mut self.sql, '`', '`', name)
     }
 
     fn push_bind_param(&mut self) -> Result<(), BindError> {
@@ -121,7 +118,7 @@ impl QueryBuilder for SqliteQueryBuilder {
     }
 
     fn finish(self) -> String {
-        let SqliteQueryBuilder { alloc: _, sql } = self;
+        let SqliteQueryBuilder { sql } = self;
         sql
     }
 }
