@@ -6,7 +6,7 @@ import json
 import sys
 
 KINDS = ["Integer", "Text", "BigInt", "Bool"]
-# A statement nests at most so deep (`MAX_DEPTH` of `sql_depth`).
+# A statement nests at most so deep (`MAX_DEPTH` of `sql_build_depth`).
 MAX_DEPTH = 2500
 # PostgreSQL allows a table so many columns, and MySQL so many.
 MAX_COLUMNS = 1600

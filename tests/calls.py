@@ -20,7 +20,7 @@ from dataclasses import dataclass, field
 from pathlib import Path
 
 # Libraries of which tests and programs alone are made; so are those whose names end in _tests.
-NO_LIBRARY = {"sql_fixture", "sql_examples", "sql_tool"}
+NO_LIBRARY = {"sql_test_kit", "sql_examples", "sql_tool"}
 # The errors that std and the dialects have for the allocator's.
 NO_MEMORY = {"AllocError", "NoMemory"}
 CONTRACT = {"ensures", "requires", "decreases"}

@@ -29,12 +29,12 @@ INNER: dict[str, set[str]] = {
     # another name of a type of `sql_schema`
     "sql_dialect": {"NoMemory"},
     # parts of the reader
-    "sql_lexer": {"Keyword", "Token", "same_found", "text_tokens"},
-    "sql_machine": {"*"},
-    "sql_tree": {"count_query", "expression_in", "names_in", "query_in"},
-    "sql_write": {"*"},
+    "sql_read_lexer": {"Keyword", "Token", "same_found", "text_tokens"},
+    "sql_read_machine": {"*"},
+    "sql_read_tree": {"count_query", "expression_in", "names_in", "query_in"},
+    "sql_read_writer": {"*"},
     # parts of the audit
-    "sql_resolution": {"Meaning", "Resolution", "resolve"},
+    "sql_audit_resolution": {"Meaning", "Resolution", "resolve"},
     # the words between the parts of a statement
     "sql_leaf": {
         "ALL", "ASC", "CLOSE", "CLOSE_BOTH", "COMMA", "COUNT_OPEN", "COUNT_STAR", "DESC", "DISTINCT", "DISTINCT_ON_CLOSE",
@@ -45,22 +45,22 @@ INNER: dict[str, set[str]] = {
     "sql_origin": {"same_table"},
     "sql_shape": {"statement_leaves_id"},
     # lists of nodes, and loops over them
-    "sql_rose": {"*"},
-    "sql_loops": {"*"},
+    "sql_flat_law": {"*"},
+    "sql_flat_law": {"*"},
     # parts of `compile`, `restrict` and of keys
-    "sql_fused": {"Fused", "write_flat"},
-    "sql_judge": {"Judgement", "any_lacks_on", "broken_but_the_last", "is_condition_of", "judge"},
+    "sql_flat_text": {"Fused", "write_flat"},
+    "sql_rules_check": {"Judgement", "any_lacks_on", "broken_but_the_last", "is_condition_of", "judge"},
     "sql_key": {"erased_kind"},
     "sql_types": {"*"},
     # parts of `run`
-    "sql_audit_output": {"*"},
-    "sql_document": {"*"},
-    "sql_generate": {"*"},
-    "sql_guard_output": {"*"},
-    "sql_output": {"*"},
-    "sql_read_output": {"*"},
-    "sql_series": {"*"},
-    "sql_stream": {"ReadError", "read_all", "write_all", "write_pending"},
+    "sql_tool_audit": {"*"},
+    "sql_tool_document": {"*"},
+    "sql_tool_generate": {"*"},
+    "sql_tool_guard": {"*"},
+    "sql_tool_build": {"*"},
+    "sql_tool_read": {"*"},
+    "sql_tool_series": {"*"},
+    "sql_tool_stream": {"ReadError", "read_all", "write_all", "write_pending"},
 }
 
 # Members of impls that tell users nothing: how a type is held, and what laws of `==`, orders, hashes and backends are proved by.

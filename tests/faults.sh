@@ -1,7 +1,7 @@
 #!/bin/sh
 # Fails each allocation of a run in turn, and then each from there on. The run has to end as it does when none fails, or with NoMemory
 # (the program: status 6) and a prefix of that output. By hand, with a C compiler; it takes minutes.
-#   tests/faults.sh crates/sql_tool/out/sql_tool [crates/sql_tests/out/sql_tests_tests ..]
+#   tests/faults.sh crates/sql_tool/out/sql_tool [crates/sql_test_base/out/sql_tests_tests ..]
 # The program answers three documents and a text of `examples/`, audits and guards, and generates requests. Of the tests, as `rt test`
 # builds them, `every_call_once` is run, and where a crate has it `the_same_call_again`. Where none is named, those of all crates are
 # taken, and it says which are not built. (tests/calls.py tells that each public call that can answer NoMemory is in one of them.)

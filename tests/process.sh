@@ -213,7 +213,7 @@ deep() {
         }
         printf "]}},%s]}\n", plain }'
 }
-# MAX_DEPTH (sql_depth) bounds what nests: out of memory, after the line of the request before, and never a signal.
+# MAX_DEPTH (sql_build_depth) bounds what nests: out of memory, after the line of the request before, and never a signal.
 beyond() { ended 6 NoMemory && [ "$(wc -l <"$work/out")" = 1 ] && ! grep -q refused "$work/out"; }
 # As many as nest within the bound are answered, also where the stack is half of what systems give.
 within() { ended 0 '' && [ "$(wc -l <"$work/out")" = 3 ] && ! grep -q refused "$work/out"; }

@@ -89,7 +89,7 @@ pub use Rattle.sql_raw.specs.Shown
 pub use Rattle.sql_flat.specs.Flat as FlatLists
 pub use Rattle.sql_flat.specs.declared.kind.FlatKind
 pub use Rattle.sql_flat.specs.declared.kind.FlatNode
-pub use Rattle.sql_rose.specs.Rose
+pub use Rattle.sql_flat_law.specs.Rose
 pub use Rattle.sql_shape.specs.Ids
 pub use Rattle.sql_key.specs.Keys
 pub use Rattle.sql_shape.specs.Shape
@@ -107,9 +107,9 @@ pub use Rattle.sql_grammar.specs.Token
 pub use Rattle.sql_grammar.specs.Tokens
 pub use Rattle.sql_grammar.specs.Tree as GrammarTree
 pub use Rattle.sql_grammar.specs.Values as PlaceValues
-pub use Rattle.sql_reading.specs.Examples as ReadingExamples
-pub use Rattle.sql_reading.specs.Filled
-pub use Rattle.sql_reading.specs.inside.HasText
+pub use Rattle.sql_normal.specs.Examples as ReadingExamples
+pub use Rattle.sql_normal.specs.Filled
+pub use Rattle.sql_normal.specs.inside.HasText
 -- Rules.
 pub use Rattle.sql_rules.specs.Counted
 pub use Rattle.sql_rules.specs.Lists as RuleLists
@@ -122,72 +122,72 @@ pub use Rattle.sql_rules.specs.Types
 pub use Rattle.sql_rules.specs.Verdicts
 pub use Rattle.sql_rules.specs.declared.rule.Rule
 -- The laws of accepted statements: whether values fit, shapes without lengths, and the examples.
-pub use Rattle.sql_law.specs.Blank
-pub use Rattle.sql_law.specs.Examples as LawExamples
-pub use Rattle.sql_law.specs.Fitting
-pub use Rattle.sql_law.specs.Lengths
-pub use Rattle.sql_law.specs.Paths as ColumnPaths
+pub use Rattle.sql_rules_law.specs.Blank
+pub use Rattle.sql_rules_law.specs.Examples as LawExamples
+pub use Rattle.sql_rules_law.specs.Fitting
+pub use Rattle.sql_rules_law.specs.Lengths
+pub use Rattle.sql_rules_law.specs.Paths as ColumnPaths
 -- What `compile` gives.
 pub use Rattle.sql_check.specs.Compiled
 pub use Rattle.sql_check.specs.Fused
-pub use Rattle.sql_fused.specs.Steps
+pub use Rattle.sql_flat_text.specs.Steps
 pub use Rattle.sql_check.specs.Errors
 pub use Rattle.sql_check.specs.declared.built.Built
 pub use Rattle.sql_check.specs.declared.error.CompileError
-pub use Rattle.sql_judge.specs.declared.names.Names as KnownNames
+pub use Rattle.sql_rules_check.specs.declared.names.Names as KnownNames
 -- What a statement cache holds.
 pub use Rattle.sql_rows.specs.Calls as CacheCalls
 pub use Rattle.sql_rows.specs.Entries
 pub use Rattle.sql_rows.specs.declared.cache.RequestKey
 -- What statements answer.
-pub use Rattle.sql_meaning.specs.Answers
-pub use Rattle.sql_meaning.specs.Example as AnswerExample
-pub use Rattle.sql_meaning.specs.Fitting as AnswerFitting
-pub use Rattle.sql_meaning.specs.Frames
-pub use Rattle.sql_meaning.specs.LastWriter
-pub use Rattle.sql_meaning.specs.Needed
-pub use Rattle.sql_meaning.specs.Rows
-pub use Rattle.sql_meaning.specs.Values
-pub use Rattle.sql_meaning.specs.Worked as WorkedAnswers
+pub use Rattle.sql_rows_meaning.specs.Answers
+pub use Rattle.sql_rows_meaning.specs.Example as AnswerExample
+pub use Rattle.sql_rows_meaning.specs.Fitting as AnswerFitting
+pub use Rattle.sql_rows_meaning.specs.Frames
+pub use Rattle.sql_rows_meaning.specs.LastWriter
+pub use Rattle.sql_rows_meaning.specs.Needed
+pub use Rattle.sql_rows_meaning.specs.Rows
+pub use Rattle.sql_rows_meaning.specs.Values
+pub use Rattle.sql_rows_meaning.specs.Worked as WorkedAnswers
 -- Statements restricted to one tenant.
-pub use Rattle.sql_tenant.specs.Restricted
-pub use Rattle.sql_tenant.specs.Tenant
-pub use Rattle.sql_tenant.specs.Worked as WorkedRestriction
+pub use Rattle.sql_guard_law.specs.Restricted
+pub use Rattle.sql_guard_law.specs.Tenant
+pub use Rattle.sql_guard_law.specs.Worked as WorkedRestriction
 pub use Rattle.sql_guard.specs.Refused
 pub use Rattle.sql_guard.specs.declared.error.RestrictError
 -- What the reader gives.
 pub use Rattle.sql_read.specs.Seen as ReadTrees
 pub use Rattle.sql_read.specs.declared.error.ReadError
-pub use Rattle.sql_tree.specs.Counts as TreeCounts
-pub use Rattle.sql_tree.specs.Path as TreePaths
-pub use Rattle.sql_tree.specs.View as TreeViews
+pub use Rattle.sql_read_tree.specs.Counts as TreeCounts
+pub use Rattle.sql_read_tree.specs.Path as TreePaths
+pub use Rattle.sql_read_tree.specs.View as TreeViews
 -- What the audit of a text tells.
 pub use Rattle.sql_audit.specs.Report as AuditReports
 pub use Rattle.sql_audit.specs.declared.error.AuditError
 pub use Rattle.sql_audit.specs.declared.report.AuditReport
 pub use Rattle.sql_audit_law.specs.Own as OwnReports
-pub use Rattle.sql_resolution.specs.declared.column_use.ColumnUse
+pub use Rattle.sql_audit_resolution.specs.declared.column_use.ColumnUse
 -- Queries as documents write them, and the statements that they stand for.
 pub use Rattle.sql_build.specs.Built as QueryStatements
-pub use Rattle.sql_depth.specs.Depth as QueryDepth
-pub use Rattle.sql_depth.specs.Leaves as QueryLeaves
-pub use Rattle.sql_depth.specs.declared.depth.TheConstants as DepthConstants
-pub use Rattle.sql_syntax.specs.Forms as SyntaxForms
-pub use Rattle.sql_syntax.specs.Tree as SyntaxTree
-pub use Rattle.sql_syntax.specs.View as SyntaxViews
-pub use Rattle.sql_syntax.specs.declared.form.Form as SyntaxForm
+pub use Rattle.sql_build_depth.specs.Depth as QueryDepth
+pub use Rattle.sql_build_depth.specs.Leaves as QueryLeaves
+pub use Rattle.sql_build_depth.specs.declared.depth.TheConstants as DepthConstants
+pub use Rattle.sql_build_syntax.specs.Forms as SyntaxForms
+pub use Rattle.sql_build_syntax.specs.Tree as SyntaxTree
+pub use Rattle.sql_build_syntax.specs.View as SyntaxViews
+pub use Rattle.sql_build_syntax.specs.declared.form.Form as SyntaxForm
 -- What the program does with its source and its sink.
-pub use Rattle.sql_command.specs.Command as Commands
-pub use Rattle.sql_command.specs.Limits as CommandLimits
-pub use Rattle.sql_command.specs.Run as Runs
-pub use Rattle.sql_command.specs.Status as Statuses
-pub use Rattle.sql_command.specs.declared.command.Command
-pub use Rattle.sql_command.specs.declared.status.Status
-pub use Rattle.sql_document.specs.Documents
-pub use Rattle.sql_generate.specs.Summary
-pub use Rattle.sql_output.specs.Output
-pub use Rattle.sql_output.specs.Shared as SharedIds
-pub use Rattle.sql_read_output.specs.Line as ReadingLines
-pub use Rattle.sql_stream.specs.Causes
-pub use Rattle.sql_stream.specs.Memory as MemoryStreams
-pub use Rattle.sql_stream.specs.Reading as StreamReading
+pub use Rattle.sql_tool_run.specs.Command as Commands
+pub use Rattle.sql_tool_run.specs.Limits as CommandLimits
+pub use Rattle.sql_tool_run.specs.Run as Runs
+pub use Rattle.sql_tool_run.specs.Status as Statuses
+pub use Rattle.sql_tool_run.specs.declared.command.Command
+pub use Rattle.sql_tool_run.specs.declared.status.Status
+pub use Rattle.sql_tool_document.specs.Documents
+pub use Rattle.sql_tool_generate.specs.Summary
+pub use Rattle.sql_tool_build.specs.Output
+pub use Rattle.sql_tool_build.specs.Shared as SharedIds
+pub use Rattle.sql_tool_read.specs.Line as ReadingLines
+pub use Rattle.sql_tool_stream.specs.Causes
+pub use Rattle.sql_tool_stream.specs.Memory as MemoryStreams
+pub use Rattle.sql_tool_stream.specs.Reading as StreamReading

@@ -70,7 +70,7 @@ pub use sql_flat::{
     different_expressions_have_different_lists, different_statements_have_different_lists,
     expression_nodes, flatten,
 };
-pub use sql_unflat::Unflatten;
+pub use sql_flat_back::Unflatten;
 
 // Keys: by what a cache knows a statement.
 pub use sql_key::{
@@ -102,20 +102,20 @@ pub use sql_grammar::{
     filled_by_values as numbered_trees_are_filled, joined_texts, no_reading, one_reading,
     quoted_name, token_rules, worked_readings, worked_tokens, written,
 };
-pub use sql_law::{
+pub use sql_normal::{filled_by_values, leaves_no_trace, only_reading, worked_statements};
+pub use sql_rules_law::{
     a_statement_is_accepted, accepted_are_read, accepted_have_text, accepted_values_fit,
     list_lengths_can_be_exchanged, lists_are_flat, names_one_leaf, premises_are_needed,
     safe_without_value_lists, values_can_be_exchanged,
 };
-pub use sql_reading::{filled_by_values, leaves_no_trace, only_reading, worked_statements};
 
 // The reader: the tree of a text, and the text of a tree.
 pub use sql_read::{MAX_DEPTH as MAX_READ_DEPTH, ReadError, Tree, placeholders, read, write};
 
 /// What `Tree::query` gives: the tree of a text, as its tokens say.
 pub mod tree {
-    pub use sql_lexer::Comparison;
-    pub use sql_tree::{
+    pub use sql_read_lexer::Comparison;
+    pub use sql_read_tree::{
         Direction, Distinctness, Expression, Item, JoinKind, Lock, LockMode, LockWait, Logic, Mark,
         Names, Page, Place, Query, Sample, SampleMethod, SetOperator, Source,
     };
@@ -128,8 +128,8 @@ pub use sql_audit_law::{accepted_are_reported, one_answer as one_audit_answer};
 /// Queries as documents write them, and the statements that they stand for over a schema.
 pub mod syntax {
     pub use sql_build::{expression, statement, statement_to_restrict};
-    pub use sql_depth::{MAX_DEPTH, is_expr_too_deep, is_too_deep, is_too_deep_restricted};
-    pub use sql_syntax::{
+    pub use sql_build_depth::{MAX_DEPTH, is_expr_too_deep, is_too_deep, is_too_deep_restricted};
+    pub use sql_build_syntax::{
         AliasName, BinaryOperator, Call, ClauseCall, ColumnName, Expr, FieldName, Form, Join,
         Membership, OrderItem, PlainCall, Quantified, Query, QueryStart, Source, TableName,
         UnaryOperator, all_stand,
@@ -137,12 +137,12 @@ pub mod syntax {
 }
 
 // What `compile_by` asks for where it is told that the names are known.
-pub use sql_known::built_statements_know_their_names;
+pub use sql_build_law::built_statements_know_their_names;
 
 /// The program's commands as one call, over any source and any sink of bytes.
 pub mod program {
-    pub use sql_command::{Command, LIMIT, MAX_REQUESTS, Status, run};
-    pub use sql_stream::{
+    pub use sql_tool_run::{Command, LIMIT, MAX_REQUESTS, Status, run};
+    pub use sql_tool_stream::{
         CountedReader, Failed, MemorySink, MemorySource, Sink, Source, StdSink, StdSource,
         SureSink, SureSource,
     };

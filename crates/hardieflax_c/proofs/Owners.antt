@@ -43,12 +43,12 @@ use Rattle.std.proofs.alloc.Global.TheLaws as heap
 use Rattle.std.specs.contracts.boxed.Box as Box
 use Rattle.std.proofs.boxed.Box.TheLaws as box
 use Rattle.std.specs.contracts.impls.GlobalAllocator.TheImpl.{ghosts}
-use Rattle.sql_embed.specs.contracts.responder.Responder as Responder
-use Rattle.sql_embed.proofs.responder.Responder.TheLaws as responder
+use Rattle.sql_tool_session.specs.contracts.responder.Responder as Responder
+use Rattle.sql_tool_session.proofs.responder.Responder.TheLaws as responder
 use Rattle.hardieflax_c.proofs.Destruct++none.drop.Code as none
-use Rattle.hardieflax_c.specs.contracts.sql_embed++responder++Responder+Destruct.drop as Drop
-use Rattle.hardieflax_c.proofs.sql_embed++responder++Responder+Destruct.drop.Symbol as drop_code
-use Rattle.hardieflax_c.proofs.sql_embed++responder++Responder+Destruct.drop.Met.{met}
+use Rattle.hardieflax_c.specs.contracts.sql_tool_session++responder++Responder+Destruct.drop as Drop
+use Rattle.hardieflax_c.proofs.sql_tool_session++responder++Responder+Destruct.drop.Symbol as drop_code
+use Rattle.hardieflax_c.proofs.sql_tool_session++responder++Responder+Destruct.drop.Met.{met}
 
 abbrev pub address : Ptr → Val
 address p = vstruct (vcons (ptr_val p) vnil)
@@ -94,7 +94,7 @@ abbrev pub alloc-laws : Laws Alloc
 alloc-laws = arg_laws (bare (layout Heap.the_row)) no Heap.the_row heap.the_row_laws refl
 
 abbrev pub content-drop : Dict
-content-drop = impl ("hardieflax_c::sql_embed++responder++Responder+Destruct::drop" ∷ []) tnil dnil
+content-drop = impl ("hardieflax_c::sql_tool_session++responder++Responder+Destruct::drop" ∷ []) tnil dnil
 
 abbrev pub alloc-drop : Dict
 alloc-drop = impl ("hardieflax_c::Destruct++none::drop" ∷ []) (tcons (layout Alloc) tnil) dnil

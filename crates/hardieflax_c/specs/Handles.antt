@@ -1,18 +1,18 @@
 -- What a handle that C holds stands for.
 use Rattle.std.specs.Prelude.{◌≡◌, ◌<◌, ◌⊎◌, ◌↔◌, ◌++◌, ℕ, List, Option, Some, None, is_some, length, option_and_then}
 use Rattle.std.specs.Vec.{vec_ptr}
-use Rattle.sql_command.specs.Command.{IsOutputOf, IsOutputPrefixOf}
-use Rattle.sql_command.specs.Limits.{greatest_input}
-use Rattle.sql_command.specs.Run.{status_of}
-use Rattle.sql_command.specs.declared.command.Command.{Command}
-use Rattle.sql_command.specs.declared.command.Command.TheVariants.{Build}
-use Rattle.sql_command.specs.declared.status.Status.{Status}
-use Rattle.sql_command.specs.declared.status.Status.TheVariants.{Done, Usage, BadDocument, NoMemory, TooLarge}
-use Rattle.sql_document.specs.Documents.{Document, document}
-use Rattle.sql_embed.specs.Session.{HasAnswered, followed_by}
-use Rattle.sql_embed.specs.Within.{HasTooDeep, before_too_deep, cut_too_deep}
-use Rattle.sql_embed.specs.declared.responder.Responder.{Responder}
-use Rattle.sql_embed.specs.declared.session.Session.{Session}
+use Rattle.sql_tool_run.specs.Command.{IsOutputOf, IsOutputPrefixOf}
+use Rattle.sql_tool_run.specs.Limits.{greatest_input}
+use Rattle.sql_tool_run.specs.Run.{status_of}
+use Rattle.sql_tool_run.specs.declared.command.Command.{Command}
+use Rattle.sql_tool_run.specs.declared.command.Command.TheVariants.{Build}
+use Rattle.sql_tool_run.specs.declared.status.Status.{Status}
+use Rattle.sql_tool_run.specs.declared.status.Status.TheVariants.{Done, Usage, BadDocument, NoMemory, TooLarge}
+use Rattle.sql_tool_document.specs.Documents.{Document, document}
+use Rattle.sql_tool_session.specs.Session.{HasAnswered, followed_by}
+use Rattle.sql_tool_session.specs.Within.{HasTooDeep, before_too_deep, cut_too_deep}
+use Rattle.sql_tool_session.specs.declared.responder.Responder.{Responder}
+use Rattle.sql_tool_session.specs.declared.session.Session.{Session}
 use Rattle.hardieflax_c.specs.declared.handle.Handle.{Handle}
 
 -- the responder that the handle has

@@ -6,7 +6,7 @@ use Rattle.std.specs.Box.Ownership.{box_owns}
 use Rattle.std.specs.Coded.{Coded, coded_option}
 use Rattle.std.specs.declared.alloc.Global.{Global}
 use Rattle.std.specs.contracts.impls.GlobalAllocator.TheImpl.{ghosts}
-use Rattle.sql_embed.specs.contracts.responder.Responder.{the_row}
+use Rattle.sql_tool_session.specs.contracts.responder.Responder.{the_row}
 
 -- the allocator, of which there is one
 abbrev pub allocator : Global

@@ -1,9 +1,9 @@
 ghost use Rattle.std.specs.Prelude.{◌≡◌, IfOk, IfErr, None, Some, option_map, false, true};
 ghost use Rattle.hardieflax_c.specs.Handles.{IsAnswered, IsContinued, IsOpened, IsSound, Shows, kept_by, session_of};
-ghost use Rattle.sql_command.specs.Command.{reads_source};
+ghost use Rattle.sql_tool_run.specs.Command.{reads_source};
 
 use crate::owner::Owner;
-use sql_embed::{Command, Responder, Status};
+use sql_tool_session::{Command, Responder, Status};
 use std::alloc::{AllocError, Global};
 use std::{mem, ptr};
 

@@ -7,15 +7,15 @@
 ghost use Rattle.std.specs.Prelude.{◌≡◌, IfSome, None};
 ghost use Rattle.hardieflax_c.specs.Dialects.{dialect_at};
 ghost use Rattle.hardieflax_c.specs.Handles.{IsAnswered, IsContinued, IsOpened, IsSound, kept_by};
-ghost use Rattle.sql_command.specs.Status.{code_of};
-ghost use Rattle.sql_command.specs.declared.command.Command.TheVariants as command;
-ghost use Rattle.sql_command.specs.declared.status.Status.{Status as Ending};
+ghost use Rattle.sql_tool_run.specs.Status.{code_of};
+ghost use Rattle.sql_tool_run.specs.declared.command.Command.TheVariants as command;
+ghost use Rattle.sql_tool_run.specs.declared.status.Status.{Status as Ending};
 
 mod handle;
 mod owner;
 
 use handle::Handle;
-use sql_embed::{Command, Dialect, Status};
+use sql_tool_session::{Command, Dialect, Status};
 use std::alloc::Global;
 
 /// The dialect of this number.

@@ -1,8 +1,8 @@
 ghost use Rattle.std.specs.Prelude.{◌≡◌, Option, Some, None};
 ghost use Rattle.hardieflax_c.specs.Owning.{kept_coded};
-ghost use Rattle.sql_embed.specs.declared.responder.Responder.{Responder};
+ghost use Rattle.sql_tool_session.specs.declared.responder.Responder.{Responder};
 
-use sql_embed::Responder;
+use sql_tool_session::Responder;
 use std::alloc::Global;
 use std::marker::Model;
 

@@ -4,9 +4,9 @@ use Rattle.sql_dialect.specs.declared.backend.Dialect.{Dialect}
 use Rattle.sql_schema.specs.declared.declaration.TableDecl.{TableDecl}
 use Rattle.sql_grammar.specs.MarkTree.{Query}
 use Rattle.sql_grammar.specs.Reading.{OnlyReading}
-use Rattle.sql_resolution.specs.declared.column_use.ColumnUse.{ColumnUse}
-use Rattle.sql_resolution.specs.declared.column_use.Meaning.{Meaning}
-use Rattle.sql_resolution.specs.declared.column_use.Meaning.TheVariants.{Column}
+use Rattle.sql_audit_resolution.specs.declared.column_use.ColumnUse.{ColumnUse}
+use Rattle.sql_audit_resolution.specs.declared.column_use.Meaning.{Meaning}
+use Rattle.sql_audit_resolution.specs.declared.column_use.Meaning.TheVariants.{Column}
 use Rattle.sql_audit.specs.Report.{tables_of, meanings_of, least_refusal, settled_refusal, IsFirstRefusal, IsReported, IsRefused}
 use Rattle.sql_audit.specs.declared.error.AuditError.{AuditError}
 use Rattle.sql_audit.specs.declared.error.AuditError.TheVariants.{NotInGrammar, UnknownTable, NotInScope, Ambiguous, NoMemory}

@@ -2,9 +2,9 @@
 use Rattle.std.proofs.Common.{◌≡◌, ◌∷◌, [], List, Option, Some, None, map, true, false, is_none, refl, ap}
 use Rattle.std.specs.List.{list_any}
 use Rattle.sql_grammar.specs.MarkTree.{Name}
-use Rattle.sql_resolution.specs.declared.column_use.ColumnUse.{ColumnUse}
-use Rattle.sql_resolution.specs.declared.column_use.Meaning.{Meaning}
-use Rattle.sql_resolution.specs.declared.column_use.Meaning.TheVariants.{Nothing, Several, Column}
+use Rattle.sql_audit_resolution.specs.declared.column_use.ColumnUse.{ColumnUse}
+use Rattle.sql_audit_resolution.specs.declared.column_use.Meaning.{Meaning}
+use Rattle.sql_audit_resolution.specs.declared.column_use.Meaning.TheVariants.{Nothing, Several, Column}
 use Rattle.sql_audit.specs.Report.{is_nothing, is_several, settled_refusal}
 use Rattle.sql_audit.specs.inside.Settled.{known, columns_among}
 

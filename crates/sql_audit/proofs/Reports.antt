@@ -4,9 +4,9 @@ use Rattle.std.specs.List.{list_any}
 use Rattle.sql_dialect.specs.declared.backend.Dialect.{Dialect}
 use Rattle.sql_grammar.specs.MarkTree.{Name, Query}
 use Rattle.sql_grammar.specs.Reading.{OnlyReading}
-use Rattle.sql_resolution.specs.declared.column_use.ColumnUse.{ColumnUse}
-use Rattle.sql_resolution.specs.declared.column_use.Meaning.{Meaning}
-use Rattle.sql_resolution.specs.declared.column_use.Meaning.TheVariants.{Column}
+use Rattle.sql_audit_resolution.specs.declared.column_use.ColumnUse.{ColumnUse}
+use Rattle.sql_audit_resolution.specs.declared.column_use.Meaning.{Meaning}
+use Rattle.sql_audit_resolution.specs.declared.column_use.Meaning.TheVariants.{Column}
 use Rattle.sql_schema.specs.declared.declaration.TableDecl.{TableDecl}
 use Rattle.sql_audit.specs.Report.{is_nothing, is_several, tables_of, meanings_of, settled_refusal, least_refusal, IsReport, IsReported, IsRefused}
 use Rattle.sql_audit.specs.declared.error.AuditError.{AuditError}

@@ -1,5 +1,5 @@
 pub mod Report
 pub mod inside
-pub use Rattle.sql_resolution.specs.Leaves
-pub use Rattle.sql_resolution.specs.Meant
-pub use Rattle.sql_resolution.specs.Uses
+pub use Rattle.sql_audit_resolution.specs.Leaves
+pub use Rattle.sql_audit_resolution.specs.Meant
+pub use Rattle.sql_audit_resolution.specs.Uses

@@ -5,11 +5,11 @@ use Rattle.sql_dialect.specs.declared.backend.Dialect.{Dialect}
 use Rattle.sql_grammar.specs.MarkTree.{Name, Query}
 use Rattle.sql_grammar.specs.Reading.{IsReading, OnlyReading}
 use Rattle.sql_read.specs.Seen.{HasNoReading}
-use Rattle.sql_resolution.specs.Leaves.{tables_query}
-use Rattle.sql_resolution.specs.Meant.{name_at, meaning}
-use Rattle.sql_resolution.specs.Uses.{uses_query}
-use Rattle.sql_resolution.specs.declared.column_use.Meaning.{Meaning}
-use Rattle.sql_resolution.specs.declared.column_use.Meaning.TheVariants.{Nothing, Several, Column}
+use Rattle.sql_audit_resolution.specs.Leaves.{tables_query}
+use Rattle.sql_audit_resolution.specs.Meant.{name_at, meaning}
+use Rattle.sql_audit_resolution.specs.Uses.{uses_query}
+use Rattle.sql_audit_resolution.specs.declared.column_use.Meaning.{Meaning}
+use Rattle.sql_audit_resolution.specs.declared.column_use.Meaning.TheVariants.{Nothing, Several, Column}
 use Rattle.sql_schema.specs.declared.declaration.TableDecl.{TableDecl}
 use Rattle.sql_audit.specs.declared.error.AuditError.{AuditError}
 use Rattle.sql_audit.specs.declared.error.AuditError.TheVariants.{NotInGrammar, UnknownTable, NotInScope, Ambiguous, NoMemory}

@@ -1,18 +1,18 @@
 ghost use Rattle.std.specs.Prelude.{◌≡◌, ◌⊎◌, None, Some, IfOk, IfErr};
 ghost use Rattle.sql_grammar.specs.Reading.{OnlyReading};
 ghost use Rattle.sql_read.specs.Seen.{HasNoReading, tree_of};
-ghost use Rattle.sql_tree.specs.View.{query_tree};
+ghost use Rattle.sql_read_tree.specs.View.{query_tree};
 ghost use Rattle.sql_audit.specs.Report.{IsRefused, IsReported, IsReport, AreSettled, least_refusal, settled_refusal};
 ghost use Rattle.sql_audit.specs.declared.error.AuditError.TheVariants as error;
 
 use crate::error::AuditError;
 use crate::report::AuditReport;
 use crate::settled::{any_nothing, any_several, any_unknown, columns, known_tables};
+use sql_audit_resolution::{Resolution, resolve};
 use sql_dialect::Dialect;
 use sql_read::{ReadError, Tree, read};
-use sql_resolution::{Resolution, resolve};
+use sql_read_tree::Query;
 use sql_schema::{NoMemory, Schema, SqlList};
-use sql_tree::Query;
 use std::alloc::Global;
 
 fn read_text(alloc: Global, dialect: Dialect, text: &str) -> Result<Tree, AuditError>

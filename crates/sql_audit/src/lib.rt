@@ -9,4 +9,4 @@ mod settled;
 pub use auditing::audit;
 pub use error::AuditError;
 pub use report::AuditReport;
-pub use sql_resolution::ColumnUse;
+pub use sql_audit_resolution::ColumnUse;

@@ -1,4 +1,4 @@
-use sql_resolution::ColumnUse;
+use sql_audit_resolution::ColumnUse;
 use sql_schema::{SqlList, SqlText};
 
 /// Which tables and columns a text uses, by the names by which they are looked up.

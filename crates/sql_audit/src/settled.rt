@@ -3,7 +3,7 @@ ghost use Rattle.std.specs.List.{list_any};
 ghost use Rattle.sql_audit.specs.Report.{is_nothing, is_several};
 ghost use Rattle.sql_audit.specs.inside.Settled.{columns_among, known};
 
-use sql_resolution::{ColumnUse, Meaning};
+use sql_audit_resolution::{ColumnUse, Meaning};
 use sql_schema::{NoMemory, SqlText};
 use std::alloc::Global;
 

@@ -14,7 +14,7 @@ use Rattle.sql_schema.proofs.Exact.{exact-list}
 use Rattle.sql_schema.proofs.ExactTypes.{exact-text}
 use Rattle.sql_schema.proofs.RefusalLaws.{neither}
 use Rattle.sql_rules.specs.Lists.{AnyOf}
-use Rattle.sql_resolution.specs.Meant.{path_of_table, table_at}
+use Rattle.sql_audit_resolution.specs.Meant.{path_of_table, table_at}
 
 -- ## Equal lists
 

@@ -9,7 +9,7 @@ use Rattle.sql_pass.specs.declared.value.Value.{Value}
 use Rattle.sql_node.specs.Tree.{Origin, Expr, column, value, list, count_star, nullable, unary, count, compared, joined, exists, single, among_values, among_rows, Exprs, no_exprs, more_exprs, Items, no_items, more_items, MaybeExpr, no_expr, an_expr, Source, of_table, of_alias, join, From, no_source, from, Distinct, every, distinct, distinct_on, Order, no_order, order_by, Statement, select, combination}
 use Rattle.sql_rules.specs.Lists.{Each}
 use Rattle.sql_rules.specs.Scope.{View, origins, origins_of, widest, parts, in_expr, in_exprs, in_items, in_maybe, in_source, in_from, in_distinct, in_order}
-use Rattle.sql_law.proofs.Lists.{each_append, each_front, each_back}
+use Rattle.sql_rules_law.proofs.Lists.{each_append, each_front, each_back}
 use Rattle.sql_audit_law.specs.Own.{kept, sources_expr, sources_exprs, sources_items, sources_maybe, sources_source, sources_from, sources_distinct, sources_order, sources}
 use Rattle.sql_audit_law.proofs.Sought.{IsKnown}
 use Rattle.sql_audit_law.proofs.Uses.{FinePart, origins-join}

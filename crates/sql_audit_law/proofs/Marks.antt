@@ -3,9 +3,9 @@ use Rattle.std.proofs.Common.{◌≡◌, ℕ, suc, ◌+◌, List, [], ◌∷◌,
 use Rattle.sql_grammar.specs.Numbering.{after, each_expression, each_expressions, each_items, each_source, each_maybe, each_maybe_expressions, each_maybe_items, each_maybe_source, each_distinct, each_query}
 use Rattle.sql_grammar.specs.Values.{values_expression, values_expressions, values_source, values_maybe, values_maybe_expressions, values_maybe_items, values_maybe_source, values_distinct, values_query}
 use Rattle.sql_grammar.specs.Tree.{Expression, Path, Placeholder, SingleValue, Exists, Compared, Connected, Not, NullTest, CountAll, Count, InList, InQuery, Constant, Expressions, OnlyExpression, MoreExpression, Items, OnlyItem, MoreItem, Source, Table, Alias, Join, MaybeExpression, NoExpression, SomeExpression, MaybeExpressions, NoExpressions, SomeExpressions, MaybeItems, NoItems, SomeItems, MaybeSource, NoSource, SomeSource, Distinctness, Every, Distinct, DistinctOn, Query, Select, Combined}
-use Rattle.sql_resolution.specs.Leaves as l
-use Rattle.sql_resolution.specs.Leaves.{Level}
-use Rattle.sql_resolution.specs.Uses as u
+use Rattle.sql_audit_resolution.specs.Leaves as l
+use Rattle.sql_audit_resolution.specs.Leaves.{Level}
+use Rattle.sql_audit_resolution.specs.Uses as u
 use Rattle.sql_audit_law.proofs.Pairs.{both}
 
 module _ {M N : Type 0} (f : ℕ → M → N) where

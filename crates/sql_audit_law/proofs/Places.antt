@@ -14,12 +14,12 @@ use Rattle.sql_pass.specs.declared.value.Value.{Value}
 use Rattle.sql_leaf.specs.declared.operator.Unary.{Unary}
 use Rattle.sql_leaf.specs.declared.operator.Unary.TheVariants.{Not, IsNull, IsNotNull}
 use Rattle.sql_node.specs.Tree.{Origin, Expr, column, value, list, count_star, nullable, unary, count, compared, joined, exists, single, among_values, among_rows, Exprs, no_exprs, more_exprs, Items, no_items, more_items, MaybeExpr, no_expr, an_expr, Source, of_table, of_alias, join, From, no_source, from, Distinct, every, distinct, distinct_on, Order, no_order, order_by, Statement, select, combination}
-use Rattle.sql_reading.specs.Filled.{first_name, more_names, column_path, lead, expressions_from, expressions_of, Item, items_from, items_of, one_by_one, among_as, trees, trees_in, item_trees, maybe_tree, group_tree, on_tree, source_tree, from_tree, distinct_tree, order_tree, filled}
-use Rattle.sql_reading.specs.Words.{comparison_of, logic_of, unary_tree}
-use Rattle.sql_reading.specs.inside.HasText.{IsSingle, ExprHasText, ExprsHaveText, ItemsHaveText, MaybeHasText, GroupHasText, OnHasText, SourceHasText, FromHasText, DistinctHasText, OrderHasText, HasText}
-use Rattle.sql_resolution.specs.Leaves as l
-use Rattle.sql_resolution.specs.Leaves.{Backwards, backwards}
-use Rattle.sql_resolution.specs.Meant.{path_of_table}
+use Rattle.sql_normal.specs.Filled.{first_name, more_names, column_path, lead, expressions_from, expressions_of, Item, items_from, items_of, one_by_one, among_as, trees, trees_in, item_trees, maybe_tree, group_tree, on_tree, source_tree, from_tree, distinct_tree, order_tree, filled}
+use Rattle.sql_normal.specs.Words.{comparison_of, logic_of, unary_tree}
+use Rattle.sql_normal.specs.inside.HasText.{IsSingle, ExprHasText, ExprsHaveText, ItemsHaveText, MaybeHasText, GroupHasText, OnHasText, SourceHasText, FromHasText, DistinctHasText, OrderHasText, HasText}
+use Rattle.sql_audit_resolution.specs.Leaves as l
+use Rattle.sql_audit_resolution.specs.Leaves.{Backwards, backwards}
+use Rattle.sql_audit_resolution.specs.Meant.{path_of_table}
 use Rattle.sql_audit_law.specs.Own.{kept, sources_expr, sources_exprs, sources_items, sources_maybe, sources_source, sources_from, sources_distinct, sources_order, sources}
 use Rattle.sql_audit_law.proofs.Pairs.{both}
 

@@ -19,24 +19,24 @@ use Rattle.sql_pass.specs.Pieces.{text_of}
 use Rattle.sql_pass.specs.declared.value.Bound.{Bound}
 use Rattle.sql_node.specs.Pieces.{pieces}
 use Rattle.sql_node.specs.Tree.{Origin, Expr, column, Statement}
-use Rattle.sql_reading.specs.Filled.{filled, normal}
-use Rattle.sql_reading.specs.inside.HasText.{HasText}
+use Rattle.sql_normal.specs.Filled.{filled, normal}
+use Rattle.sql_normal.specs.inside.HasText.{HasText}
 use Rattle.sql_rules.specs.Counted.{PlacesAreCounted}
 use Rattle.sql_rules.specs.Lists.{AnyOf, Each}
 use Rattle.sql_rules.specs.Names.{IsNamed}
 use Rattle.sql_rules.specs.Rules.{IsTable, IsColumn, IsUnknownColumn, PartBreaks, Broken, Accepted}
 use Rattle.sql_rules.specs.Scope.{View, Part, a_select, a_combination, parts, Clause, clauses, own, nodes, EachExprIn}
 use Rattle.sql_rules.specs.declared.rule.Rule.TheVariants as R
-use Rattle.sql_law.proofs.Lists.{each_not, each_both, each_map, each_apply, any_or_none}
-use Rattle.sql_law.proofs.Naming.{names_one_leaf}
-use Rattle.sql_law.proofs.ReadLaws as read
-use Rattle.sql_law.proofs.TextLaws.{has_text}
-use Rattle.sql_resolution.specs.Leaves as l
-use Rattle.sql_resolution.specs.Meant.{name_at, meaning, path_of_table, table_at}
-use Rattle.sql_resolution.specs.Uses as u
-use Rattle.sql_resolution.specs.declared.column_use.ColumnUse.{ColumnUse}
-use Rattle.sql_resolution.specs.declared.column_use.Meaning.{Meaning}
-use Rattle.sql_resolution.specs.declared.column_use.Meaning.TheVariants.{Nothing, Several, Column}
+use Rattle.sql_rules_law.proofs.Lists.{each_not, each_both, each_map, each_apply, any_or_none}
+use Rattle.sql_rules_law.proofs.Naming.{names_one_leaf}
+use Rattle.sql_rules_law.proofs.ReadLaws as read
+use Rattle.sql_rules_law.proofs.TextLaws.{has_text}
+use Rattle.sql_audit_resolution.specs.Leaves as l
+use Rattle.sql_audit_resolution.specs.Meant.{name_at, meaning, path_of_table, table_at}
+use Rattle.sql_audit_resolution.specs.Uses as u
+use Rattle.sql_audit_resolution.specs.declared.column_use.ColumnUse.{ColumnUse}
+use Rattle.sql_audit_resolution.specs.declared.column_use.Meaning.{Meaning}
+use Rattle.sql_audit_resolution.specs.declared.column_use.Meaning.TheVariants.{Nothing, Several, Column}
 use Rattle.sql_audit.specs.Report.{tables_of, meanings_of, is_nothing, is_several, settled_refusal, IsReport, IsReported}
 use Rattle.sql_audit.specs.declared.report.AuditReport.{AuditReport}
 use Rattle.sql_audit_law.specs.Own.{sources, columns_in, IsOwnReport}

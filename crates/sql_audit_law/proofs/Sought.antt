@@ -15,11 +15,11 @@ use Rattle.sql_origin.specs.Origins.{exposed_path}
 use Rattle.sql_rules.specs.Lists.{AnyOf, IsSuffix}
 use Rattle.sql_rules.specs.Names.{path, Names, NamesOnly}
 use Rattle.sql_rules.specs.Scope.{View}
-use Rattle.sql_resolution.specs.Leaves.{Backwards, Leaf, Level}
-use Rattle.sql_resolution.specs.Meant.{path_of_table, table_at, column_at, named, named_in, one_of, sought}
-use Rattle.sql_resolution.specs.declared.column_use.ColumnUse.{ColumnUse}
-use Rattle.sql_resolution.specs.declared.column_use.Meaning.{Meaning}
-use Rattle.sql_resolution.specs.declared.column_use.Meaning.TheVariants.{Nothing, Several, Column}
+use Rattle.sql_audit_resolution.specs.Leaves.{Backwards, Leaf, Level}
+use Rattle.sql_audit_resolution.specs.Meant.{path_of_table, table_at, column_at, named, named_in, one_of, sought}
+use Rattle.sql_audit_resolution.specs.declared.column_use.ColumnUse.{ColumnUse}
+use Rattle.sql_audit_resolution.specs.declared.column_use.Meaning.{Meaning}
+use Rattle.sql_audit_resolution.specs.declared.column_use.Meaning.TheVariants.{Nothing, Several, Column}
 use Rattle.sql_audit_law.specs.Own.{AllPairs}
 use Rattle.sql_audit_law.proofs.Found.{same_bytes, same_names, exact-names, table-found, column-found, some-passes}
 

@@ -13,15 +13,15 @@ use Rattle.sql_pass.specs.declared.value.Bound.TheVariants.{Value as OneValue}
 use Rattle.sql_pass.specs.declared.value.Value.{Value}
 use Rattle.sql_node.specs.Tree.{Origin, Expr}
 use Rattle.sql_origin.specs.Origins.{exposed_path}
-use Rattle.sql_reading.specs.Filled.{first_name, more_names, column_path, lead, expressions_from, expressions_of, Item, items_from, items_of, among_as, trees}
-use Rattle.sql_reading.specs.inside.HasText.{IsSingle}
-use Rattle.sql_resolution.specs.Leaves as l
-use Rattle.sql_resolution.specs.Leaves.{Backwards, backwards, Level}
-use Rattle.sql_resolution.specs.Meant.{meaning}
-use Rattle.sql_resolution.specs.Uses as u
-use Rattle.sql_resolution.specs.Uses.{Use}
-use Rattle.sql_resolution.specs.declared.column_use.ColumnUse.{ColumnUse}
-use Rattle.sql_resolution.specs.declared.column_use.Meaning.TheVariants.{Column}
+use Rattle.sql_normal.specs.Filled.{first_name, more_names, column_path, lead, expressions_from, expressions_of, Item, items_from, items_of, among_as, trees}
+use Rattle.sql_normal.specs.inside.HasText.{IsSingle}
+use Rattle.sql_audit_resolution.specs.Leaves as l
+use Rattle.sql_audit_resolution.specs.Leaves.{Backwards, backwards, Level}
+use Rattle.sql_audit_resolution.specs.Meant.{meaning}
+use Rattle.sql_audit_resolution.specs.Uses as u
+use Rattle.sql_audit_resolution.specs.Uses.{Use}
+use Rattle.sql_audit_resolution.specs.declared.column_use.ColumnUse.{ColumnUse}
+use Rattle.sql_audit_resolution.specs.declared.column_use.Meaning.TheVariants.{Column}
 use Rattle.sql_audit_law.specs.Own.{AllPairs, IsOwn, Owned, kept}
 use Rattle.sql_audit_law.proofs.Pairs.{both, pairs_append, get_front, get_back}
 use Rattle.sql_audit_law.proofs.Places.{in_trees, alone}

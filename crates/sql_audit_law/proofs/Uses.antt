@@ -18,16 +18,16 @@ use Rattle.sql_leaf.specs.declared.operator.Unary.TheVariants.{Not, IsNull, IsNo
 use Rattle.sql_node.specs.Tree.{Origin, Form, unboxed, boxed, Expr, column, value, list, count_star, nullable, unary, count, compared, joined, exists, single, among_values, among_rows, Exprs, no_exprs, more_exprs, Items, no_items, more_items, MaybeExpr, no_expr, an_expr, Source, of_table, of_alias, join, From, no_source, from, Distinct, every, distinct, distinct_on, Order, no_order, order_by, Statement, select, combination}
 use Rattle.sql_origin.specs.Leaves.{Leaf, leaves, in_right_side}
 use Rattle.sql_origin.specs.Origins.{a_table, an_alias}
-use Rattle.sql_reading.specs.Filled.{first_name, more_names, column_path, lead, expressions_of, among_as, trees, trees_in, item_trees, maybe_tree, group_tree, on_tree, source_tree, from_tree, distinct_tree, order_tree, filled}
-use Rattle.sql_reading.specs.Words.{comparison_of, logic_of, unary_tree}
-use Rattle.sql_reading.specs.inside.HasText.{IsSingle, ExprHasText, ExprsHaveText, ItemsHaveText, MaybeHasText, GroupHasText, OnHasText, SourceHasText, FromHasText, DistinctHasText, OrderHasText, HasText}
+use Rattle.sql_normal.specs.Filled.{first_name, more_names, column_path, lead, expressions_of, among_as, trees, trees_in, item_trees, maybe_tree, group_tree, on_tree, source_tree, from_tree, distinct_tree, order_tree, filled}
+use Rattle.sql_normal.specs.Words.{comparison_of, logic_of, unary_tree}
+use Rattle.sql_normal.specs.inside.HasText.{IsSingle, ExprHasText, ExprsHaveText, ItemsHaveText, MaybeHasText, GroupHasText, OnHasText, SourceHasText, FromHasText, DistinctHasText, OrderHasText, HasText}
 use Rattle.sql_rules.specs.Lists.{AnyOf, Each}
 use Rattle.sql_rules.specs.Names.{path, NamesOnly}
 use Rattle.sql_rules.specs.Scope.{View, origins, origins_of, widest, Part, a_select, a_combination, parts, in_expr, in_exprs, in_items, in_maybe, in_source, in_from, in_distinct, in_order, Place, in_selection, in_on, in_where, in_group_by, in_having, Clause, clauses, maybe_clause, ons, ons_of, distinct_clause, item_clauses, order_clauses, own, nodes, nodes_of}
-use Rattle.sql_law.proofs.Lists.{each_front, each_back}
-use Rattle.sql_resolution.specs.Leaves as l
-use Rattle.sql_resolution.specs.Leaves.{Level, backwards}
-use Rattle.sql_resolution.specs.Uses as u
+use Rattle.sql_rules_law.proofs.Lists.{each_front, each_back}
+use Rattle.sql_audit_resolution.specs.Leaves as l
+use Rattle.sql_audit_resolution.specs.Leaves.{Level, backwards}
+use Rattle.sql_audit_resolution.specs.Uses as u
 use Rattle.sql_audit_law.specs.Own.{AllPairs, kept, sources_expr, sources_exprs, sources_items, sources_maybe, sources_source, sources_from, sources_distinct, sources_order, sources, columns_expr, columns_exprs, columns_items, columns_maybe, columns_source, columns_from, columns_distinct, columns_order, columns_in}
 use Rattle.sql_audit_law.proofs.Pairs.{pairs_append}
 use Rattle.sql_audit_law.proofs.Places as places

@@ -5,12 +5,12 @@ use Rattle.sql_node.specs.View.{select_statement_tree, boxed_select_statement_tr
 use Rattle.sql_node.specs.declared.boxed.BoxedSelectStatement.{BoxedSelectStatement}
 use Rattle.sql_node.specs.declared.combination.CombinationClause.{CombinationClause}
 use Rattle.sql_node.specs.declared.statement.SelectStatement.{SelectStatement}
-use Rattle.sql_syntax.specs.Forms.{plain_stands, clause_stands}
-use Rattle.sql_syntax.specs.declared.call.ClauseCall.{ClauseCall}
-use Rattle.sql_syntax.specs.declared.call.ClauseCall.TheVariants as clause
-use Rattle.sql_syntax.specs.declared.call.PlainCall.{PlainCall}
-use Rattle.sql_syntax.specs.declared.call.PlainCall.TheVariants as plain
-use Rattle.sql_syntax.specs.declared.form.Form.TheVariants as form
+use Rattle.sql_build_syntax.specs.Forms.{plain_stands, clause_stands}
+use Rattle.sql_build_syntax.specs.declared.call.ClauseCall.{ClauseCall}
+use Rattle.sql_build_syntax.specs.declared.call.ClauseCall.TheVariants as clause
+use Rattle.sql_build_syntax.specs.declared.call.PlainCall.{PlainCall}
+use Rattle.sql_build_syntax.specs.declared.call.PlainCall.TheVariants as plain
+use Rattle.sql_build_syntax.specs.declared.form.Form.TheVariants as form
 use Rattle.sql_build.specs.Made.{form_of}
 use Rattle.sql_build.specs.Named.{only_where}
 

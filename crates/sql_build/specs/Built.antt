@@ -14,8 +14,8 @@ use Rattle.sql_select.specs.Clauses.{only}
 use Rattle.sql_select.specs.Finding.{found}
 use Rattle.sql_select.specs.Joins.{joined}
 use Rattle.sql_select.specs.Simple.{simple}
-use Rattle.sql_syntax.specs.Forms.{stands}
-use Rattle.sql_syntax.specs.Tree.{Expr, list, count_star, column, field, bind, unary, binary, exists, single_value, quantified, Exprs, no_exprs, more_exprs, MaybeExpr, no_expr, an_expr, Membership, values, rows, Items, no_items, more_items, Source, of_table, of_alias, join, Start, from, select, Query, query, Calls, no_calls, more_calls, Call, plain, clause, join_with, find, order, then_order_by, limit, offset, into_boxed, combine, positional_order_by}
+use Rattle.sql_build_syntax.specs.Forms.{stands}
+use Rattle.sql_build_syntax.specs.Tree.{Expr, list, count_star, column, field, bind, unary, binary, exists, single_value, quantified, Exprs, no_exprs, more_exprs, MaybeExpr, no_expr, an_expr, Membership, values, rows, Items, no_items, more_items, Source, of_table, of_alias, join, Start, from, select, Query, query, Calls, no_calls, more_calls, Call, plain, clause, join_with, find, order, then_order_by, limit, offset, into_boxed, combine, positional_order_by}
 use Rattle.sql_build.specs.Made.{made_of_one, made_of_two, is_negated, form_of, plain_made, clause_made}
 use Rattle.sql_build.specs.Named.{◌>>=◌, both, only_where, named_column, named_field, named_table, named_alias}
 

@@ -5,18 +5,18 @@ use Rattle.sql_leaf.specs.declared.locking.Modifier.TheVariants as way
 use Rattle.sql_node.specs.Tree.{Expr, count_star, nullable, unary as over, count, compared, joined, Statement, select, combination, distinct, distinct_on, Form as Kind, unboxed, boxed}
 use Rattle.sql_leaf.specs.declared.operator.Logic.TheVariants.{And, Or}
 use Rattle.sql_select.specs.Changes.{selected, nulled, with_distinct, filtered, grouped, with_having, locked, modified}
-use Rattle.sql_syntax.specs.declared.call.ClauseCall.{ClauseCall}
-use Rattle.sql_syntax.specs.declared.call.ClauseCall.TheVariants as clause
-use Rattle.sql_syntax.specs.declared.call.PlainCall.{PlainCall}
-use Rattle.sql_syntax.specs.declared.call.PlainCall.TheVariants as plain
-use Rattle.sql_syntax.specs.declared.expr.BinaryOperator.{BinaryOperator}
-use Rattle.sql_syntax.specs.declared.expr.BinaryOperator.TheVariants as binary
-use Rattle.sql_syntax.specs.declared.expr.Quantified.{Quantified}
-use Rattle.sql_syntax.specs.declared.expr.Quantified.TheVariants as quantified
-use Rattle.sql_syntax.specs.declared.expr.UnaryOperator.{UnaryOperator}
-use Rattle.sql_syntax.specs.declared.expr.UnaryOperator.TheVariants as unary
-use Rattle.sql_syntax.specs.declared.form.Form.{Form}
-use Rattle.sql_syntax.specs.declared.form.Form.TheVariants as form
+use Rattle.sql_build_syntax.specs.declared.call.ClauseCall.{ClauseCall}
+use Rattle.sql_build_syntax.specs.declared.call.ClauseCall.TheVariants as clause
+use Rattle.sql_build_syntax.specs.declared.call.PlainCall.{PlainCall}
+use Rattle.sql_build_syntax.specs.declared.call.PlainCall.TheVariants as plain
+use Rattle.sql_build_syntax.specs.declared.expr.BinaryOperator.{BinaryOperator}
+use Rattle.sql_build_syntax.specs.declared.expr.BinaryOperator.TheVariants as binary
+use Rattle.sql_build_syntax.specs.declared.expr.Quantified.{Quantified}
+use Rattle.sql_build_syntax.specs.declared.expr.Quantified.TheVariants as quantified
+use Rattle.sql_build_syntax.specs.declared.expr.UnaryOperator.{UnaryOperator}
+use Rattle.sql_build_syntax.specs.declared.expr.UnaryOperator.TheVariants as unary
+use Rattle.sql_build_syntax.specs.declared.form.Form.{Form}
+use Rattle.sql_build_syntax.specs.declared.form.Form.TheVariants as form
 
 -- ---- operators
 

@@ -4,10 +4,10 @@ use Rattle.sql_schema.specs.Columns.{DeclaredColumn, table_named, column_in}
 use Rattle.sql_schema.specs.declared.declaration.TableDecl.{TableDecl}
 use Rattle.sql_node.specs.Tree.{Expr, Source, of_table as table_source, of_alias as alias_source}
 use Rattle.sql_origin.specs.Origins.{column_under}
-use Rattle.sql_syntax.specs.declared.name.AliasName.{AliasName}
-use Rattle.sql_syntax.specs.declared.name.ColumnName.{ColumnName}
-use Rattle.sql_syntax.specs.declared.name.FieldName.{FieldName}
-use Rattle.sql_syntax.specs.declared.name.TableName.{TableName}
+use Rattle.sql_build_syntax.specs.declared.name.AliasName.{AliasName}
+use Rattle.sql_build_syntax.specs.declared.name.ColumnName.{ColumnName}
+use Rattle.sql_build_syntax.specs.declared.name.FieldName.{FieldName}
+use Rattle.sql_build_syntax.specs.declared.name.TableName.{TableName}
 
 -- ---- none, where a name is not found
 

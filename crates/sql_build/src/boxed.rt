@@ -2,15 +2,15 @@
 
 ghost use Rattle.std.specs.Prelude.{◌≡◌, IfOk, Some, option_map};
 ghost use Rattle.sql_node.specs.View.{boxed_select_statement_tree, expr_tree};
-ghost use Rattle.sql_syntax.specs.Forms.{clause_stands, plain_stands};
-ghost use Rattle.sql_syntax.specs.declared.form.Form.TheVariants as form;
+ghost use Rattle.sql_build_syntax.specs.Forms.{clause_stands, plain_stands};
+ghost use Rattle.sql_build_syntax.specs.declared.form.Form.TheVariants as form;
 ghost use Rattle.sql_build.specs.Made.{clause_made, plain_made};
 ghost use Rattle.sql_build.specs.Named.{only_where};
 
+use sql_build_syntax::{ClauseCall, PlainCall};
 use sql_expr::{BoxedSelectStatement, Expr};
 use sql_schema::NoMemory;
 use sql_select::QueryDsl;
-use sql_syntax::{ClauseCall, PlainCall};
 use std::alloc::Global;
 
 pub(crate) fn plain(

@@ -1,25 +1,25 @@
 ghost use Rattle.std.specs.Prelude.{◌≡◌, IfOk, map, option_map};
 ghost use Rattle.sql_expr.specs.Joining.{side_tree};
 ghost use Rattle.sql_node.specs.View.{expr_tree, in_values_tree, order_item_tree, source_tree, statement_tree};
-ghost use Rattle.sql_syntax.specs.Forms.{stands};
-ghost use Rattle.sql_syntax.specs.View as written;
+ghost use Rattle.sql_build_syntax.specs.Forms.{stands};
+ghost use Rattle.sql_build_syntax.specs.View as written;
 ghost use Rattle.sql_build.specs.Built.{call_in, calls_in, directed, expr_in, exprs_in, items_in, maybe_in, membership_in, side_of, source_in, start_in, statement_in};
 ghost use Rattle.sql_build.specs.Made.{form_of};
 ghost use Rattle.sql_build.specs.Named.{both, only_where};
 
 use crate::{call, name, operator, source};
-use sql_depth::{is_expr_too_deep, is_too_deep, is_too_deep_restricted};
+use sql_build_depth::{is_expr_too_deep, is_too_deep, is_too_deep_restricted};
+use sql_build_syntax::{Call, Membership, Query, QueryStart};
 use sql_dialect::Dialect;
 use sql_expr::{Expr, InValues, JoinRhs, OrderItem, Source, Statement, count_star};
 use sql_schema::{NoMemory, Schema};
-use sql_syntax::{Call, Membership, Query, QueryStart};
 use std::alloc::{AllocError, Global};
 
 /// The statement that the query stands for, its names looked up in the schema and its calls made in their order. `into_boxed`
 /// without a dialect boxes for this one. None where the query names a table or a column that the schema lacks, in a join, a
 /// subselect or a side of a combination too; and where a call does not stand on the form that the calls before it give.
 ///
-/// A query that nests deeper than `MAX_DEPTH` of `sql_depth` is NoMemory: what builds, checks, writes and drops its statement recurses
+/// A query that nests deeper than `MAX_DEPTH` of `sql_build_depth` is NoMemory: what builds, checks, writes and drops its statement recurses
 /// over it, and the stack may not suffice.
 pub fn statement(
     alloc: Global,
@@ -65,7 +65,7 @@ pub fn expression(
     alloc: Global,
     schema: &Schema,
     dialect: Dialect,
-    expr: &sql_syntax::Expr,
+    expr: &sql_build_syntax::Expr,
 ) -> Result<Option<Expr>, NoMemory>
     ensures { IfOk result (λ o. option_map expr_tree o
         ≡ expr_in schema.now dialect (written.expr_tree expr.now)) }
@@ -91,40 +91,40 @@ struct Builder<'a> {
 
 impl Builder<'_> {
     #[cycle(build)]
-    #[tactic(auto, using(sql_syntax::proofs::Trees::opens_expr))]
-    fn expr(self, expr: &sql_syntax::Expr) -> Result<Option<Expr>, NoMemory>
+    #[tactic(auto, using(sql_build_syntax::proofs::Trees::opens_expr))]
+    fn expr(self, expr: &sql_build_syntax::Expr) -> Result<Option<Expr>, NoMemory>
         ensures { IfOk result (λ o. option_map expr_tree o
             ≡ expr_in self.entry.schema.now self.entry.dialect (written.expr_tree expr.now)) }
     {
         match expr {
-            sql_syntax::Expr::List(exprs) => {
+            sql_build_syntax::Expr::List(exprs) => {
                 let exprs = self.exprs(exprs.as_slice())?;
                 Ok(operator::list(exprs))
             }
-            sql_syntax::Expr::CountStar => Ok(Some(count_star())),
-            sql_syntax::Expr::Column(name) => name::column(self.alloc, self.schema, name),
-            sql_syntax::Expr::Field(name) => name::field(self.alloc, self.schema, name),
-            sql_syntax::Expr::Bind(ty, value) => {
+            sql_build_syntax::Expr::CountStar => Ok(Some(count_star())),
+            sql_build_syntax::Expr::Column(name) => name::column(self.alloc, self.schema, name),
+            sql_build_syntax::Expr::Field(name) => name::field(self.alloc, self.schema, name),
+            sql_build_syntax::Expr::Bind(ty, value) => {
                 Ok(Some(operator::bind(self.alloc, *ty, value)?))
             }
-            sql_syntax::Expr::Unary(by, operand) => {
+            sql_build_syntax::Expr::Unary(by, operand) => {
                 let operand = self.expr(operand)?;
                 operator::unary(self.alloc, *by, operand)
             }
-            sql_syntax::Expr::Binary(by, left, right) => {
+            sql_build_syntax::Expr::Binary(by, left, right) => {
                 let left = self.expr(left)?;
                 let right = self.expr(right)?;
                 operator::binary(self.alloc, *by, left, right)
             }
-            sql_syntax::Expr::Exists(query) => {
+            sql_build_syntax::Expr::Exists(query) => {
                 let statement = self.query(query)?;
                 operator::existence(self.alloc, statement)
             }
-            sql_syntax::Expr::SingleValue(query) => {
+            sql_build_syntax::Expr::SingleValue(query) => {
                 let statement = self.query(query)?;
                 operator::single_value(self.alloc, statement)
             }
-            sql_syntax::Expr::Quantified(by, sought, among) => {
+            sql_build_syntax::Expr::Quantified(by, sought, among) => {
                 let sought = self.expr(sought)?;
                 let among = self.membership(among)?;
                 operator::quantified(self.alloc, *by, sought, among)
@@ -134,7 +134,7 @@ impl Builder<'_> {
 
     #[cycle(build)]
     #[tactic(auto, using(crate::proofs::Front::fronts))]
-    fn exprs(self, exprs: &[sql_syntax::Expr]) -> Result<Option<Vec<Expr>>, NoMemory>
+    fn exprs(self, exprs: &[sql_build_syntax::Expr]) -> Result<Option<Vec<Expr>>, NoMemory>
         ensures { IfOk result (λ o. option_map (λ v. map expr_tree v.items) o
             ≡ exprs_in self.entry.schema.now self.entry.dialect
             (written.exprs_of (map written.expr_tree exprs.now))) }
@@ -150,7 +150,7 @@ impl Builder<'_> {
     }
 
     #[cycle(build)]
-    #[tactic(auto, using(sql_syntax::proofs::Trees::opens_membership))]
+    #[tactic(auto, using(sql_build_syntax::proofs::Trees::opens_membership))]
     fn membership(self, membership: &Membership) -> Result<Option<InValues>, NoMemory>
         ensures { IfOk result (λ o. option_map in_values_tree o
             ≡ membership_in self.entry.schema.now self.entry.dialect
@@ -169,8 +169,8 @@ impl Builder<'_> {
     }
 
     #[cycle(build)]
-    #[tactic(auto, using(sql_syntax::proofs::Trees::opens_order_item, sql_node::proofs::Trees::opens_order_item))]
-    fn item(self, item: &sql_syntax::OrderItem) -> Result<Option<OrderItem>, NoMemory>
+    #[tactic(auto, using(sql_build_syntax::proofs::Trees::opens_order_item, sql_node::proofs::Trees::opens_order_item))]
+    fn item(self, item: &sql_build_syntax::OrderItem) -> Result<Option<OrderItem>, NoMemory>
         ensures { IfOk result (λ o. option_map order_item_tree o
             ≡ option_map (directed (written.order_item_tree item.now).1)
             (expr_in self.entry.schema.now self.entry.dialect
@@ -187,7 +187,10 @@ impl Builder<'_> {
 
     #[cycle(build)]
     #[tactic(auto, using(crate::proofs::Front::fronts))]
-    fn items(self, items: &[sql_syntax::OrderItem]) -> Result<Option<Vec<OrderItem>>, NoMemory>
+    fn items(
+        self,
+        items: &[sql_build_syntax::OrderItem],
+    ) -> Result<Option<Vec<OrderItem>>, NoMemory>
         ensures { IfOk result (λ o. option_map (λ v. map order_item_tree v.items) o
             ≡ items_in self.entry.schema.now self.entry.dialect
             (written.items_of (map written.order_item_tree items.now))) }
@@ -203,21 +206,21 @@ impl Builder<'_> {
     }
 
     #[cycle(build)]
-    #[tactic(auto, using(sql_syntax::proofs::Trees::opens_source))]
-    fn source(self, source: &sql_syntax::Source) -> Result<Option<Source>, NoMemory>
+    #[tactic(auto, using(sql_build_syntax::proofs::Trees::opens_source))]
+    fn source(self, source: &sql_build_syntax::Source) -> Result<Option<Source>, NoMemory>
         ensures { IfOk result (λ o. option_map source_tree o
             ≡ source_in self.entry.schema.now self.entry.dialect (written.source_tree source.now)) }
     {
         match source {
-            sql_syntax::Source::Table(name) => name::table(self.alloc, self.schema, name),
-            sql_syntax::Source::Alias(name) => name::alias(self.alloc, self.schema, name),
-            sql_syntax::Source::Join(join) => self.join(join),
+            sql_build_syntax::Source::Table(name) => name::table(self.alloc, self.schema, name),
+            sql_build_syntax::Source::Alias(name) => name::alias(self.alloc, self.schema, name),
+            sql_build_syntax::Source::Join(join) => self.join(join),
         }
     }
 
     #[cycle(build)]
-    #[tactic(auto, using(sql_syntax::proofs::Trees::opens_join))]
-    fn join(self, join: &sql_syntax::Join) -> Result<Option<Source>, NoMemory>
+    #[tactic(auto, using(sql_build_syntax::proofs::Trees::opens_join))]
+    fn join(self, join: &sql_build_syntax::Join) -> Result<Option<Source>, NoMemory>
         ensures { IfOk result (λ o. option_map source_tree o
             ≡ source_in self.entry.schema.now self.entry.dialect (written.join_tree join.now)) }
     {
@@ -231,7 +234,7 @@ impl Builder<'_> {
     #[cycle(build)]
     fn side(
         self,
-        on: &Option<sql_syntax::Expr>,
+        on: &Option<sql_build_syntax::Expr>,
         source: Option<Source>,
     ) -> Result<Option<JoinRhs>, NoMemory>
         ensures { IfOk result (λ o. option_map side_tree o
@@ -249,7 +252,7 @@ impl Builder<'_> {
     }
 
     #[cycle(build)]
-    #[tactic(auto, using(sql_syntax::proofs::Trees::opens_query_start))]
+    #[tactic(auto, using(sql_build_syntax::proofs::Trees::opens_query_start))]
     fn start(self, start: &QueryStart) -> Result<Option<Statement>, NoMemory>
         ensures { IfOk result (λ o. option_map statement_tree o
             ≡ start_in self.entry.schema.now self.entry.dialect
@@ -268,7 +271,7 @@ impl Builder<'_> {
     }
 
     #[cycle(build)]
-    #[tactic(auto, using(sql_syntax::proofs::Trees::opens_query))]
+    #[tactic(auto, using(sql_build_syntax::proofs::Trees::opens_query))]
     fn query(self, query: &Query) -> Result<Option<Statement>, NoMemory>
         ensures { IfOk result (λ o. option_map statement_tree o
             ≡ statement_in self.entry.schema.now self.entry.dialect
@@ -297,7 +300,7 @@ impl Builder<'_> {
     }
 
     #[cycle(build)]
-    #[tactic(auto, using(sql_syntax::proofs::Trees::opens_call, crate::proofs::Standing::always))]
+    #[tactic(auto, using(sql_build_syntax::proofs::Trees::opens_call, crate::proofs::Standing::always))]
     fn call(self, call: &Call, statement: Statement) -> Result<Option<Statement>, NoMemory>
         ensures { IfOk result (λ o. option_map statement_tree o
             ≡ only_where

@@ -10,17 +10,17 @@ ghost use Rattle.sql_node.specs.View.{expr_tree, items_of, order_item_tree, stat
 ghost use Rattle.sql_select.specs.Changes.{boxed_for, combined, limited, offset_by, ordered, ordered_by_places, ordered_then};
 ghost use Rattle.sql_select.specs.Finding.{found};
 ghost use Rattle.sql_select.specs.Joins.{joined};
-ghost use Rattle.sql_syntax.specs.Forms.{clause_stands, combines, is_unboxed, plain_stands, selects};
+ghost use Rattle.sql_build_syntax.specs.Forms.{clause_stands, combines, is_unboxed, plain_stands, selects};
 ghost use Rattle.sql_build.specs.Made.{clause_made, form_of, plain_made};
 ghost use Rattle.sql_build.specs.Named.{only_where};
 
 use crate::combination::combined_with;
 use crate::{boxed, select};
+use sql_build_syntax::{ClauseCall, PlainCall};
 use sql_dialect::{Combinator, Dialect, DuplicateRule};
 use sql_expr::{Expr, JoinKind, JoinRhs, OrderItem, PositionalItem, Statement};
 use sql_schema::{NoMemory, Schema};
 use sql_select::{PositionalOrderDsl, Query as _, QueryDsl};
-use sql_syntax::{ClauseCall, PlainCall};
 use std::alloc::Global;
 
 pub(crate) fn plain(

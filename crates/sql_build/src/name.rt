@@ -4,9 +4,9 @@ ghost use Rattle.std.specs.Prelude.{◌≡◌, IfOk, option_map};
 ghost use Rattle.sql_node.specs.View.{expr_tree, source_tree};
 ghost use Rattle.sql_build.specs.Named.{column_called, named_alias, named_column, named_field, named_table};
 
+use sql_build_syntax::{AliasName, ColumnName, FieldName, TableName};
 use sql_expr::{Alias, AliasedField, Expr, Source, TableSource};
 use sql_schema::{Column, NoMemory, Schema, SqlText};
-use sql_syntax::{AliasName, ColumnName, FieldName, TableName};
 use std::alloc::Global;
 
 #[tactic(auto, unfolding(crate::specs::Named::column_called))]

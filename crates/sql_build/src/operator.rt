@@ -7,12 +7,12 @@ ghost use Rattle.sql_select.specs.Changes.{single_value_of};
 ghost use Rattle.sql_build.specs.Made.{is_negated, made_of_one, made_of_two};
 ghost use Rattle.sql_build.specs.Named.{both};
 
+use sql_build_syntax::{BinaryOperator, Quantified, UnaryOperator};
 use sql_expr::{Expr, ExpressionMethods, InValues, Statement, count, exists, not};
 use sql_leaf::{Comparison, Logic, Unary};
 use sql_pass::Value;
 use sql_schema::{NoMemory, SqlList, SqlType};
 use sql_select::QueryDsl;
-use sql_syntax::{BinaryOperator, Quantified, UnaryOperator};
 use std::alloc::Global;
 
 /// `"users"."id", $1`.

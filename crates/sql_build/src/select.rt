@@ -5,11 +5,11 @@ ghost use Rattle.sql_node.specs.View.{boxed_select_statement_tree, expr_tree, se
 ghost use Rattle.sql_select.specs.Changes.{boxed_for};
 ghost use Rattle.sql_build.specs.Made.{clause_made, plain_made};
 
+use sql_build_syntax::{ClauseCall, PlainCall};
 use sql_dialect::{Bracket, Dialect, Mysql, Pg, Sqlite};
 use sql_expr::{BoxedSelectStatement, Expr, SelectStatement};
 use sql_schema::NoMemory;
 use sql_select::QueryDsl;
-use sql_syntax::{ClauseCall, PlainCall};
 use std::alloc::Global;
 
 pub(crate) fn plain(

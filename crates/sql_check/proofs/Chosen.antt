@@ -6,7 +6,7 @@ use Rattle.sql_node.specs.Tree.{Statement}
 use Rattle.sql_rules.specs.Rules.{Accepted, Broken, HasTooManyBinds}
 use Rattle.sql_rules.specs.declared.rule.Rule.{Rule}
 use Rattle.sql_rules.specs.declared.rule.Rule.TheVariants as R
-use Rattle.sql_judge.specs.First.{IsFirst, inner_rules}
+use Rattle.sql_rules_check.specs.First.{IsFirst, inner_rules}
 use Rattle.sql_check.specs.Compiled.{IsLeast}
 
 module _ (schema : Declarations) (d : Dialect) (s : Statement) where

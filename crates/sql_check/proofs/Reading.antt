@@ -7,7 +7,7 @@ use Rattle.sql_grammar.specs.Reading.{OnlyReading}
 use Rattle.sql_grammar.specs.Values.{values_query}
 use Rattle.sql_node.specs.Tree.{Statement}
 use Rattle.sql_pass.specs.declared.value.Bound.{Bound}
-use Rattle.sql_reading.specs.Filled.{filled, normal}
+use Rattle.sql_normal.specs.Filled.{filled, normal}
 use Rattle.sql_rules.specs.Names.{IsNamed}
 use Rattle.sql_rules.specs.Scope.{EachNode}
 use Rattle.sql_check.specs.Compiled.{IsRead, binds_of, sql_of}

@@ -10,7 +10,7 @@ use Rattle.sql_pass.specs.declared.value.Bound.{Bound}
 use Rattle.sql_key.specs.Keys.{id_of}
 use Rattle.sql_node.specs.Pieces.{pieces}
 use Rattle.sql_node.specs.Tree.{Statement}
-use Rattle.sql_reading.specs.Filled.{filled, normal}
+use Rattle.sql_normal.specs.Filled.{filled, normal}
 use Rattle.sql_rules.specs.Lists.{Each}
 use Rattle.sql_rules.specs.Names.{IsNamed}
 use Rattle.sql_rules.specs.Rules.{Accepted, Broken, all_rules}

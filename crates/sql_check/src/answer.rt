@@ -3,14 +3,14 @@
 ghost use Rattle.std.specs.Prelude.{◌≡◌, ◌+◌, ◌*◌, ◌≤◌, IfOk, IsErrOf, OnOk, length};
 ghost use Rattle.sql_node.specs.Tree.{Statement};
 ghost use Rattle.sql_flat.specs.Flat.{flat_of};
-ghost use Rattle.sql_fused.specs.Steps.{steps_of};
+ghost use Rattle.sql_flat_text.specs.Steps.{steps_of};
 ghost use Rattle.sql_key.specs.Keys.{id_of};
 ghost use Rattle.sql_rules.specs.Rules.{HasTooManyBinds};
 ghost use Rattle.sql_check.specs.Fused.{IsFused};
 
 use sql_dialect::{Backend, BindError};
 use sql_flat::Flat;
-use sql_fused::{Steps, write_flat};
+use sql_flat_text::{Steps, write_flat};
 use sql_key::{QueryKey, flat_query_id};
 use sql_pass::Bound;
 use sql_schema::{NoMemory, SqlList, SqlText};

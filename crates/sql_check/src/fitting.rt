@@ -5,8 +5,8 @@ ghost use Rattle.std.specs.Prelude.{◌≡◌, map};
 ghost use Rattle.std.specs.Option.{option_map};
 ghost use Rattle.sql_node.specs.View.{boxed_select_statement_tree, combination_clause_tree, distinct_clause_tree, expr_tree, exprs_of, from_clause_tree, group_by_clause_tree, having_clause_tree, in_values_tree, items_of, join_on_tree, maybe_of, order_clause_tree, order_item_tree, select_clause_tree, select_statement_tree, source_tree, statement_tree, where_clause_tree};
 ghost use Rattle.sql_rules.specs.Types.{all_fit as every_fits};
-ghost use Rattle.sql_law.specs.Fitting.{values_fit as values_fit_in};
-ghost use Rattle.sql_law.specs.inside.Fits.{fit_among, fit_distinct, fit_expr, fit_exprs, fit_from, fit_items, fit_maybe, fit_order, fit_source, fit_statement};
+ghost use Rattle.sql_rules_law.specs.Fitting.{values_fit as values_fit_in};
+ghost use Rattle.sql_rules_law.specs.inside.Fits.{fit_among, fit_distinct, fit_expr, fit_exprs, fit_from, fit_items, fit_maybe, fit_order, fit_source, fit_statement};
 
 use sql_node::{
     BoxedSelectStatement, CombinationClause, DistinctClause, Expr, FromClause, GroupByClause,
@@ -23,7 +23,7 @@ fn all_fit(ty: SqlType, values: &[Value]) -> bool
     values.iter().all(|value| fits(ty, value))
 }
 
-#[tactic(auto, using(sql_node::proofs::Trees::opens_expr, sql_law::proofs::FitLaws::memberships))]
+#[tactic(auto, using(sql_node::proofs::Trees::opens_expr, sql_rules_law::proofs::FitLaws::memberships))]
 #[cycle(fitting)]
 fn expr_fits(expr: &Expr) -> bool
     ensures { result ≡ fit_expr (expr_tree expr.now) }
@@ -250,7 +250,7 @@ fn statement_fits(statement: &Statement) -> bool
 /// type's base, or is NULL and the type is nullable.
 ///
 /// Where it does, what `compile` answered of a statement of the same id serves for this one, but for the values.
-#[tactic(auto, using(sql_law::proofs::FitLaws::fitting))]
+#[tactic(auto, using(sql_rules_law::proofs::FitLaws::fitting))]
 pub fn values_fit(statement: &Statement) -> bool
     ensures { result ≡ values_fit_in (statement_tree statement.now) }
 {

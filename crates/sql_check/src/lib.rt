@@ -15,6 +15,6 @@ pub use breaking::broken;
 pub use built::{Built, compile, compile_by, compile_flat_by};
 pub use error::CompileError;
 pub use fitting::values_fit;
-pub use sql_fused::Steps;
-pub use sql_judge::Names;
+pub use sql_flat_text::Steps;
 pub use sql_rules::{RULES, Rule};
+pub use sql_rules_check::Names;

@@ -2,7 +2,7 @@
 use Rattle.std.proofs.Common.{◌≡◌, Bool, refl}
 use Rattle.sql_node.specs.Tree.{Expr}
 use Rattle.sql_node.specs.View.{Among, among_list, among_query, among_of}
-use Rattle.sql_rose.specs.Rose.{node, two}
+use Rattle.sql_flat_law.specs.Rose.{node, two}
 use Rattle.sql_flat.specs.Flat.{expr_rose}
 use Rattle.sql_flat.specs.declared.kind.FlatKind.TheVariants as K
 use Rattle.sql_flat.specs.inside.Among.{among_rose, looks_in_list}

@@ -1,9 +1,9 @@
 -- The nodes of a clause that may be absent, before those that follow.
 use Rattle.std.proofs.Common.{List, append-nil, subst, ◌∙◌}
 use Rattle.sql_node.specs.Tree.{MaybeExpr, no_expr, an_expr, From, no_source, from, Distinct, every, distinct, distinct_on}
-use Rattle.sql_rose.specs.Building.{Adds, adds}
-use Rattle.sql_rose.specs.Rose.{Roses, none}
-use Rattle.sql_rose.proofs.Adding.{adds-more}
+use Rattle.sql_flat_law.specs.Building.{Adds, adds}
+use Rattle.sql_flat_law.specs.Rose.{Roses, none}
+use Rattle.sql_flat_law.proofs.Adding.{adds-more}
 use Rattle.sql_flat.specs.Flat.{distinct_roses, flat_node, from_roses, maybe_roses}
 use Rattle.sql_flat.specs.declared.kind.FlatKind.{FlatKind}
 use Rattle.sql_flat.specs.declared.kind.FlatNode.{FlatNode}

@@ -6,7 +6,7 @@ use Rattle.sql_leaf.specs.declared.position.PositionalItem.{PositionalItem}
 use Rattle.sql_node.specs.View.{expr_tree, exprs_of, items_of, order_item_tree}
 use Rattle.sql_node.specs.declared.expr.Expr.{Expr}
 use Rattle.sql_node.specs.declared.order.OrderItem.{OrderItem}
-use Rattle.sql_rose.specs.Rose.{Rose, leaf, more, roses_of}
+use Rattle.sql_flat_law.specs.Rose.{Rose, leaf, more, roses_of}
 use Rattle.sql_flat.specs.Flat.{expr_rose, exprs_roses, items_roses}
 use Rattle.sql_flat.specs.inside.Items.{item_rose}
 use Rattle.sql_flat.specs.declared.kind.FlatKind.{FlatKind}

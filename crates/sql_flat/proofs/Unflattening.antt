@@ -1,8 +1,8 @@
 -- What the nodes of a statement stand for is the statement.
 use Rattle.std.proofs.Common.{◌≡◌, ℕ, List, [], ◌∷◌, Option, None, Some, refl, sym, ap, ◌∙◌}
-use Rattle.sql_rose.specs.Rose.{Rose, Roses, flat, none, more, leaf, roses_of}
-use Rattle.sql_loops.specs.Folds.{folded, folded_each}
-use Rattle.sql_loops.proofs.Backward.{run-flat}
+use Rattle.sql_flat_law.specs.Rose.{Rose, Roses, flat, none, more, leaf, roses_of}
+use Rattle.sql_flat_law.specs.Folds.{folded, folded_each}
+use Rattle.sql_flat_law.proofs.Backward.{run-flat}
 use Rattle.sql_schema.specs.declared.types.SqlType.{SqlType}
 use Rattle.sql_pass.specs.declared.value.Value.{Value}
 use Rattle.sql_leaf.specs.declared.position.PositionalItem.{PositionalItem}

@@ -4,7 +4,7 @@ use Rattle.std.specs.Prelude.{true, false, Bool, ℕ, Option, None, Some, List, 
 use Rattle.sql_leaf.specs.declared.limit_offset.LimitOffsetClause.{LimitOffsetClause}
 use Rattle.sql_leaf.specs.declared.marks.Marks.{Marks}
 use Rattle.sql_leaf.specs.declared.position.PositionalItem.{PositionalItem}
-use Rattle.sql_rose.specs.Rose.{Rose, node, Roses, none, more, leaf, one, two, roses_of, flat}
+use Rattle.sql_flat_law.specs.Rose.{Rose, node, Roses, none, more, leaf, one, two, roses_of, flat}
 use Rattle.sql_node.specs.Tree as t
 use Rattle.sql_node.specs.Tree.{unboxed, boxed, Expr, column, value, list, count_star, nullable, unary, count, compared, joined, exists, single, among_values, among_rows, Exprs, no_exprs, more_exprs, Items, no_items, more_items, MaybeExpr, no_expr, an_expr, Source, of_table, of_alias, join, From, no_source, from, Distinct, every, distinct, distinct_on, Order, no_order, order_by, Statement, select, combination}
 use Rattle.sql_flat.specs.declared.kind.FlatKind.{FlatKind}

@@ -1,8 +1,8 @@
 //! A list of nodes that grows: a node is opened, its children follow, and it is closed.
 
 ghost use Rattle.std.specs.Prelude.{IfOk, OnOk};
-ghost use Rattle.sql_rose.specs.Building.{Adds, Closes, Opens};
-ghost use Rattle.sql_rose.specs.Rose.{leaf, none, one};
+ghost use Rattle.sql_flat_law.specs.Building.{Adds, Closes, Opens};
+ghost use Rattle.sql_flat_law.specs.Rose.{leaf, none, one};
 ghost use Rattle.sql_flat.specs.Flat.{flat_node};
 
 use crate::{FlatKind, FlatNode};
@@ -28,7 +28,7 @@ pub(crate) fn close(nodes: &mut Vec<FlatNode>, at: usize)
 }
 
 /// Appends a node without children.
-#[tactic(auto, using(sql_rose::proofs::Adding::adding))]
+#[tactic(auto, using(sql_flat_law::proofs::Adding::adding))]
 pub(crate) fn push_leaf(nodes: &mut Vec<FlatNode>, kind: FlatKind) -> Result<(), NoMemory>
     ensures { OnOk result (Adds flat_node nodes.old.items (one (leaf kind)) nodes.new.items) }
 {

@@ -1,10 +1,10 @@
 //! The nodes of clauses. A clause that a statement lacks has none.
-#![tactic(auto, using(sql_rose::proofs::Adding::adding))]
+#![tactic(auto, using(sql_flat_law::proofs::Adding::adding))]
 
 ghost use Rattle.std.specs.Prelude.{◌≡◌, OnOk, map};
 ghost use Rattle.sql_node.specs.View.{distinct_clause_tree, from_clause_tree, group_by_clause_tree, having_clause_tree, items_of, order_clause_tree, order_item_tree, select_clause_tree, source_tree, where_clause_tree};
-ghost use Rattle.sql_rose.specs.Building.{Adds};
-ghost use Rattle.sql_rose.specs.Rose.{node, none, one};
+ghost use Rattle.sql_flat_law.specs.Building.{Adds};
+ghost use Rattle.sql_flat_law.specs.Rose.{node, none, one};
 ghost use Rattle.sql_flat.specs.Flat.{distinct_roses, expr_rose, flat_node, from_roses, items_roses, maybe_roses, order_roses, source_rose, uniqueness};
 ghost use Rattle.sql_flat.specs.declared.kind.FlatKind.TheVariants as K;
 ghost use Rattle.sql_flat.specs.inside.Items.{item_rose};
@@ -42,7 +42,7 @@ pub(crate) fn uniqueness_of(clause: &DistinctClause) -> Uniqueness
     }
 }
 
-#[tactic(auto, using(sql_rose::proofs::Adding::adding, sql_node::proofs::Trees::opens_distinct_clause))]
+#[tactic(auto, using(sql_flat_law::proofs::Adding::adding, sql_node::proofs::Trees::opens_distinct_clause))]
 #[cycle(walk)]
 pub(crate) fn push_distinct(
     alloc: Global,
@@ -91,7 +91,7 @@ fn push_from_node(alloc: Global, source: &Source, nodes: &mut Vec<FlatNode>) -> 
     Ok(())
 }
 
-#[tactic(auto, using(sql_rose::proofs::Adding::adding, sql_node::proofs::Trees::opens_from_clause))]
+#[tactic(auto, using(sql_flat_law::proofs::Adding::adding, sql_node::proofs::Trees::opens_from_clause))]
 #[cycle(walk)]
 pub(crate) fn push_from(
     alloc: Global,
@@ -108,7 +108,7 @@ pub(crate) fn push_from(
     }
 }
 
-#[tactic(auto, using(sql_rose::proofs::Adding::adding, sql_node::proofs::Trees::opens_where_clause))]
+#[tactic(auto, using(sql_flat_law::proofs::Adding::adding, sql_node::proofs::Trees::opens_where_clause))]
 #[cycle(walk)]
 pub(crate) fn push_where(
     alloc: Global,
@@ -127,7 +127,7 @@ pub(crate) fn push_where(
     }
 }
 
-#[tactic(auto, using(sql_rose::proofs::Adding::adding, sql_node::proofs::Trees::opens_group_by_clause))]
+#[tactic(auto, using(sql_flat_law::proofs::Adding::adding, sql_node::proofs::Trees::opens_group_by_clause))]
 #[cycle(walk)]
 pub(crate) fn push_group_by(
     alloc: Global,
@@ -144,7 +144,7 @@ pub(crate) fn push_group_by(
     }
 }
 
-#[tactic(auto, using(sql_rose::proofs::Adding::adding, sql_node::proofs::Trees::opens_having_clause))]
+#[tactic(auto, using(sql_flat_law::proofs::Adding::adding, sql_node::proofs::Trees::opens_having_clause))]
 #[cycle(walk)]
 pub(crate) fn push_having(
     alloc: Global,
@@ -185,7 +185,7 @@ fn push_items(alloc: Global, items: &[OrderItem], nodes: &mut Vec<FlatNode>) -> 
     Ok(())
 }
 
-#[tactic(auto, using(sql_rose::proofs::Adding::adding, sql_node::proofs::Trees::opens_order_clause))]
+#[tactic(auto, using(sql_flat_law::proofs::Adding::adding, sql_node::proofs::Trees::opens_order_clause))]
 #[cycle(walk)]
 pub(crate) fn push_order(
     alloc: Global,

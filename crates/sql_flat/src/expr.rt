@@ -1,11 +1,11 @@
 //! The nodes of expressions.
-#![tactic(auto, using(sql_rose::proofs::Adding::adding))]
+#![tactic(auto, using(sql_flat_law::proofs::Adding::adding))]
 
 ghost use Rattle.std.specs.Prelude.{◌≡◌, IfOk, OnOk, map};
 ghost use Rattle.sql_leaf.specs.declared.alias.AliasedField.{AliasedField};
 ghost use Rattle.sql_node.specs.View.{column_of, expr_tree, exprs_of, field_of, in_values_tree, statement_tree};
-ghost use Rattle.sql_rose.specs.Building.{Adds, Finishes, Opens};
-ghost use Rattle.sql_rose.specs.Rose.{leaf, node, one, roses_of};
+ghost use Rattle.sql_flat_law.specs.Building.{Adds, Finishes, Opens};
+ghost use Rattle.sql_flat_law.specs.Rose.{leaf, node, one, roses_of};
 ghost use Rattle.sql_flat.specs.Flat.{expr_rose, exprs_roses, flat_node, rose};
 ghost use Rattle.sql_flat.specs.declared.kind.FlatKind.TheVariants as K;
 ghost use Rattle.sql_flat.specs.inside.Among.{among_rose, looks_in_list};
@@ -175,7 +175,7 @@ fn is_list(among: &InValues) -> bool
 }
 
 /// Pushes what a membership looks in.
-#[tactic(auto, using(sql_rose::proofs::Adding::adding, sql_node::proofs::Trees::opens_in_values))]
+#[tactic(auto, using(sql_flat_law::proofs::Adding::adding, sql_node::proofs::Trees::opens_in_values))]
 #[cycle(walk)]
 fn push_sought(alloc: Global, among: &InValues, nodes: &mut Vec<FlatNode>) -> Result<(), NoMemory>
     ensures { OnOk result
@@ -231,7 +231,7 @@ fn push_list(alloc: Global, exprs: &[Expr], nodes: &mut Vec<FlatNode>) -> Result
 }
 
 /// Pushes an expression.
-#[tactic(auto, using(sql_rose::proofs::Adding::adding, sql_node::proofs::Trees::opens_expr, crate::proofs::Among::opens_among))]
+#[tactic(auto, using(sql_flat_law::proofs::Adding::adding, sql_node::proofs::Trees::opens_expr, crate::proofs::Among::opens_among))]
 #[cycle(walk)]
 pub(crate) fn push_expr(
     alloc: Global,

@@ -2,8 +2,8 @@ ghost use Rattle.std.specs.Prelude.{◌≡◌, [], IfOk, OnOk};
 ghost use Rattle.sql_node.specs.Tree as t;
 ghost use Rattle.sql_node.specs.Tree.{under};
 ghost use Rattle.sql_node.specs.View.{expr_tree, statement_tree};
-ghost use Rattle.sql_rose.specs.Building.{Adds};
-ghost use Rattle.sql_rose.specs.Rose.{flat, one};
+ghost use Rattle.sql_flat_law.specs.Building.{Adds};
+ghost use Rattle.sql_flat_law.specs.Rose.{flat, one};
 ghost use Rattle.sql_flat.specs.Flat.{expr_rose, flat_node, flat_of};
 
 use crate::building::{close, open};
@@ -41,7 +41,7 @@ impl Model for Flat {
 /// The flat list of the statement: its nodes in the order in which they are written, each before its children and with the index after
 /// its last descendant. `SELECT "users"."id" FROM "users" WHERE ("users"."id" = $1)` has the nodes Select, Column, From, Table, Where,
 /// Compared, Column, Value with the ends 8, 2, 4, 4, 8, 8, 7, 8. Fails only for memory.
-#[tactic(auto, using(sql_rose::proofs::Adding::alone))]
+#[tactic(auto, using(sql_flat_law::proofs::Adding::alone))]
 pub fn flatten(alloc: Global, statement: &Statement) -> Result<Flat, NoMemory>
     ensures { IfOk result (λ f. f ≡ flat_of (statement_tree statement.now)) }
 {
@@ -63,7 +63,7 @@ impl Flat {
 }
 
 /// Pushes an expression under so many nullables.
-#[tactic(auto, using(sql_rose::proofs::Adding::adding))]
+#[tactic(auto, using(sql_flat_law::proofs::Adding::adding))]
 fn push_under(
     alloc: Global,
     nullables: usize,
@@ -85,7 +85,7 @@ fn push_under(
 
 /// The nodes of an expression under so many nullables, in the order of a flat list: `("users"."id" = $1)` has Compared, Column, Value
 /// with the ends 3, 2, 3. Fails only for memory.
-#[tactic(auto, using(sql_rose::proofs::Adding::alone))]
+#[tactic(auto, using(sql_flat_law::proofs::Adding::alone))]
 pub fn expression_nodes(
     alloc: Global,
     nullables: usize,

@@ -1,6 +1,6 @@
 ghost use Rattle.std.specs.Prelude.{◌≡◌, []};
 ghost use Rattle.sql_node.specs.Tree.{Expr, Statement};
-ghost use Rattle.sql_rose.specs.Rose.{flat};
+ghost use Rattle.sql_flat_law.specs.Rose.{flat};
 ghost use Rattle.sql_flat.specs.Flat.{expr_rose, flat_node, flat_of};
 
 /// Different statements have different flat lists.

@@ -1,4 +1,4 @@
-//! Statements as flat lists of nodes; `sql_unflat` reads them back.
+//! Statements as flat lists of nodes; `sql_flat_back` reads them back.
 #![tactic(auto)]
 
 mod building;

@@ -1,12 +1,12 @@
 //! The nodes of sources.
-#![tactic(auto, using(sql_rose::proofs::Adding::adding))]
+#![tactic(auto, using(sql_flat_law::proofs::Adding::adding))]
 
 ghost use Rattle.std.specs.Prelude.{◌≡◌, OnOk, None};
 ghost use Rattle.std.specs.Option.{option_map};
 ghost use Rattle.sql_node.specs.Tree.{of_alias, of_table};
 ghost use Rattle.sql_node.specs.View.{expr_tree, join_on_tree, maybe_of, source_tree};
-ghost use Rattle.sql_rose.specs.Building.{Adds};
-ghost use Rattle.sql_rose.specs.Rose.{none, one};
+ghost use Rattle.sql_flat_law.specs.Building.{Adds};
+ghost use Rattle.sql_flat_law.specs.Rose.{none, one};
 ghost use Rattle.sql_flat.specs.Flat.{flat_node, has_on, maybe_roses, source_rose};
 ghost use Rattle.sql_flat.specs.declared.kind.FlatKind.TheVariants as K;
 
@@ -62,7 +62,7 @@ fn join_kind(kind: JoinKind, on: &Option<Expr>) -> FlatKind
     }
 }
 
-#[tactic(auto, using(sql_rose::proofs::Adding::adding, sql_node::proofs::Trees::opens_join_on, sql_node::proofs::Trees::opens_join))]
+#[tactic(auto, using(sql_flat_law::proofs::Adding::adding, sql_node::proofs::Trees::opens_join_on, sql_node::proofs::Trees::opens_join))]
 #[cycle(walk)]
 fn push_join(alloc: Global, join: &JoinOn, nodes: &mut Vec<FlatNode>) -> Result<(), NoMemory>
     ensures { OnOk result

@@ -1,10 +1,10 @@
 //! The nodes of whole statements.
-#![tactic(auto, using(sql_rose::proofs::Adding::adding))]
+#![tactic(auto, using(sql_flat_law::proofs::Adding::adding))]
 
 ghost use Rattle.std.specs.Prelude.{◌≡◌, OnOk};
 ghost use Rattle.sql_node.specs.View.{boxed_select_statement_tree, combination_clause_tree, distinct_clause_tree, select_clause_tree, select_statement_tree, statement_tree};
-ghost use Rattle.sql_rose.specs.Building.{Adds};
-ghost use Rattle.sql_rose.specs.Rose.{leaf, one, roses_of};
+ghost use Rattle.sql_flat_law.specs.Building.{Adds};
+ghost use Rattle.sql_flat_law.specs.Rose.{leaf, one, roses_of};
 ghost use Rattle.sql_flat.specs.Flat.{flat_node, positions_roses, rose, uniqueness};
 ghost use Rattle.sql_flat.specs.declared.kind.FlatKind.TheVariants as K;
 
@@ -47,7 +47,7 @@ fn selecting(
     }
 }
 
-#[tactic(auto, using(sql_rose::proofs::Adding::adding, sql_node::proofs::Trees::opens_select_statement))]
+#[tactic(auto, using(sql_flat_law::proofs::Adding::adding, sql_node::proofs::Trees::opens_select_statement))]
 #[cycle(walk)]
 fn push_select(
     alloc: Global,
@@ -77,7 +77,7 @@ fn push_select(
     Ok(())
 }
 
-#[tactic(auto, using(sql_rose::proofs::Adding::adding, sql_node::proofs::Trees::opens_boxed_select_statement))]
+#[tactic(auto, using(sql_flat_law::proofs::Adding::adding, sql_node::proofs::Trees::opens_boxed_select_statement))]
 #[cycle(walk)]
 fn push_boxed(
     alloc: Global,
@@ -136,7 +136,7 @@ fn push_positional_order(
     }
 }
 
-#[tactic(auto, using(sql_rose::proofs::Adding::adding, sql_node::proofs::Trees::opens_combination_clause))]
+#[tactic(auto, using(sql_flat_law::proofs::Adding::adding, sql_node::proofs::Trees::opens_combination_clause))]
 #[cycle(walk)]
 fn push_combination(
     alloc: Global,

@@ -6,8 +6,8 @@ use Rattle.std.proofs.lemmas.Bool.{false≢true}
 use Rattle.std.proofs.lemmas.Bool.Decides.{Decides-and, Decides-at, Decides-like, Decides-not}
 use Rattle.sql_schema.specs.declared.declaration.ColumnDecl.{ColumnDecl}
 use Rattle.sql_schema.specs.declared.declaration.TableDecl.{TableDecl}
-use Rattle.sql_rose.specs.Rose.{Roses, flat}
-use Rattle.sql_loops.specs.Folds.{sites}
+use Rattle.sql_flat_law.specs.Rose.{Roses, flat}
+use Rattle.sql_flat_law.specs.Folds.{sites}
 use Rattle.sql_node.specs.Tree.{Origin, Expr, column, value, list, count_star, nullable, unary, count, compared, joined, exists, single, among_values, among_rows, Exprs, no_exprs, more_exprs}
 use Rattle.sql_schema.specs.Equality.{same_column}
 use Rattle.sql_origin.specs.Origins.{a_table, same_origin}
@@ -23,15 +23,15 @@ use Rattle.sql_flat.specs.Flat.{expr_rose, flat_node}
 use Rattle.sql_flat.specs.declared.kind.FlatKind.{FlatKind}
 use Rattle.sql_flat.specs.declared.kind.FlatKind.TheVariants as K
 use Rattle.sql_flat.specs.declared.kind.FlatNode.{FlatNode}
-use Rattle.sql_judge.specs.inside.Known.{Known, known_below}
-use Rattle.sql_judge.specs.inside.Lists.{kind_of, end_of}
-use Rattle.sql_judge.specs.inside.Tested.{any_from}
-use Rattle.sql_judge.specs.inside.Typing.{typing}
-use Rattle.sql_judge.proofs.Absent.{Never, NoClause, NoCombination, NoSelect, NoSource}
-use Rattle.sql_judge.proofs.Decided.{each-alone, outside}
-use Rattle.sql_judge.proofs.Seen as seen
-use Rattle.sql_judge.proofs.Tested.{any-flat, any-sites}
-use Rattle.sql_tenant.specs.Tenant.{IsOwn}
+use Rattle.sql_rules_check.specs.inside.Known.{Known, known_below}
+use Rattle.sql_rules_check.specs.inside.Lists.{kind_of, end_of}
+use Rattle.sql_rules_check.specs.inside.Tested.{any_from}
+use Rattle.sql_rules_check.specs.inside.Typing.{typing}
+use Rattle.sql_rules_check.proofs.Absent.{Never, NoClause, NoCombination, NoSelect, NoSource}
+use Rattle.sql_rules_check.proofs.Decided.{each-alone, outside}
+use Rattle.sql_rules_check.proofs.Seen as seen
+use Rattle.sql_rules_check.proofs.Tested.{any-flat, any-sites}
+use Rattle.sql_guard_law.specs.Tenant.{IsOwn}
 use Rattle.sql_guard.specs.inside.Kinds.{is_foreign, is_own_column}
 
 itself : (b : Bool) → Decides b (b ≡ true)

@@ -4,7 +4,7 @@ use Rattle.std.specs.Bool.{Decides}
 use Rattle.std.specs.List.{list_any}
 use Rattle.std.proofs.lemmas.Bool.{false≢true}
 use Rattle.sql_leaf.specs.declared.position.PositionalItem.{PositionalItem}
-use Rattle.sql_rose.specs.Rose.{Roses}
+use Rattle.sql_flat_law.specs.Rose.{Roses}
 use Rattle.sql_node.specs.Tree.{Expr, column, value, list, count_star, nullable, unary, count, compared, joined, exists, single, among_values, among_rows, Items, no_items, more_items, MaybeExpr, no_expr, an_expr, Source, of_table, of_alias, join, From, no_source, from, Distinct, every, distinct, distinct_on, Order, no_order, order_by, Statement}
 use Rattle.sql_rules.specs.Lists.{AnyOf}
 use Rattle.sql_rules.specs.Rules.{Present}
@@ -15,12 +15,12 @@ use Rattle.sql_flat.specs.Flat.{flat_of}
 use Rattle.sql_flat.specs.declared.kind.FlatKind.{FlatKind}
 use Rattle.sql_flat.specs.declared.kind.FlatKind.TheVariants as K
 use Rattle.sql_flat.specs.declared.kind.FlatNode.{FlatNode}
-use Rattle.sql_judge.specs.inside.Known.{Known}
-use Rattle.sql_judge.proofs.Absent.{Never, NoCombination, NoSelect, NoSource}
-use Rattle.sql_judge.proofs.Alternatives.{any-either}
-use Rattle.sql_judge.proofs.Decided.{decides-nodes, decides-rule}
-use Rattle.sql_judge.proofs.Seen as seen
-use Rattle.sql_tenant.specs.Tenant.{IsBeyond, IsOutOfKind}
+use Rattle.sql_rules_check.specs.inside.Known.{Known}
+use Rattle.sql_rules_check.proofs.Absent.{Never, NoCombination, NoSelect, NoSource}
+use Rattle.sql_rules_check.proofs.Alternatives.{any-either}
+use Rattle.sql_rules_check.proofs.Decided.{decides-nodes, decides-rule}
+use Rattle.sql_rules_check.proofs.Seen as seen
+use Rattle.sql_guard_law.specs.Tenant.{IsBeyond, IsOutOfKind}
 use Rattle.sql_guard.specs.inside.Kinds.{is_beyond, is_out}
 
 abbrev Beyond : View → FlatKind → Roses FlatKind → Type 0

@@ -4,7 +4,7 @@ use Rattle.sql_schema.specs.declared.declaration.TableDecl.{TableDecl}
 use Rattle.sql_node.specs.Tree.{Expr, Statement}
 use Rattle.sql_rules.specs.Lists.{AnyOf}
 use Rattle.sql_rules.specs.Scope.{parts}
-use Rattle.sql_tenant.specs.Tenant.{IsOutOfKind, IsPredicate, LacksRelation}
+use Rattle.sql_guard_law.specs.Tenant.{IsOutOfKind, IsPredicate, LacksRelation}
 use Rattle.sql_guard.specs.declared.error.RestrictError.{RestrictError}
 use Rattle.sql_guard.specs.declared.error.RestrictError.TheVariants as error
 

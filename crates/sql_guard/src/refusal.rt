@@ -9,13 +9,13 @@ ghost use Rattle.sql_schema.specs.Equality.{same_column, same_table};
 ghost use Rattle.sql_node.specs.View.{expr_tree, statement_tree};
 ghost use Rattle.sql_rules.specs.Lists.{AnyOf};
 ghost use Rattle.sql_rules.specs.Scope.{parts};
-ghost use Rattle.sql_tenant.specs.Tenant.{IsOutOfKind, IsPredicate, LacksRelation};
+ghost use Rattle.sql_guard_law.specs.Tenant.{IsOutOfKind, IsPredicate, LacksRelation};
 ghost use Rattle.sql_guard.specs.inside.Kinds.{is_beyond as kind_is_beyond, is_foreign as kind_is_foreign, is_out as kind_is_out, is_own_column as column_is_own};
 
 use sql_flat::{FlatKind, FlatNode, expression_nodes, flatten};
-use sql_judge::{any_lacks_on, is_condition_of};
 use sql_node::{Expr, Statement};
 use sql_origin::Origin;
+use sql_rules_check::{any_lacks_on, is_condition_of};
 use sql_schema::{Column, ColumnDecl, NoMemory, SizeRestrictedColumn, SqlText, Table};
 use sql_types::fits;
 use std::alloc::Global;

@@ -3,16 +3,16 @@ ghost use Rattle.sql_schema.specs.Declarations.{Declarations};
 ghost use Rattle.sql_dialect.specs.declared.backend.Dialect.{Dialect};
 ghost use Rattle.sql_node.specs.View.{expr_tree, statement_tree};
 ghost use Rattle.sql_rules.specs.Rules.{Accepted};
-ghost use Rattle.sql_tenant.specs.Restricted.{restricted};
-ghost use Rattle.sql_tenant.specs.Tenant.{AnswersAsCut, BreaksAtMostTooManyBinds};
+ghost use Rattle.sql_guard_law.specs.Restricted.{restricted};
+ghost use Rattle.sql_guard_law.specs.Tenant.{AnswersAsCut, BreaksAtMostTooManyBinds};
 ghost use Rattle.sql_guard.specs.Refused.{IsRefusal, MayRestrict};
 
 use crate::RestrictError;
 use crate::guard::Guard;
 use crate::refusal::{is_predicate, kept_from};
+use sql_guard_law::{restriction_is_exact, restriction_keeps_the_rules};
 use sql_node::{Expr, Statement};
 use sql_schema::Table;
-use sql_tenant::{restriction_is_exact, restriction_keeps_the_rules};
 use std::alloc::Global;
 
 /// The statement with the predicate beside each leaf of the table: ` .. WHERE ("posts"."user_id" = $1)`. That of a leaf in the right

@@ -1,8 +1,8 @@
 -- Without the values alone, a tree is mapped node by node.
 use Rattle.std.proofs.Common.{◌≡◌, Bool, true, false, refl, ap, sym, ◌∙◌}
 use Rattle.sql_node.specs.Tree.{Statement}
-use Rattle.sql_rose.specs.Rose.{Rose, node, Roses, none, more, one, joined, flat, flats, rose_map, roses_map}
-use Rattle.sql_rose.proofs.Maps.{list-map}
+use Rattle.sql_flat_law.specs.Rose.{Rose, node, Roses, none, more, one, joined, flat, flats, rose_map, roses_map}
+use Rattle.sql_flat_law.proofs.Maps.{list-map}
 use Rattle.sql_flat.specs.Flat.{flat_node, flat_of, rose}
 use Rattle.sql_flat.specs.declared.kind.FlatKind.{FlatKind}
 use Rattle.sql_flat.specs.declared.kind.FlatKind.TheVariants as K

@@ -4,7 +4,7 @@ use Rattle.sql_dialect.specs.declared.backend.Dialect.{Dialect}
 use Rattle.sql_grammar.specs.MarkTree as t
 use Rattle.sql_grammar.specs.Reading.{IsReading}
 use Rattle.sql_read.specs.declared.tree.Tree.{Tree}
-use Rattle.sql_tree.specs.View.{query_tree}
+use Rattle.sql_read_tree.specs.View.{query_tree}
 
 abbrev pub tree_of : Tree → t.Query
 tree_of tree = query_tree tree.query.value

@@ -5,16 +5,16 @@ ghost use Rattle.sql_grammar.specs.Reading.{OnlyReading};
 ghost use Rattle.sql_grammar.specs.Text.{text as text_of};
 ghost use Rattle.sql_grammar.specs.Tokens.{tokens};
 ghost use Rattle.sql_grammar.specs.Token as g;
-ghost use Rattle.sql_lexer.specs.View.{token_of};
+ghost use Rattle.sql_read_lexer.specs.View.{token_of};
 ghost use Rattle.sql_read.specs.Seen.{tree_of, HasNoReading};
 ghost use Rattle.sql_read.specs.inside.Closed.{closed, closed_from};
 
 use crate::error::ReadError;
 use crate::tree::{Tree, write};
 use sql_dialect::{Dialect, NoMemory};
-use sql_lexer::{Token, same_found, text_tokens};
-use sql_machine::candidate;
-use sql_write::fits_query;
+use sql_read_lexer::{Token, same_found, text_tokens};
+use sql_read_machine::candidate;
+use sql_read_writer::fits_query;
 use std::alloc::Global;
 
 /// The deepest nesting of brackets that is read: more than a statement has that the program builds or restricts. Each level of a tree is

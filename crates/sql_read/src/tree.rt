@@ -4,12 +4,12 @@ ghost use Rattle.sql_grammar.specs.Text.{text as text_of};
 ghost use Rattle.sql_grammar.specs.Tokens.{tokens};
 ghost use Rattle.sql_grammar.specs.Values.{values_query};
 ghost use Rattle.sql_read.specs.Seen.{tree_of};
-ghost use Rattle.sql_tree.specs.Counts.{capped};
-ghost use Rattle.sql_tree.specs.View.{query_tree};
+ghost use Rattle.sql_read_tree.specs.Counts.{capped};
+ghost use Rattle.sql_read_tree.specs.View.{query_tree};
 
 use sql_dialect::{Dialect, NoMemory};
-use sql_tree::{Query, count_query};
-use sql_write::push_query;
+use sql_read_tree::{Query, count_query};
+use sql_read_writer::push_query;
 use std::alloc::Global;
 
 /// What a text says: of `SELECT ("a"."x" = $7)` a query that selects one comparison.

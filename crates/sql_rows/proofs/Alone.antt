@@ -10,7 +10,7 @@ use Rattle.sql_key.specs.Keys.{id_of}
 use Rattle.sql_flat.specs.declared.kind.FlatNode.{FlatNode}
 use Rattle.sql_rules.specs.Lists.{Each}
 use Rattle.sql_check.specs.declared.built.Built.{Built}
-use Rattle.sql_law.proofs.Exchange.{accepted-fit}
+use Rattle.sql_rules_law.proofs.Exchange.{accepted-fit}
 use Rattle.sql_rows.specs.Calls.{AreCalls, Call, IsAnswer, IsCall}
 use Rattle.sql_rows.specs.Entries.{Entries, IsLookedUp}
 use Rattle.sql_rows.specs.contracts.cache.RequestKeyEq.TheImpl.Laws.{laws-law}

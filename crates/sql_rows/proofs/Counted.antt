@@ -9,7 +9,7 @@ use Rattle.sql_flat.specs.declared.kind.FlatNode.{FlatNode}
 use Rattle.sql_rules.specs.Counted.{OrderIsCounted, PartIsCounted, PlacesAreCounted}
 use Rattle.sql_rules.specs.Lists.{Each}
 use Rattle.sql_rules.specs.Scope.{View, Part, origins, origins_of, widest, in_expr, in_exprs, in_items, in_maybe, in_source, in_from, in_distinct, in_order, parts}
-use Rattle.sql_law.proofs.Lists.{each_append}
+use Rattle.sql_rules_law.proofs.Lists.{each_append}
 
 abbrev Are : List Part → Type 0
 Are ps = Each PartIsCounted ps

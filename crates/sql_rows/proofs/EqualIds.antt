@@ -14,11 +14,11 @@ use Rattle.sql_key.proofs.Shapes.{same-shape}
 use Rattle.sql_rules.specs.Rules.{Accepted}
 use Rattle.sql_rules.specs.Safety.{is_safe_in}
 use Rattle.sql_rules.specs.Types.{columns}
-use Rattle.sql_law.specs.Fitting.{ValuesFit}
-use Rattle.sql_law.proofs.Exchange as exchange
-use Rattle.sql_law.proofs.OneText as texts
-use Rattle.sql_law.proofs.SafeLaws.{safe_alike}
-use Rattle.sql_law.proofs.TypeLaws.{types}
+use Rattle.sql_rules_law.specs.Fitting.{ValuesFit}
+use Rattle.sql_rules_law.proofs.Exchange as exchange
+use Rattle.sql_rules_law.proofs.OneText as texts
+use Rattle.sql_rules_law.proofs.SafeLaws.{safe_alike}
+use Rattle.sql_rules_law.proofs.TypeLaws.{types}
 
 -- an id is the key of a statement that has one
 own-key : (s : Statement) (k : List FlatNode) → id_of s ≡ Some k → (has_id s ≡ true) × (key s ≡ k)

@@ -5,8 +5,8 @@ use Rattle.sql_dialect.specs.declared.backend.Dialect.{Dialect}
 use Rattle.sql_node.specs.Tree.{Statement}
 use Rattle.sql_key.specs.Keys.{id_of}
 use Rattle.sql_flat.specs.declared.kind.FlatNode.{FlatNode}
-use Rattle.sql_law.proofs.FitLaws.{test as fit-test}
-use Rattle.sql_law.specs.Fitting.{values_fit}
+use Rattle.sql_rules_law.proofs.FitLaws.{test as fit-test}
+use Rattle.sql_rules_law.specs.Fitting.{values_fit}
 use Rattle.sql_rows.specs.declared.cache.RequestKey.{RequestKey}
 use Rattle.sql_rows.specs.Entries.{Entries, IsLookedUp, IsHit, IsNext, put}
 

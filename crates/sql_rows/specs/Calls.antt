@@ -8,7 +8,7 @@ use Rattle.sql_check.specs.Compiled.{IsBuilt, IsLeast, IsRead}
 use Rattle.sql_check.specs.Errors.{rule_of}
 use Rattle.sql_check.specs.declared.built.Built.{Built}
 use Rattle.sql_check.specs.declared.error.CompileError.{CompileError}
-use Rattle.sql_meaning.specs.Fitting.{AnswersFit}
+use Rattle.sql_rows_meaning.specs.Fitting.{AnswersFit}
 use Rattle.sql_rows.specs.Entries.{Entries, IsNext}
 
 -- The answer is of the statement alone: what `compile_sound` says of its own.

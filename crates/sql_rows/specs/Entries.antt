@@ -6,7 +6,7 @@ use Rattle.sql_schema.specs.Declarations.{Declarations}
 use Rattle.sql_dialect.specs.declared.backend.Dialect.{Dialect}
 use Rattle.sql_node.specs.Tree.{Statement}
 use Rattle.sql_key.specs.Keys.{id_of}
-use Rattle.sql_law.specs.Fitting.{ValuesFit}
+use Rattle.sql_rules_law.specs.Fitting.{ValuesFit}
 use Rattle.sql_rows.specs.declared.cache.RequestKey.{RequestKey}
 
 -- the pairs, and how often a call found its own

@@ -15,7 +15,7 @@ ghost use Rattle.sql_rules.specs.Rules.{Accepted};
 ghost use Rattle.sql_rules.specs.Safety.{is_safe_in};
 ghost use Rattle.sql_rules.specs.Types.{columns};
 ghost use Rattle.sql_rules.specs.declared.rule.Rule.{Rule};
-ghost use Rattle.sql_law.specs.Fitting.{ValuesFit};
+ghost use Rattle.sql_rules_law.specs.Fitting.{ValuesFit};
 ghost use Rattle.sql_check.specs.Compiled.{IsBuilt, IsLeast};
 ghost use Rattle.sql_check.specs.declared.built.Built.{Built};
 ghost use Rattle.sql_rows.specs.Calls.{AreCalls, Call, IsAnswer, IsCall};

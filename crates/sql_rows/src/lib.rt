@@ -1,6 +1,6 @@
 //! `compile_sound`: what `compile` answers, with column types that are proved right for NULL; and a bounded cache of such answers.
 //!
-//! What a statement may answer over a database is defined in `sql_meaning`, whose definitions and laws this crate re-exports.
+//! What a statement may answer over a database is defined in `sql_rows_meaning`, whose definitions and laws this crate re-exports.
 #![tactic(auto)]
 
 mod cache;
@@ -11,7 +11,7 @@ pub use cache::{RequestKey, StatementCache};
 pub use laws::{answered_pairs_come_first, calls_are_answered_alone, equal_ids, one_answer};
 pub use sound::{compile_sound, compile_sound_by};
 pub use sql_check::Names;
-pub use sql_meaning::{
+pub use sql_rows_meaning::{
     first_is_any, last_writer_is_an_answer, left_join_has_two_answers, needs_nullable_is_needed,
     operators_work, the_example_is_accepted, types_are_sound,
 };

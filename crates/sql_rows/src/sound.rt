@@ -4,17 +4,17 @@ ghost use Rattle.sql_node.specs.View.{statement_tree};
 ghost use Rattle.sql_flat.specs.Flat.{flat_of};
 ghost use Rattle.sql_check.specs.Compiled.{IsBuilt, IsLeast, IsRead};
 ghost use Rattle.sql_check.specs.Errors.{rule_of};
-ghost use Rattle.sql_judge.specs.declared.names.Names.TheVariants as name;
+ghost use Rattle.sql_rules_check.specs.declared.names.Names.TheVariants as name;
 ghost use Rattle.sql_rules.specs.Rules.{Broken};
 ghost use Rattle.sql_rules.specs.declared.rule.Rule.{Rule};
 ghost use Rattle.sql_rules.specs.declared.rule.Rule.TheVariants as rule;
-ghost use Rattle.sql_meaning.specs.Fitting.{AnswersFit};
+ghost use Rattle.sql_rows_meaning.specs.Fitting.{AnswersFit};
 
 use sql_check::{Built, CompileError, Names, compile_by, compile_flat_by};
 use sql_dialect::Backend;
 use sql_flat::Flat;
-use sql_meaning::types_are_sound;
 use sql_node::Statement;
+use sql_rows_meaning::types_are_sound;
 use sql_schema::Schema;
 use std::alloc::Global;
 

@@ -2,12 +2,12 @@
 //! that answer. Those of the libraries are in the crates of tests.
 
 use sql_build::{statement, statement_to_restrict};
-use sql_command::{Status, run};
 use sql_dialect::Dialect;
-use sql_document::{Document, read_document};
-use sql_generate::generate;
-use sql_read_output::reading_line;
-use sql_stream::{MemorySink, SureSource, read_all};
+use sql_tool_document::{Document, read_document};
+use sql_tool_generate::generate;
+use sql_tool_read::reading_line;
+use sql_tool_run::{Status, run};
+use sql_tool_stream::{MemorySink, SureSource, read_all};
 use std::alloc::Global;
 use std::num::NonZeroUsize;
 use std::test::Fail;
@@ -35,8 +35,12 @@ fn documents(alloc: Global) -> Result<(), Fail> {
     let document: Document = read_document(alloc, bytes.as_slice())?;
     let request = document.requests.as_slice().first().ok_or("no request")?;
     let made = statement(alloc, &document.schema, request.dialect, &request.query)?;
-    let to_restrict =
-        statement_to_restrict(alloc, &document.schema, request.dialect, &request.query)?;
+    let to_restrict = statement_to_restrict(
+        alloc,
+        &document.schema,
+        request.dialect,
+        &request.query,
+    )?;
     let are_made = made.is_some() && to_restrict.is_some();
     drop(made);
     drop(to_restrict);

@@ -1,8 +1,8 @@
 //! Requests whose names, lists, nesting and chains of calls a careless builder would let through.
 
-use sql_command::{Status, run};
-use sql_depth::MAX_DEPTH;
-use sql_stream::{MemorySink, SureSource};
+use sql_build_depth::MAX_DEPTH;
+use sql_tool_run::{Status, run};
+use sql_tool_stream::{MemorySink, SureSource};
 use std::alloc::{AllocError, Global};
 use std::num::NonZeroUsize;
 use std::test::Fail;

@@ -4,8 +4,8 @@
 //! line for each of its requests, restricted to the tenant's rows.
 #![tactic(auto)]
 
-use sql_command::{Status, run};
-use sql_stream::{StdSink, StdSource};
+use sql_tool_run::{Status, run};
+use sql_tool_stream::{StdSink, StdSource};
 use std::env;
 use std::io::ErrorKind;
 use std::process::ExitCode;

@@ -1,5 +1,5 @@
-use sql_command::{Status, run};
-use sql_stream::{MemorySink, MemorySource, SureSink, SureSource};
+use sql_tool_run::{Status, run};
+use sql_tool_stream::{MemorySink, MemorySource, SureSink, SureSource};
 use std::alloc::{AllocError, Global};
 use std::num::NonZeroUsize;
 use std::test::Fail;

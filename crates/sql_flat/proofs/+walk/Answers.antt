@@ -1,6 +1,6 @@
 use Rattle.std.proofs.Common.{false, true, ap}
 use Rattle.std.proofs.lemmas.Result.{on_ok_weaker}
-use Rattle.sql_rose.proofs.Adding.{adds-next, adds-end, adds-node, adds-more, adds-pair, finishes-last, opens-same}
+use Rattle.sql_flat_law.proofs.Adding.{adds-next, adds-end, adds-node, adds-more, adds-pair, finishes-last, opens-same}
 use Rattle.sql_node.proofs.Trees.{expr-of_Eq, expr-of_Ne, expr-of_Gt, expr-of_Ge, expr-of_Lt, expr-of_Le, expr-of_And, expr-of_Or, expr-of_EqAny, expr-of_NeAll, order_clause-of_OrderClause, join-out, join_on-out, select_statement-out, boxed_select_statement-out, combination_clause-out}
 use Rattle.sql_flat.specs.declared.kind.FlatKind.TheVariants as K
 use Rattle.sql_flat.proofs.Among.{membership-nodes}

@@ -1,7 +1,7 @@
 -- The tree of what a membership looks in.
 use Rattle.std.specs.Prelude.{Bool, true, false}
 use Rattle.sql_node.specs.View.{Among, among_list, among_query}
-use Rattle.sql_rose.specs.Rose.{Rose, node, leaf, roses_of}
+use Rattle.sql_flat_law.specs.Rose.{Rose, node, leaf, roses_of}
 use Rattle.sql_flat.specs.declared.kind.FlatKind.{FlatKind}
 use Rattle.sql_flat.specs.declared.kind.FlatKind.TheVariants as K
 use Rattle.sql_flat.specs.Flat.{rose}

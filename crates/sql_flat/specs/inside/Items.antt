@@ -1,6 +1,6 @@
 -- The tree of an item of an order.
 use Rattle.sql_node.specs.View.{Item}
-use Rattle.sql_rose.specs.Rose.{Rose, node, one}
+use Rattle.sql_flat_law.specs.Rose.{Rose, node, one}
 use Rattle.sql_flat.specs.declared.kind.FlatKind.{FlatKind}
 use Rattle.sql_flat.specs.declared.kind.FlatKind.TheVariants as K
 use Rattle.sql_flat.specs.Flat.{expr_rose}

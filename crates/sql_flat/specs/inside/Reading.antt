@@ -1,6 +1,6 @@
 -- What the loop from the last node to the first has on its stack: what the trees stand for that begin behind.
 use Rattle.std.specs.Prelude.{ℕ, Option, List}
-use Rattle.sql_loops.specs.Backward.{before, run}
+use Rattle.sql_flat_law.specs.Backward.{before, run}
 use Rattle.sql_node.specs.Tree.{Statement}
 use Rattle.sql_flat.specs.declared.kind.FlatKind.{FlatKind}
 use Rattle.sql_flat.specs.declared.kind.FlatNode.{FlatNode}

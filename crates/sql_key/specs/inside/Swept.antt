@@ -1,7 +1,7 @@
 -- A tree of nodes without their values, and perhaps without the values of lists.
 use Rattle.std.specs.Prelude.{Bool, true, false, not, List, [], if◌then◌else◌}
 use Rattle.sql_pass.specs.declared.value.Value.{Value}
-use Rattle.sql_rose.specs.Rose.{Rose, node, Roses, none, more, one, joined}
+use Rattle.sql_flat_law.specs.Rose.{Rose, node, Roses, none, more, one, joined}
 use Rattle.sql_flat.specs.declared.kind.FlatKind.{FlatKind}
 use Rattle.sql_flat.specs.declared.kind.FlatKind.TheVariants as K
 use Rattle.sql_shape.specs.Shape.{nulls}

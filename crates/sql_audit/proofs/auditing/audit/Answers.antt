@@ -1,6 +1,6 @@
 use Rattle.std.proofs.Common.{sym, subst}
 use Rattle.sql_grammar.specs.Reading.{OnlyReading}
-use Rattle.sql_tree.specs.View.{query_tree}
+use Rattle.sql_read_tree.specs.View.{query_tree}
 use Rattle.sql_audit.proofs.Reports.{reported, refused}
 use Rattle.sql_audit.proofs.auditing.audit.Goals as goal
 

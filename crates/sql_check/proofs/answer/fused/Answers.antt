@@ -1,5 +1,5 @@
 use Rattle.std.proofs.Common.{sym, ◌∙◌}
-use Rattle.sql_law.proofs.SafeLaws.{test}
+use Rattle.sql_rules_law.proofs.SafeLaws.{test}
 use Rattle.sql_check.proofs.answer.fused.Goals as goal
 
 pub returns-clause-fused : goal.returns-clause-fused

@@ -2,7 +2,7 @@ use Rattle.std.proofs.Common.{ap, sym, ◌∙◌}
 use Rattle.sql_pass.specs.Pieces.{text_of, values_of, is_safe}
 use Rattle.sql_select.specs.Changes.{boxed_for}
 use Rattle.sql_select.specs.Clauses.{statement_of}
-use Rattle.sql_law.proofs.SafeLaws.{test}
+use Rattle.sql_rules_law.proofs.SafeLaws.{test}
 use Rattle.sql_check.proofs.SamePieces as laws
 use Rattle.sql_check.proofs.boxing.boxing_takes_the_id_alone.Goals as goal
 

@@ -6,8 +6,8 @@ use Rattle.sql_rules.specs.Lists.{Selects}
 use Rattle.sql_rules.specs.Rules.{Broken, all_rules}
 use Rattle.sql_rules.specs.declared.rule.Rule.{Rule}
 use Rattle.sql_rules.specs.declared.rule.Rule.TheVariants.{TooManyBinds}
-use Rattle.sql_judge.specs.First.{inner_rules}
-use Rattle.sql_judge.proofs.Selections.{selects-append}
+use Rattle.sql_rules_check.specs.First.{inner_rules}
+use Rattle.sql_rules_check.proofs.Selections.{selects-append}
 use Rattle.sql_check.proofs.breaking.broken.Goals as goal
 use Rattle.sql_check.proofs.breaking.broken.Goals.{then-branch+in_ok-push, else-branch}
 

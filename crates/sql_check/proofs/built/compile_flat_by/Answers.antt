@@ -1,7 +1,7 @@
 use Rattle.std.proofs.Common.{◌≡◌, rules, subst, sym}
 use Rattle.std.proofs.lemmas.Result.{IfErr-weaker, IfOk-weaker}
 use Rattle.sql_rules.specs.Rules.{Broken}
-use Rattle.sql_judge.specs.First.{IsFirst, inner_rules}
+use Rattle.sql_rules_check.specs.First.{IsFirst, inner_rules}
 use Rattle.sql_check.specs.Compiled.{IsLeast}
 use Rattle.sql_check.proofs.Chosen.{first_least, last_least}
 use Rattle.sql_check.proofs.built.compile_flat_by.Goals as goal

@@ -1,6 +1,6 @@
 use Rattle.std.proofs.Common.{◌≡◌, map, drop}
 use Rattle.sql_node.specs.View.{expr_tree, exprs_of, items_of, order_item_tree}
-use Rattle.sql_law.specs.inside.Fits.{fit_exprs, fit_items}
+use Rattle.sql_rules_law.specs.inside.Fits.{fit_exprs, fit_items}
 use Rattle.sql_check.proofs.fitting.+fitting.Given as goal
 
 abbrev pub invariant-exprs_fit-loop-expr : goal.invariant-exprs_fit-loop-expr

@@ -1,6 +1,6 @@
 use Rattle.std.proofs.Common.{◌≡◌, ◌∙◌, ◌∷◌, ◌++◌, arith, ap, set, get_or}
 use Rattle.std.proofs.Math.Seq.{set-append_seam, get_or-append_seam}
-use Rattle.sql_rose.specs.Building.{closes}
+use Rattle.sql_flat_law.specs.Building.{closes}
 use Rattle.sql_flat.specs.Flat.{flat_node}
 use Rattle.sql_flat.proofs.building.close.Goals as goal
 

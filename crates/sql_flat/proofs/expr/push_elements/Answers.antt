@@ -1,5 +1,5 @@
 use Rattle.std.proofs.Common.{rules}
-use Rattle.sql_rose.proofs.Adding.{adds-next, adds-end}
+use Rattle.sql_flat_law.proofs.Adding.{adds-next, adds-end}
 use Rattle.sql_flat.proofs.Lists.{of_element}
 use Rattle.sql_flat.proofs.expr.push_elements.Goals as goal
 

@@ -1,4 +1,4 @@
-use Rattle.sql_rose.proofs.Adding.{adds-node}
+use Rattle.sql_flat_law.proofs.Adding.{adds-node}
 use Rattle.sql_flat.proofs.expr.push_values.Goals as goal
 
 pub returns : goal.returns

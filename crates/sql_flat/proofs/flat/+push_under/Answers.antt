@@ -1,6 +1,6 @@
 use Rattle.std.proofs.Common.{rules}
 use Rattle.sql_node.specs.View.{expr_tree}
-use Rattle.sql_rose.proofs.Adding.{adds-node}
+use Rattle.sql_flat_law.proofs.Adding.{adds-node}
 use Rattle.sql_flat.proofs.Under.{under-front}
 use Rattle.sql_flat.proofs.flat.+push_under.Goals as goal
 

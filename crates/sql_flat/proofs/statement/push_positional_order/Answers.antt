@@ -1,4 +1,4 @@
-use Rattle.sql_rose.proofs.Adding.{adds-node}
+use Rattle.sql_flat_law.proofs.Adding.{adds-node}
 use Rattle.sql_flat.proofs.statement.push_positional_order.Goals as goal
 
 pub returns-in_ok-push_positions-in-Some : goal.returns-in_ok-push_positions-in-Some

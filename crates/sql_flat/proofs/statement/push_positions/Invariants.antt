@@ -1,6 +1,6 @@
 use Rattle.std.proofs.Common.{List, drop}
-use Rattle.sql_rose.specs.Building.{Adds}
-use Rattle.sql_rose.specs.Rose.{roses_of}
+use Rattle.sql_flat_law.specs.Building.{Adds}
+use Rattle.sql_flat_law.specs.Rose.{roses_of}
 use Rattle.sql_flat.specs.Flat.{flat_node}
 use Rattle.sql_flat.specs.declared.kind.FlatNode.{FlatNode}
 use Rattle.sql_flat.proofs.Lists.{of_position}

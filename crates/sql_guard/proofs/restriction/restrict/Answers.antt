@@ -3,7 +3,7 @@ use Rattle.std.proofs.lemmas.Bool.{false≢true}
 use Rattle.sql_node.specs.View.{expr_tree, statement_tree}
 use Rattle.sql_rules.specs.Lists.{AnyOf}
 use Rattle.sql_rules.specs.Scope.{parts}
-use Rattle.sql_tenant.specs.Tenant.{AnswersAsCut, BreaksAtMostTooManyBinds, IsOutOfKind}
+use Rattle.sql_guard_law.specs.Tenant.{AnswersAsCut, BreaksAtMostTooManyBinds, IsOutOfKind}
 use Rattle.sql_guard.proofs.restriction.restrict.Goals as goal
 
 pub returns-clause-exact : goal.returns-clause-exact

@@ -1,5 +1,5 @@
 use Rattle.std.proofs.Common.{◌≡◌, ◌≤◌, drop, map}
-use Rattle.sql_lexer.specs.View.{token_of}
+use Rattle.sql_read_lexer.specs.View.{token_of}
 use Rattle.sql_read.specs.inside.Closed.{closed}
 use Rattle.sql_read.proofs.reading.are_closed.Given as goal
 

@@ -2,8 +2,8 @@ use Rattle.std.proofs.Common.{rules, ◌≡◌, IsTrue, map, false, sym}
 use Rattle.sql_grammar.specs.Fits.{FitsQuery}
 use Rattle.sql_grammar.specs.Text.{text as text_of}
 use Rattle.sql_grammar.specs.Tokens.{tokens}
-use Rattle.sql_lexer.specs.View.{token_of}
-use Rattle.sql_tree.specs.View.{query_tree}
+use Rattle.sql_read_lexer.specs.View.{token_of}
+use Rattle.sql_read_tree.specs.View.{query_tree}
 use Rattle.sql_read.specs.inside.Closed.{closed}
 use Rattle.sql_read.proofs.Closed.{not_closed}
 use Rattle.sql_read.proofs.Found.{no_tokens, no_candidate, misfit}

@@ -57,7 +57,7 @@ of_spec {M} 𝓤 𝓛 𝓜 𝓡 wired =
     (code.calls-std_heap::GlobalAllocator::shrink γ wired) M 𝓤 𝓛 𝓜 𝓡 in
     let alloc-gone = alloc-goes 𝓛 𝓜 𝓡 (code.calls-hardieflax_c::Destruct++none::drop γ wired) in
     let content-gone = content-goes 𝓛 𝓜 𝓡
-    (code.calls-hardieflax_c::sql_embed++responder++Responder+Destruct::drop γ wired) in
+    (code.calls-hardieflax_c::sql_tool_session++responder++Responder+Destruct::drop γ wired) in
     let known = met 𝓤 𝓛 𝓜 𝓡 (code.calls-std_alloc::boxed::Box::into_raw γ wired)
     Content Alloc content-laws alloc-laws ghosts dict alloc-drop content-drop
     allocates alloc-gone content-gone in

@@ -1,7 +1,7 @@
 use Rattle.std.proofs.Common.{◌≡◌, [], ◌∷◌, ◌++◌, map, Some, option_map, refl, sym, ap, ◌∙◌}
 use Rattle.std.proofs.lemmas.List.{map_push}
 use Rattle.sql_node.specs.View.{expr_tree, order_item_tree}
-use Rattle.sql_syntax.specs.View as written
+use Rattle.sql_build_syntax.specs.View as written
 use Rattle.sql_build.specs.Built.{directed, expr_in, exprs_in, items_in}
 use Rattle.sql_build.proofs.Front.{goes_on}
 use Rattle.sql_build.proofs.build.Builder.+build.Goals as goal

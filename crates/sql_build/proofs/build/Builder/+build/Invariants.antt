@@ -1,6 +1,6 @@
 use Rattle.std.proofs.Common.{◌≡◌, drop, map}
 use Rattle.sql_node.specs.View.{expr_tree, order_item_tree, statement_tree}
-use Rattle.sql_syntax.specs.View as written
+use Rattle.sql_build_syntax.specs.View as written
 use Rattle.sql_build.specs.Built.{calls_in, exprs_in, items_in}
 use Rattle.sql_build.proofs.Front.{with_front}
 use Rattle.sql_build.proofs.build.Builder.+build.Given as goal

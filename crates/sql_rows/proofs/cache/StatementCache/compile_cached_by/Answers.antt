@@ -9,7 +9,7 @@ use Rattle.sql_rules.specs.declared.rule.Rule.{Rule}
 use Rattle.sql_rules.specs.declared.rule.Rule.TheVariants.{UnknownName}
 use Rattle.sql_check.specs.Compiled.{IsBuilt, IsLeast}
 use Rattle.sql_check.specs.Errors.{rule_of}
-use Rattle.sql_meaning.specs.Fitting.{AnswersFit}
+use Rattle.sql_rows_meaning.specs.Fitting.{AnswersFit}
 use Rattle.sql_rows.specs.Entries.{Entries, put}
 use Rattle.sql_rows.proofs.Next.{hit-next, new-next, new-schema, none-next}
 use Rattle.sql_rows.proofs.cache.StatementCache.compile_cached_by.Goals as goal

@@ -1,7 +1,0 @@
-use Rattle.std.proofs.Common.{◌≡◌, map, take}
-use Rattle.serde_json.specs.View.{view}
-use Rattle.sql_audit_output.specs.Line.{column_data}
-use Rattle.sql_audit_output.proofs.report.columns_json.Given as goal
-
-abbrev pub invariant-loop-used : goal.invariant-loop-used
-invariant-loop-used l = map view l.all.items ≡ map column_data (take l.used-index l.uses)

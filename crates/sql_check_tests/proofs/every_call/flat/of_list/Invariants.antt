@@ -1,4 +1,0 @@
-use Rattle.sql_check_tests.proofs.every_call.flat.of_list.Given as goal
-
-abbrev pub ghosts-counted : goal.ghosts-counted
-ghosts-counted a = record { name = a.blank.name; parts = a.blank.parts }

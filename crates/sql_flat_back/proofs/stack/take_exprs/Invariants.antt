@@ -1,0 +1,14 @@
+use Rattle.std.proofs.Common.{◌≡◌, ◌++◌, length, map}
+use Rattle.sql_node.specs.View.{expr_tree}
+use Rattle.sql_flat.specs.inside.Parts.{exprs_in}
+use Rattle.sql_flat_back.specs.inside.Stacks.{split}
+use Rattle.sql_flat_back.proofs.stack.take_exprs.Given as goal
+
+abbrev pub invariant-loop-part : goal.invariant-loop-part
+invariant-loop-part l = record {
+  exprs : map expr_tree l.all.items ++ exprs_in (split l.end l.done.items).0 ≡ exprs_in (split l.end l.initial.done.items).0;
+  left : (split l.end l.done.items).1 ≡ (split l.end l.initial.done.items).1;
+}
+
+abbrev pub decreases-loop-part : goal.decreases-loop-part
+decreases-loop-part l = length l.done.items

@@ -1,0 +1,34 @@
+-- A loop over the nodes from the first to the last, with a stack of what is known within the nodes that are open.
+use Rattle.std.specs.Prelude.{ℕ, ◌+◌, true, false, Bool, cond, List, [], ◌∷◌}
+use Rattle.std.proofs.Common.{ltb}
+use Rattle.sql_flat_law.specs.Folds.{Site}
+
+-- `outer` is known around the whole; `reads` finds in the list what is known within a node; a node that keeps what is known
+-- around it is not put on the stack
+module _ {V K N : Type 0} (kind : N → K) (end : N → ℕ) (outer : V) (keeps : K → Bool) (reads : V → ℕ → N → List N → V) where
+  -- the end of an open node, and what is known within it
+  abbrev pub Open : Type 0
+  Open = List (ℕ × V)
+
+  -- those that are open still at the index i
+  abbrev pub opened : ℕ → Open → Open
+  opened i [] = []
+  opened i (p ∷ σ) = cond (ltb i p.0) (p ∷ σ) (opened i σ)
+
+  abbrev pub top : Open → V
+  top [] = outer
+  top (p ∷ σ) = p.1
+
+  abbrev pub entered : Bool → ℕ → V → Open → Open
+  entered true e v σ = σ
+  entered false e v σ = (e, v) ∷ σ
+
+  abbrev pub visit : ℕ → N → List N → (Open → List (Site V K)) → Open → List (Site V K)
+  visit i x xs behind σ =
+      record { around = top σ; kind = kind x; within = reads (top σ) i x xs }
+      ∷ behind (entered (keeps (kind x)) (end x) (reads (top σ) i x xs) σ)
+
+  -- the sites of the nodes from the index i on
+  abbrev pub walk : Open → ℕ → List N → List (Site V K)
+  walk σ i [] = []
+  walk σ i (x ∷ xs) = visit i x xs (λ τ. walk τ (i + 1) xs) (opened i σ)

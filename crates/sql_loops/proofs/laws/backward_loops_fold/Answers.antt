@@ -1,5 +1,0 @@
-use Rattle.sql_loops.proofs.Backward.{run-flat}
-use Rattle.sql_loops.proofs.laws.backward_loops_fold.Goals as goal
-
-pub returns : goal.returns
-returns g c = λ make kind end over shows ends t. run-flat make kind end over shows ends t

@@ -1,9 +1,0 @@
--- What a tree gives: from below, from above, and gathered.
-pub mod Folds
--- What is written of a tree.
-pub mod Told
--- What loops over the flat list of a tree do, turn by turn.
-pub mod Backward
-pub mod Around
-pub mod Forward
-pub mod Telling

@@ -1,5 +1,0 @@
-use Rattle.sql_meaning.proofs.OneOfEach.{first-any}
-use Rattle.sql_meaning.proofs.first_is_any.Goals as goal
-
-pub returns : goal.returns
-returns c = first-any

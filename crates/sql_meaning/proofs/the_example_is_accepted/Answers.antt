@@ -1,5 +1,0 @@
-use Rattle.sql_meaning.proofs.Needed.{accepted_example}
-use Rattle.sql_meaning.proofs.the_example_is_accepted.Goals as goal
-
-pub returns : goal.returns
-returns c = accepted_example

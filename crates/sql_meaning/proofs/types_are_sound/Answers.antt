@@ -1,5 +1,0 @@
-use Rattle.sql_meaning.proofs.Soundness.{sound}
-use Rattle.sql_meaning.proofs.types_are_sound.Goals as goal
-
-pub returns : goal.returns
-returns c = sound

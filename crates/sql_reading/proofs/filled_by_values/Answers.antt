@@ -1,5 +1,0 @@
-use Rattle.sql_reading.proofs.ReadingLaws as laws
-use Rattle.sql_reading.proofs.filled_by_values.Goals as goal
-
-pub returns : goal.returns
-returns c = record { fills = laws.fills; as_many = laws.as_many }

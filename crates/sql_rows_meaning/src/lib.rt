@@ -1,0 +1,57 @@
+//! What a statement may answer over a database, and that the types of its columns are right, NULL included.
+//!
+//! The definitions are in `specs/`, in words in `docs/MEANING.md`. Each function here carries laws about them. None does anything
+//! when it runs.
+#![tactic(auto)]
+
+ghost use Rattle.std.specs.Prelude.{◌≡◌, List, Some, map};
+ghost use Rattle.sql_schema.specs.Declarations.{Declarations};
+ghost use Rattle.sql_schema.specs.declared.types.SqlType.{SqlType};
+ghost use Rattle.sql_dialect.specs.declared.backend.Dialect.{Dialect};
+ghost use Rattle.sql_node.specs.Tree.{Statement};
+ghost use Rattle.sql_rules.specs.Rules.{Accepted};
+ghost use Rattle.sql_rules.specs.Types.{columns};
+ghost use Rattle.sql_rows_meaning.specs.Example.{HasTwoAnswers};
+ghost use Rattle.sql_rows_meaning.specs.Fitting.{AnswersFit};
+ghost use Rattle.sql_rows_meaning.specs.LastWriter.{HasLastWriter};
+ghost use Rattle.sql_rows_meaning.specs.Needed.{ExampleIsAccepted, RuleIsNeeded};
+ghost use Rattle.sql_rows_meaning.specs.Worked.{AreWorked, FirstIsAny};
+
+/// A statement that breaks no rule and has no aggregate answers, over every database that conforms, only rows that fit the types
+/// of its columns: a column whose type is not nullable never gives NULL.
+pub fn types_are_sound()
+    ensures { (schema : Declarations) (d : Dialect) (s : Statement) (types : List SqlType)
+        → Accepted schema d s → map Some types ≡ columns s → AnswersFit schema s types }
+{}
+
+/// With two users and one post, `users` left join `posts` answers two rows in either order, and no other list.
+pub fn left_join_has_two_answers()
+    ensures { HasTwoAnswers }
+{}
+
+/// The laws are of something: the example's declarations make a schema, its database conforms, its statement breaks no rule.
+pub fn the_example_is_accepted()
+    ensures { ExampleIsAccepted }
+{}
+
+/// Without the rule NeedsNullable the types would not be right: here is a statement that breaks it alone, and an answer that does
+/// not fit.
+pub fn needs_nullable_is_needed()
+    ensures { RuleIsNeeded }
+{}
+
+/// The last of the users who have a post is an answer: a condition on a subselect that sees the outer row, an order and a limit.
+pub fn last_writer_is_an_answer()
+    ensures { HasLastWriter }
+{}
+
+/// What operators give on NULL, and what orders, cuts and combinations give on small lists.
+pub fn operators_work()
+    ensures { AreWorked }
+{}
+
+/// `DISTINCT` may leave any one row of those that are equal: the first of each key, rows being in any order, is any one of each
+/// key, in any order.
+pub fn first_is_any()
+    ensures { FirstIsAny }
+{}

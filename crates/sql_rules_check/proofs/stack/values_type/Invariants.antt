@@ -1,0 +1,13 @@
+use Rattle.std.proofs.Common.{◌≡◌, length}
+use Rattle.sql_rules_check.specs.inside.Stacks.{split}
+use Rattle.sql_rules_check.specs.inside.Typing.{where_all}
+use Rattle.sql_rules_check.proofs.stack.values_type.Given as goal
+
+abbrev pub invariant-loop-given : goal.invariant-loop-given
+invariant-loop-given l = record {
+  value : where_all l.all (split l.end l.done.items).0 ≡ where_all l.initial.all (split l.end l.initial.done.items).0;
+  left : (split l.end l.done.items).1 ≡ (split l.end l.initial.done.items).1;
+}
+
+abbrev pub decreases-loop-given : goal.decreases-loop-given
+decreases-loop-given l = length l.done.items

@@ -1,0 +1,164 @@
+//! A statement cache: what it answers, and how often it had that already.
+
+use sql_check::{Built, CompileError};
+use sql_dialect::{Mysql, Pg};
+use sql_expr::{Expr, ExpressionMethods, Statement};
+use sql_pass::{Bound, Value};
+use sql_rows::StatementCache;
+use sql_schema::{Base, ColumnDecl, Schema, SchemaBuilder, SqlList, SqlType, Table, TableDecl};
+use sql_select::{AsQuery, Query, QueryDsl};
+use sql_test_kit::{beside, column_decl, is, text};
+use std::alloc::Global;
+use std::num::NonZeroUsize;
+use std::test::Fail;
+
+const TEXT: SqlType = SqlType {
+    base: Base::Text,
+    nullable: false,
+};
+
+/// A table of users with a name.
+fn declared(alloc: Global) -> Result<TableDecl, Fail> {
+    let name = ColumnDecl {
+        name: text(alloc, "name")?,
+        sql_name: text(alloc, "name")?,
+        ty: TEXT,
+        max_length: None,
+    };
+    Ok(TableDecl {
+        name: text(alloc, "users")?,
+        sql_name: text(alloc, "users")?,
+        schema: None,
+        columns: SqlList::from(vec![in alloc; column_decl(alloc, "id")?, name]?),
+        primary_key: SqlList::from(vec![in alloc; text(alloc, "id")?]?),
+    })
+}
+
+fn schema(alloc: Global) -> Result<Schema, Fail> {
+    let mut builder = SchemaBuilder::new(alloc);
+    builder.table(declared(alloc)?)?;
+    Ok(builder.build()?)
+}
+
+fn users(alloc: Global) -> Result<Table, Fail> {
+    let schema = schema(alloc)?;
+    let table = schema.table("users").ok_or("no table")?;
+    Ok(table.try_clone(alloc)?)
+}
+
+fn name(alloc: Global) -> Result<Expr, Fail> {
+    let column = users(alloc)?.column(alloc, "name")?;
+    Ok(Expr::Column(column.ok_or("no column")?))
+}
+
+/// `("users"."name" = $1)` over this value.
+fn name_is(alloc: Global, value: Value) -> Result<Expr, Fail> {
+    let (value, name) = beside(value, name(alloc))?;
+    Ok(name.eq(alloc, Expr::Value(TEXT, value))?)
+}
+
+/// `SELECT "users"."id", "users"."name" FROM "users" WHERE ("users"."name" = $1)` over this value.
+fn where_name_is(alloc: Global, value: Value) -> Result<Statement, Fail> {
+    let (condition, users) = beside(name_is(alloc, value)?, users(alloc))?;
+    let (condition, all) = beside(condition, users.as_query(alloc))?;
+    Ok(all.filter(alloc, condition)?.into_statement())
+}
+
+fn named(alloc: Global, name: &str) -> Result<Statement, Fail> {
+    where_name_is(alloc, Value::Text(text(alloc, name)?))
+}
+
+/// `SELECT "users"."name" FROM "users"`.
+fn names(alloc: Global) -> Result<Statement, Fail> {
+    let (name, users) = beside(name(alloc)?, users(alloc))?;
+    let (name, all) = beside(name, users.as_query(alloc))?;
+    Ok(all.select(name).into_statement())
+}
+
+fn empty(alloc: Global, capacity: usize) -> Result<StatementCache, Fail> {
+    let capacity = NonZeroUsize::new(capacity).ok_or("no capacity")?;
+    Ok(StatementCache::new(alloc, schema(alloc)?, capacity)?)
+}
+
+fn ask(
+    alloc: Global,
+    cache: &mut StatementCache,
+    statement: Statement,
+) -> Result<Built, CompileError> {
+    let answer = cache.compile_cached(alloc, &Pg, &statement);
+    drop(statement);
+    answer
+}
+
+/// Asks for the users of this name, and compares the text and the value.
+fn asks_for(alloc: Global, cache: &mut StatementCache, name: &str) -> Result<(), Fail> {
+    let built = ask(alloc, cache, named(alloc, name)?)?;
+    is(
+        built.sql.as_str()
+            == "SELECT \"users\".\"id\", \"users\".\"name\" FROM \"users\" WHERE (\"users\".\"name\" = $1)",
+        "the text",
+    )?;
+    match built.binds.as_slice() {
+        [Bound::Value(_, Value::Text(bound))] => is(bound.as_str() == name, "the value"),
+        _ => Err("one value")?,
+    }
+}
+
+#[test]
+fn one_entry(rt: HostRuntime) -> Result<(), Fail> {
+    let alloc = rt.alloc();
+    let mut cache = empty(alloc, 1)?;
+    assert!(rt; cache.is_empty());
+    asks_for(alloc, &mut cache, "Sean")?;
+    asks_for(alloc, &mut cache, "Tess")?;
+    ask(alloc, &mut cache, names(alloc)?)?;
+    asks_for(alloc, &mut cache, "Sean")?;
+    assert_eq!(rt; cache.hits(), 1);
+    assert_eq!(rt; cache.len(), 1);
+    assert!(rt; cache.schema().table("users").is_some());
+    Ok(())
+}
+
+/// What is kept for a name serves for no NULL, which does not fit.
+#[test]
+fn a_value_that_does_not_fit(rt: HostRuntime) -> Result<(), Fail> {
+    let alloc = rt.alloc();
+    let mut cache = empty(alloc, 1)?;
+    asks_for(alloc, &mut cache, "Sean")?;
+    let null = ask(alloc, &mut cache, where_name_is(alloc, Value::Null)?);
+    assert!(rt; matches!(&null, Err(CompileError::TypeMismatch)));
+    assert_eq!(rt; cache.hits(), 0);
+    assert_eq!(rt; cache.len(), 1);
+    asks_for(alloc, &mut cache, "Tess")?;
+    assert_eq!(rt; cache.hits(), 1);
+    Ok(())
+}
+
+/// A dialect has entries of its own, and the entry that was used least recently goes.
+#[test]
+fn two_entries(rt: HostRuntime) -> Result<(), Fail> {
+    let alloc = rt.alloc();
+    let mut cache = empty(alloc, 2)?;
+    asks_for(alloc, &mut cache, "Sean")?;
+    on_mysql(alloc, &mut cache)?;
+    asks_for(alloc, &mut cache, "Tess")?;
+    assert_eq!(rt; cache.hits(), 1);
+    ask(alloc, &mut cache, names(alloc)?)?;
+    asks_for(alloc, &mut cache, "Sean")?;
+    assert_eq!(rt; cache.hits(), 2);
+    on_mysql(alloc, &mut cache)?;
+    assert_eq!(rt; cache.hits(), 2);
+    assert_eq!(rt; cache.len(), 2);
+    Ok(())
+}
+
+fn on_mysql(alloc: Global, cache: &mut StatementCache) -> Result<(), Fail> {
+    let statement = named(alloc, "Sean")?;
+    let answer = cache.compile_cached(alloc, &Mysql, &statement);
+    drop(statement);
+    is(
+        answer?.sql.as_str()
+            == "SELECT `users`.`id`, `users`.`name` FROM `users` WHERE (`users`.`name` = ?)",
+        "the text on MySQL",
+    )
+}

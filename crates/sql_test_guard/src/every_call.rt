@@ -1,0 +1,34 @@
+//! The public call of the guard that can answer NoMemory, made once with memory to spare.
+
+use crate::fixture::{all_posts, owned};
+use sql_expr::{Expr, Statement};
+use sql_guard::restrict;
+use sql_schema::Table;
+use sql_select::Query;
+use sql_test_kit::{beside, gives, table};
+use std::alloc::Global;
+use std::test::Fail;
+
+fn is_restricted(
+    alloc: Global,
+    statement: Statement,
+    predicate: Expr,
+    posts: &Table,
+) -> Result<(), Fail> {
+    let restricted = restrict(alloc, &statement, posts, &predicate);
+    drop(statement);
+    drop(predicate);
+    gives(
+        alloc,
+        restricted,
+        "SELECT \"posts\".\"id\", \"posts\".\"user_id\" FROM \"posts\" WHERE (\"posts\".\"user_id\" = $1)",
+    )
+}
+
+#[test]
+fn every_call_once(rt: HostRuntime) -> Result<(), Fail> {
+    let alloc = rt.alloc();
+    let posts = table(alloc, "posts")?;
+    let (statement, owned) = beside(all_posts(alloc)?.into_statement(), owned(alloc))?;
+    is_restricted(alloc, statement, owned, &posts)
+}

@@ -1,0 +1,55 @@
+//! A tenant's requests.
+
+use crate::examples::{GUARD, GUARDED};
+use sql_build::expression;
+use sql_dialect::{Backend, Dialect, Pg, QueryBuilder};
+use sql_pass::QueryFragment;
+use sql_schema::Schema;
+use sql_test_kit::{is, reads};
+use sql_tool_build::{RequestKey, StatementCache};
+use sql_tool_document::{Document, Request, read_guarded};
+use sql_tool_guard::{Tenant, TenantDocument, guarded_line, read_tenant};
+use std::alloc::Global;
+use std::collections::BTreeMap;
+use std::num::NonZeroUsize;
+use std::test::Fail;
+
+pub(crate) fn every_call(alloc: Global) -> Result<(), Fail> {
+    predicate(alloc)?;
+    of_document(alloc)
+}
+
+fn predicate(alloc: Global) -> Result<(), Fail> {
+    let guarded = read_guarded(alloc, GUARD.as_bytes())?;
+    let schema = &guarded.document.schema;
+    let made = expression(alloc, schema, Dialect::Pg, &guarded.guard.predicate);
+    drop(guarded);
+    let made = made?;
+    let written = made.to_sql(Pg.query_builder(alloc), &Pg);
+    drop(made);
+    reads(written?.finish(), "(\"posts\".\"user_id\" = $1)")
+}
+
+fn of_document(alloc: Global) -> Result<(), Fail> {
+    let TenantDocument { document, tenant } = read_tenant(alloc, GUARD.as_bytes())?;
+    let Document { schema, requests } = document;
+    let told = match requests.as_slice().first() {
+        Some(request) => of_request(alloc, schema, &tenant, request),
+        None => is(false, "a request"),
+    };
+    drop(requests);
+    drop(tenant);
+    told
+}
+
+fn of_request(
+    alloc: Global,
+    schema: Schema,
+    tenant: &Tenant,
+    request: &Request,
+) -> Result<(), Fail> {
+    let mut cache = StatementCache::new(alloc, schema, NonZeroUsize::MIN)?;
+    let mut seen: BTreeMap<RequestKey, u64> = BTreeMap::new(alloc);
+    let line = guarded_line(alloc, &mut cache, &mut seen, 1, tenant, request)?;
+    is(line.as_str() == GUARDED, "the tenant's line")
+}

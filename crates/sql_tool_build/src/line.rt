@@ -1,0 +1,228 @@
+ghost use Rattle.std.specs.Prelude.{◌≡◌, [], ◌∷◌, ◌++◌, IfOk, IfErr, OnOk, Some, option_map, string_bytes};
+ghost use Rattle.serde_json.specs.Written.{compact_text};
+ghost use Rattle.sql_check.specs.Compiled.{IsBuilt, IsLeast, IsRead};
+ghost use Rattle.sql_check.specs.Errors.{rule_of};
+ghost use Rattle.sql_tool_document.specs.Trees.{request_tree};
+ghost use Rattle.sql_node.specs.View.{statement_tree};
+ghost use Rattle.sql_rows.specs.Entries.{IsNext};
+ghost use Rattle.sql_rules_check.specs.declared.names.Names.TheVariants as name;
+ghost use Rattle.sql_rules.specs.Rules.{Broken};
+ghost use Rattle.sql_rules.specs.Texts.{rule_text};
+ghost use Rattle.sql_rules.specs.declared.rule.Rule.{Rule};
+ghost use Rattle.sql_rules.specs.declared.rule.Rule.TheVariants.{UnknownName};
+ghost use Rattle.sql_tool_build.specs.Judgement.{made};
+ghost use Rattle.sql_tool_build.specs.Objects.{refused as refused_data, statement_data};
+ghost use Rattle.sql_tool_build.specs.Output.{line_text, statement_request};
+ghost use Rattle.sql_tool_build.specs.inside.Keys.{keyed, id_found, seen_at, IsKept, HasLine};
+
+use crate::known::request_id;
+use crate::narrow::is_narrow;
+use crate::object::{accepted_line, refusal_line};
+use sql_build::statement;
+use sql_build_law::built_statements_know_their_names;
+use sql_check::{Built, CompileError, Rule};
+use sql_dialect::{Bracket, Dialect, Mysql, Pg, Sqlite};
+use sql_node::Statement;
+use sql_rows::{Names, RequestKey, StatementCache, compile_sound_by};
+use sql_schema::Schema;
+use sql_tool_document::Request;
+use std::alloc::{AllocError, Global};
+use std::collections::BTreeMap;
+
+/// `compile_sound_by` for a dialect that is known when the program runs.
+fn compile_for(
+    alloc: Global,
+    dialect: Dialect,
+    names: Names,
+    schema: &Schema,
+    statement: &Statement,
+) -> Result<Built, CompileError>
+    requires { names ≡ name.Known
+        → ¬ Broken UnknownName schema.now dialect (statement_tree statement.now) }
+    ensures built { IfOk result (λ b. IsBuilt schema.now dialect (statement_tree statement.now) b) }
+    ensures read { IfOk result (λ b. IsRead dialect (statement_tree statement.now)
+        b.sql b.binds) }
+    ensures refused { IfErr result (λ e. (r : Rule) → rule_of e ≡ Some r
+        → IsLeast r schema.now dialect (statement_tree statement.now)) }
+{
+    match dialect {
+        Dialect::Pg => compile_sound_by(alloc, names, &Pg, schema, statement),
+        Dialect::Mysql => compile_sound_by(alloc, names, &Mysql, schema, statement),
+        Dialect::Sqlite => compile_sound_by(alloc, names, &Sqlite, schema, statement),
+        Dialect::Bracket => compile_sound_by(alloc, names, &Bracket, schema, statement),
+    }
+}
+
+/// `compile_cached_by` for a dialect that is known when the program runs.
+pub fn compile_cached_for(
+    alloc: Global,
+    dialect: Dialect,
+    names: Names,
+    cache: &mut StatementCache,
+    statement: &Statement,
+) -> Result<Built, CompileError>
+    requires { names ≡ name.Known
+        → ¬ Broken UnknownName cache.old.schema dialect (statement_tree statement.now) }
+    ensures built { IfOk result (λ b.
+        IsBuilt cache.old.schema dialect (statement_tree statement.now) b) }
+    ensures read { IfOk result (λ b. IsRead dialect (statement_tree statement.now)
+        b.sql b.binds) }
+    ensures refused { IfErr result (λ e. (r : Rule) → rule_of e ≡ Some r
+        → IsLeast r cache.old.schema dialect (statement_tree statement.now)) }
+    ensures schema { cache.new.schema ≡ cache.old.schema }
+    ensures entries { IsNext dialect (statement_tree statement.now) cache.old result cache.new }
+{
+    match dialect {
+        Dialect::Pg => cache.compile_cached_by(alloc, names, &Pg, statement),
+        Dialect::Mysql => cache.compile_cached_by(alloc, names, &Mysql, statement),
+        Dialect::Sqlite => cache.compile_cached_by(alloc, names, &Sqlite, statement),
+        Dialect::Bracket => cache.compile_cached_by(alloc, names, &Bracket, statement),
+    }
+}
+
+/// What is told of a statement over the cache's schema, without a look-up.
+fn compile_anew(
+    alloc: Global,
+    dialect: Dialect,
+    names: Names,
+    cache: &StatementCache,
+    statement: &Statement,
+) -> Result<Built, CompileError>
+    requires { names ≡ name.Known
+        → ¬ Broken UnknownName cache.now.schema dialect (statement_tree statement.now) }
+    ensures built { IfOk result (λ b.
+        IsBuilt cache.now.schema dialect (statement_tree statement.now) b) }
+    ensures read { IfOk result (λ b. IsRead dialect (statement_tree statement.now)
+        b.sql b.binds) }
+    ensures refused { IfErr result (λ e. (r : Rule) → rule_of e ≡ Some r
+        → IsLeast r cache.now.schema dialect (statement_tree statement.now)) }
+{
+    compile_for(alloc, dialect, names, cache.schema(), statement)
+}
+
+/// What is told of a statement over the cache's schema. It is looked up where that takes less time than compiling.
+fn compile_in(
+    alloc: Global,
+    dialect: Dialect,
+    names: Names,
+    cache: &mut StatementCache,
+    statement: &Statement,
+) -> Result<Built, CompileError>
+    requires { names ≡ name.Known
+        → ¬ Broken UnknownName cache.old.schema dialect (statement_tree statement.now) }
+    ensures built { IfOk result (λ b.
+        IsBuilt cache.old.schema dialect (statement_tree statement.now) b) }
+    ensures read { IfOk result (λ b. IsRead dialect (statement_tree statement.now)
+        b.sql b.binds) }
+    ensures refused { IfErr result (λ e. (r : Rule) → rule_of e ≡ Some r
+        → IsLeast r cache.old.schema dialect (statement_tree statement.now)) }
+    ensures schema { cache.new.schema ≡ cache.old.schema }
+{
+    if is_narrow(statement) {
+        compile_cached_for(alloc, dialect, names, cache, statement)
+    } else {
+        compile_anew(alloc, dialect, names, cache, statement)
+    }
+}
+
+/// The line of a request whose statement is accepted.
+fn accept(
+    alloc: Global,
+    dialect: Dialect,
+    seen: &mut BTreeMap<RequestKey, u64>,
+    number: u64,
+    built: Built,
+) -> Result<String, AllocError>
+    ensures line { IfOk result (λ text. string_bytes text ≡ compact_text
+        (statement_data built.binds built.sql_types
+        (id_found (seen_at seen.old) number (option_map (keyed dialect) built.id))
+        built.safe built.sql)
+        ++ 10 ∷ []) }
+    ensures kept { OnOk result (IsKept (seen_at seen.old) (seen_at seen.new) number
+        (option_map (keyed dialect) built.id)) }
+{
+    let Built {
+        sql,
+        binds,
+        sql_types,
+        safe,
+        id: key,
+    } = built;
+    let id = request_id(seen, dialect, key, number)?;
+    accepted_line(
+        alloc,
+        binds.as_slice(),
+        sql_types.as_slice(),
+        id,
+        safe,
+        sql.as_str(),
+    )
+}
+
+/// The line of a request whose statement is not compiled.
+fn refuse(alloc: Global, error: CompileError) -> Result<String, AllocError>
+    ensures { IfOk result (λ text. (rule : Rule) × (rule_of error ≡ Some rule)
+        × (string_bytes text ≡ compact_text (refused_data (rule_text rule)) ++ 10 ∷ [])) }
+{
+    match error.rule() {
+        Some(rule) => refusal_line(alloc, rule.name()),
+        None => Err(AllocError),
+    }
+}
+
+/// The line of a statement, as that of the request with this number, where `seen` has the keys of those before it. What the cache holds
+/// changes no line.
+pub fn statement_line(
+    alloc: Global,
+    cache: &mut StatementCache,
+    seen: &mut BTreeMap<RequestKey, u64>,
+    number: u64,
+    dialect: Dialect,
+    names: Names,
+    statement: &Statement,
+) -> Result<String, AllocError>
+    requires { names ≡ name.Known
+        → ¬ Broken UnknownName cache.old.schema dialect (statement_tree statement.now) }
+    ensures line { IfOk result (λ text. HasLine cache.old.schema
+        (record { dialect = dialect; statement = made (statement_tree statement.now) })
+        number (seen_at seen.old) (seen_at seen.new)
+        (λ l. string_bytes text ≡ line_text l)) }
+    ensures schema { cache.new.schema ≡ cache.old.schema }
+{
+    match compile_in(alloc, dialect, names, cache, statement) {
+        Ok(built) => accept(alloc, dialect, seen, number, built),
+        Err(error) => refuse(alloc, error),
+    }
+}
+
+/// The line of the request with this number, where `seen` has the keys of those before it. What the cache holds changes no line.
+pub fn request_line(
+    alloc: Global,
+    cache: &mut StatementCache,
+    seen: &mut BTreeMap<RequestKey, u64>,
+    number: u64,
+    request: &Request,
+) -> Result<String, AllocError>
+    ensures line { IfOk result (λ text. HasLine cache.old.schema
+        (statement_request cache.old.schema (request_tree request.now))
+        number (seen_at seen.old) (seen_at seen.new)
+        (λ l. string_bytes text ≡ line_text l)) }
+    ensures schema { cache.new.schema ≡ cache.old.schema }
+{
+    match statement(alloc, cache.schema(), request.dialect, &request.query)? {
+        None => refusal_line(alloc, Rule::UnknownName.name()),
+        Some(statement) => {
+            built_statements_know_their_names();
+            let names = Names::Known;
+            statement_line(
+                alloc,
+                cache,
+                seen,
+                number,
+                request.dialect,
+                names,
+                &statement,
+            )
+        }
+    }
+}

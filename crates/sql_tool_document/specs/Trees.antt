@@ -1,0 +1,26 @@
+-- Requests and documents as plain trees.
+use Rattle.std.specs.Prelude.{map}
+use Rattle.sql_build_syntax.specs.View.{expr_tree, query_tree}
+use Rattle.sql_tool_document.specs.Documents as t
+use Rattle.sql_tool_document.specs.Guards as g
+use Rattle.sql_tool_document.specs.Texts as x
+use Rattle.sql_tool_document.specs.declared.document.Document.{Document}
+use Rattle.sql_tool_document.specs.declared.document.Request.{Request}
+use Rattle.sql_tool_document.specs.declared.guard.Guard.{Guard}
+use Rattle.sql_tool_document.specs.declared.guard.Guarded.{Guarded}
+use Rattle.sql_tool_document.specs.declared.texts.Texts.{Texts}
+
+abbrev pub request_tree : Request → t.Request
+request_tree r = record { dialect = r.dialect; query = query_tree r.query }
+
+abbrev pub document_tree : Document → t.Document
+document_tree d = record { schema = d.schema; requests = map request_tree d.requests }
+
+abbrev pub guard_tree : Guard → g.Guard
+guard_tree g = record { table = g.table; predicate = expr_tree g.predicate }
+
+abbrev pub guarded_tree : Guarded → g.Guarded
+guarded_tree g = record { document = document_tree g.document; guard = guard_tree g.guard }
+
+abbrev pub texts_tree : Texts → x.Texts
+texts_tree t = record { schema = t.schema; texts = t.texts }

@@ -1,0 +1,68 @@
+-- A document has at most one output for a tenant.
+use Rattle.std.proofs.Common.{◌≡◌, ◌≢◌, ◌∙◌, ℕ, List, [], ◌∷◌, Option, None, Some, ap, inl, inr, refl, sym, subst}
+use Rattle.sql_schema.specs.Declarations.{Declarations}
+use Rattle.sql_schema.specs.declared.declaration.TableDecl.{TableDecl}
+use Rattle.sql_node.specs.Tree.{Expr, Statement}
+use Rattle.sql_tool_document.specs.Documents.{Document, Request}
+use Rattle.sql_guard.specs.Refused.{IsRefusal, MayRestrict}
+use Rattle.sql_guard.specs.declared.error.RestrictError.{RestrictError}
+use Rattle.sql_guard.specs.declared.error.RestrictError.TheVariants.{BadPredicate, OutOfKind, NoRelation, NoMemory}
+use Rattle.sql_tool_build.proofs.Once.{same-lines}
+use Rattle.sql_tool_build.specs.Judgement.{Made, unmade}
+use Rattle.sql_tool_build.specs.Output.{AreLines, Line, StatementRequest, lines_text}
+use Rattle.sql_tool_guard.specs.Output.{AreGuarded, IsGuarded, IsGuardedOutput, IsRestricted, refusal_text}
+use Rattle.sql_tool_guard.specs.Tenants.{Tenant}
+
+module _ (t : TableDecl) (p : Expr) (s : Statement) where
+  one-refusal : (e f : RestrictError) → e ≢ NoMemory → f ≢ NoMemory → IsRefusal e t p s → IsRefusal f t p s → e ≡ f
+  one-refusal BadPredicate BadPredicate some known is it = refl
+  one-refusal BadPredicate OutOfKind some known is it = absurd (is it.0)
+  one-refusal BadPredicate NoRelation some known is it = absurd (is it.0)
+  one-refusal BadPredicate NoMemory some known is it = absurd (known refl)
+  one-refusal OutOfKind BadPredicate some known is it = absurd (it is.0)
+  one-refusal OutOfKind OutOfKind some known is it = refl
+  one-refusal OutOfKind NoRelation some known is it = absurd (it.1 is.1)
+  one-refusal OutOfKind NoMemory some known is it = absurd (known refl)
+  one-refusal NoRelation BadPredicate some known is it = absurd (it is.0)
+  one-refusal NoRelation OutOfKind some known is it = absurd (is.1 it.1)
+  one-refusal NoRelation NoRelation some known is it = refl
+  one-refusal NoRelation NoMemory some known is it = absurd (known refl)
+  one-refusal NoMemory f some known is it = absurd (some refl)
+
+  not-both : (e : RestrictError) → e ≢ NoMemory → IsRefusal e t p s → MayRestrict t p s → ⊥
+  not-both BadPredicate known is may = is may.predicate
+  not-both OutOfKind known is may = may.kind is.1
+  not-both NoRelation known is may = may.related is.2
+  not-both NoMemory known is may = known refl
+
+one-made : (t : Tenant) (o : Option Statement) (a b : Made) → IsRestricted t o a → IsRestricted t o b → a ≡ b
+one-made t None a b first second = first ∙ sym second
+one-made t (Some s) a b (inl (e, some, is, made)) (inl (f, known, it, also)) =
+    made ∙ ap (λ x. unmade (refusal_text x)) (one-refusal t.table t.predicate s e f some known is it) ∙ sym also
+one-made t (Some s) a b (inl (e, some, is, made)) (inr (may, also)) = absurd (not-both t.table t.predicate s e some is may)
+one-made t (Some s) a b (inr (may, made)) (inl (f, known, it, also)) = absurd (not-both t.table t.predicate s f known it may)
+one-made t (Some s) a b (inr (may, made)) (inr (too, also)) = made ∙ sym also
+
+one-request : (schema : Declarations) (t : Tenant) (q : Request) (a b : StatementRequest) → IsGuarded schema t q a
+    → IsGuarded schema t q b → a ≡ b
+one-request schema t q a b first second =
+    let dialects = first.dialect ∙ sym second.dialect in
+    let statements = one-made t _ a.statement b.statement first.statement second.statement in
+    λ i. record { dialect = dialects i; statement = statements i }
+
+same-requests : (schema : Declarations) (t : Tenant) (qs : List Request) (rs ss : List StatementRequest)
+    → AreGuarded schema t qs rs → AreGuarded schema t qs ss → rs ≡ ss
+same-requests schema t [] [] [] first second = refl
+same-requests schema t [] [] (s ∷ ss) first second = absurd second
+same-requests schema t [] (r ∷ rs) ss first second = absurd first
+same-requests schema t (q ∷ qs) [] ss first second = absurd first
+same-requests schema t (q ∷ qs) (r ∷ rs) [] first second = absurd second
+same-requests schema t (q ∷ qs) (r ∷ rs) (s ∷ ss) first second =
+    let head = one-request schema t q r s first.0 second.0 in
+    let tail = same-requests schema t qs rs ss first.1 second.1 in
+    λ i. head i ∷ tail i
+
+pub one-output : (d : Document) (t : Tenant) (a b : List ℕ) → IsGuardedOutput d t a → IsGuardedOutput d t b → a ≡ b
+one-output d t a b (rs, made, (ls, first, is)) (ss, also, (ks, second, it)) =
+    let requests = same-requests d.schema t d.requests rs ss made also in
+    is ∙ ap lines_text (same-lines d.schema [] ss ls ks (subst (λ x. AreLines d.schema [] x ls) requests first) second) ∙ sym it

@@ -1,0 +1,15 @@
+//! The program's commands over bytes in memory, and sessions, which answer requests over one schema in many calls.
+#![tactic(auto)]
+
+mod buffer;
+mod call;
+mod responder;
+mod session;
+mod within;
+
+pub use call::{Reply, answer};
+pub use responder::Responder;
+pub use session::{Session, requests};
+pub use sql_dialect::Dialect;
+pub use sql_tool_document::Request;
+pub use sql_tool_run::{Command, LIMIT, Status};
