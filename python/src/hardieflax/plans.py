@@ -165,7 +165,8 @@ class Planner:
         if answer["id"] is not None:
             with self._lock:
                 self._count += 1
-        plan = Plan(answer["sql"], trial.order(answers), tuple(answer["columns"]), answer["safe"], self._count if answer["id"] is not None else None)
+        number = None if answer["id"] is None else self._count
+        plan = Plan(answer["sql"], trial.order(answers), tuple(answer["columns"]), answer["safe"], number)
         told = [[each.type.document_name, list(each.wire) if each.is_list else each.wire] for each in plan.binds(request.values)]
         expected = [name for output in request.query.outputs for name in output.document_names()]
         if told != answer["binds"]:

@@ -5,7 +5,7 @@
 from __future__ import annotations
 
 import json
-from typing import Any, Generic, List, Optional, Sequence, Tuple, Type, TypeVar, Union, cast, overload
+from typing import Any, Generic, List, Optional, Sequence, Tuple, Type, TypeVar, Union, overload
 
 from .errors import ValueRefused
 from .expressions import HOLE, Expr, Order, Values, filled
@@ -29,6 +29,8 @@ Q = TypeVar("Q", bound="Statement[Any]")
 S = TypeVar("S", bound="Select[Any]")
 
 Condition = Expr[Optional[bool]]
+# The tables that are read, in order, each with whether its row may be missing.
+Leaves = Tuple[Tuple[Type[Any], bool], ...]
 # What may be selected: an expression, or all columns of a table.
 Item = Union[Expr[A], Type[A], "Maybe[A]"]
 
@@ -52,7 +54,7 @@ def nullable(of: Any) -> Any:
 class Statement(Generic[R_co]):
     """What gives rows of the type R: a select statement or a combination of such."""
 
-    def __init__(self, begin: str, calls: str, values: Values, leaves: Tuple[Tuple[Type[Any], bool], ...], outputs: Optional[Tuple[Output, ...]]) -> None:
+    def __init__(self, begin: str, calls: str, values: Values, leaves: Leaves, outputs: Optional[Tuple[Output, ...]]) -> None:
         self._begin, self._calls, self.values, self._leaves, self._outputs = begin, calls, values, leaves, outputs
 
     @property

@@ -225,6 +225,14 @@ def _timestamp_text(value: datetime.datetime) -> str:
     return value.isoformat(" ")
 
 
+def _decimal_text(value: decimal.Decimal) -> str:
+    return format(value, "f") if value.is_finite() else str(value)
+
+
+def _decimal_of(value: Any) -> decimal.Decimal:
+    return decimal.Decimal(str(value))
+
+
 def _float_text(value: float) -> str:
     return repr(float(value))
 
@@ -239,7 +247,7 @@ Bool: SqlType[bool] = _Bool("Bool", (bool,))
 Date: SqlType[datetime.date] = _Date("Date", (), datetime.date.isoformat, datetime.date.fromisoformat)
 Time: SqlType[datetime.time] = OtherType("Time", (datetime.time,), datetime.time.isoformat, _time_of)
 Timestamp: SqlType[datetime.datetime] = _Timestamp("Timestamp", (datetime.datetime,), _timestamp_text, datetime.datetime.fromisoformat)
-Decimal: SqlType[decimal.Decimal] = OtherType("Decimal", (decimal.Decimal,), lambda value: format(value, "f"), lambda value: decimal.Decimal(str(value)))
+Decimal: SqlType[decimal.Decimal] = OtherType("Decimal", (decimal.Decimal,), _decimal_text, _decimal_of)
 Float: SqlType[float] = OtherType("Float", (float,), _float_text, float)
 Uuid: SqlType[uuid.UUID] = OtherType("Uuid", (uuid.UUID,), str, uuid.UUID)
 Json: SqlType[Any] = _Json("Json", (), str, json.loads)

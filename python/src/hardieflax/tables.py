@@ -147,8 +147,8 @@ def _another(table: Type[A], source: str, expressions: Dict[str, Expr[Any]], val
 def alias(table: Type[A], name: str) -> Type[A]:
     """The table under another name, so that a query may read it twice."""
     of = declared(table)
-    fields: Dict[str, Expr[Any]] = {key: Expr(f'{{"field":[{quoted(name)},{quoted(of.__table__)},{quoted(key)}]}}', (), column.type)
-              for key, column in of.__columns__.items()}
+    begin = f'{{"field":[{quoted(name)},{quoted(of.__table__)},'
+    fields: Dict[str, Expr[Any]] = {key: Expr(f"{begin}{quoted(key)}]}}", (), column.type) for key, column in of.__columns__.items()}
     return _another(table, f'{{"alias":{quoted(name)},"of":{quoted(of.__table__)}}}', fields)
 
 
