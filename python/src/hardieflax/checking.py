@@ -14,10 +14,10 @@ from .sql_types import SqlType
 from .tables import Table, key_of
 
 
-def differences(schema: Schema, database: Any, **options: Any) -> List[str]:
+def differences(declared: Schema, database: Any, **options: Any) -> List[str]:
     """A line for each point in which the database is not as the schema says. What it has besides is no difference."""
     found = {each.name: each for each in reflected(database, **options).tables}
-    return [line for table in schema for line in _of_table(table, found)]
+    return [line for table in declared for line in _of_table(table, found)]
 
 
 def _of_table(table: Any, found: Any) -> Iterator[str]:

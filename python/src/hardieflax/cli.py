@@ -74,7 +74,7 @@ def _options(given: argparse.Namespace) -> Dict[str, Any]:
 
 
 def _schema(given: argparse.Namespace) -> int:
-    reflection = reflected(given.url, as_text=given.audit, declared_only=not given.python, **_options(given))
+    reflection = reflected(given.url, as_text=given.audit, for_document=not given.python, **_options(given))
     schema = reflection.schema()
     for note in schema.notes:
         print("note:", note, file=sys.stderr)

@@ -51,12 +51,12 @@ class FoundTable:
 class Reflection:
     """Tables of a database, what was left out of them, and the schema that they make.
 
-    `as_text` takes columns whose type has no counterpart for Text, so that `audit` knows them; `declared_only` leaves out those whose
-    type a document does not know, as dates.
+    `as_text` takes columns whose type has no counterpart for Text, so that `audit` knows them. `for_document` leaves out those whose
+    type a document does not know, as dates, and keeps names that Python cannot write.
     """
 
-    def __init__(self, tables: Iterable[FoundTable], notes: Iterable[str], as_text: bool = False, declared_only: bool = False) -> None:
-        self.tables, self.notes, self._as_text, self._declared_only = list(tables), list(notes), as_text, declared_only
+    def __init__(self, tables: Iterable[FoundTable], notes: Iterable[str], as_text: bool = False, for_document: bool = False) -> None:
+        self.tables, self.notes, self._as_text, self._for_document = list(tables), list(notes), as_text, for_document
 
     def schema(self) -> Schema:
         """The schema of the tables that have a counterpart."""
@@ -78,7 +78,7 @@ class Reflection:
 
     def _type(self, table: str, column: FoundColumn) -> Optional[SqlType[Any]]:
         is_other = isinstance(column.type, SqlType) and not column.type.is_declared
-        if isinstance(column.type, SqlType) and not (is_other and self._declared_only):
+        if isinstance(column.type, SqlType) and not (is_other and self._for_document):
             return column.type
         name = column.type if isinstance(column.type, str) else column.type.name
         if self._as_text:
@@ -112,7 +112,7 @@ class Reflection:
                relations: Dict[Tuple[str, str], str]) -> Type[Table]:
         made = {}
         for name, type in columns.items():
-            attribute = attribute_name(name)
+            attribute = name if self._for_document else attribute_name(name)
             sql_name = None if attribute == name else name
             made[attribute] = Column(type, key=name in key, sql_name=sql_name, references=relations.get((table.name, name)))
         return made_class(table.name, made, schema=table.schema)
@@ -150,7 +150,7 @@ def attribute_name(name: str) -> str:
 
 
 def reflected(database: Any, *, only: Iterable[str] = (), schema: Optional[str] = None, trust_declared: bool = False,
-              as_text: bool = False, declared_only: bool = False) -> Reflection:
+              as_text: bool = False, for_document: bool = False) -> Reflection:
     """What a database describes: a connection of sqlite3, the path of an SQLite file, an engine or a connection of SQLAlchemy, or a URL."""
     notes: List[str] = []
     names = frozenset(only)
@@ -163,7 +163,7 @@ def reflected(database: Any, *, only: Iterable[str] = (), schema: Optional[str] 
     missing = sorted(names - {each.name for each in tables})
     if missing:
         raise SchemaError(f"the database has no table {', '.join(missing)}")
-    return Reflection(tables, notes, as_text, declared_only)
+    return Reflection(tables, notes, as_text, for_document)
 
 
 def _sqlite_connection(database: Any) -> Optional[sqlite3.Connection]:
@@ -248,5 +248,3 @@ def _rows(connection: sqlite3.Connection, function: str, name: str) -> List[Tupl
     cursor = connection.cursor()
     cursor.row_factory = None
     return cursor.execute(f"SELECT * FROM {function}(?)", [name]).fetchall()
-
-

@@ -248,7 +248,7 @@ Date: SqlType[datetime.date] = _Date("Date", (), datetime.date.isoformat, dateti
 Time: SqlType[datetime.time] = OtherType("Time", (datetime.time,), datetime.time.isoformat, _time_of)
 Timestamp: SqlType[datetime.datetime] = _Timestamp("Timestamp", (datetime.datetime,), _timestamp_text, datetime.datetime.fromisoformat)
 Decimal: SqlType[decimal.Decimal] = OtherType("Decimal", (decimal.Decimal,), _decimal_text, _decimal_of)
-Float: SqlType[float] = OtherType("Float", (float,), _float_text, float)
+Float: SqlType[float] = OtherType("Float", (float, int), _float_text, float)
 Uuid: SqlType[uuid.UUID] = OtherType("Uuid", (uuid.UUID,), str, uuid.UUID)
 Json: SqlType[Any] = _Json("Json", (), str, json.loads)
 
