@@ -137,11 +137,14 @@ class Planner:
         guard = requests[0].guard
         asker, trials = _Asker(self, command, guarded, guard), [_Trials(each) for each in requests]
         of_guard = 0 if guard is None else len(guard.values)
-        answers = [asker.ask([(each.dialect, filled(each.query.shape, each.query.values)) for each in requests])]
-        for number in range(max(each.count for each in trials)):
-            values = [trial.values(number) for trial in trials]
-            texts = [(each.dialect, filled(each.query.shape, marked[of_guard:])) for each, marked in zip(requests, values)]
-            answers.append(asker.ask(texts, values[0][:of_guard]))
+        values = [[each.values for each in requests]]
+        values += [[trial.values(number) for trial in trials] for number in range(max(each.count for each in trials))]
+        texts = [[(each.dialect, filled(each.query.shape, these[of_guard:])) for each, these in zip(requests, row)] for row in values]
+        if of_guard:
+            answers = [asker.ask(row, these[0][:of_guard]) for row, these in zip(texts, values)]
+        else:  # a document has one guard, so only without values of it do all go together
+            together, count = asker.ask([each for row in texts for each in row]), len(requests)
+            answers = [together[at:at + count] for at in range(0, len(together), count)]
         for at, (request, trial) in enumerate(zip(requests, trials)):
             yield self._outcome(request, trial, [each[at] for each in answers], asker)
 
