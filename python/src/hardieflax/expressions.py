@@ -6,7 +6,7 @@ values have one text, by which a session finds the statement that it has already
 from __future__ import annotations
 
 import json
-from typing import TYPE_CHECKING, Any, Generic, Iterable, List, Optional, Sequence, Tuple, TypeVar, Union, cast, overload
+from typing import TYPE_CHECKING, Any, Generic, Iterable, List, Optional, Sequence, Set, Tuple, TypeVar, Union, cast, overload
 
 from .errors import ValueRefused
 from .sql_types import BigInt, Bool, Bound, Nullable, SqlType, bound, bound_list
@@ -219,3 +219,18 @@ def filled(shape: str, values: Values) -> str:
     for each, part in zip(values, parts[1:]):
         made += (json.dumps(each.wire, ensure_ascii=False), part)
     return "".join(made)
+
+
+def tables_of(query: Any) -> Set[str]:
+    """The names of the tables that a query reads or names a column of, in subselects too."""
+    found: Set[str] = set()
+    todo: List[Any] = [query]
+    while todo:
+        each = todo.pop()
+        if isinstance(each, list):
+            todo.extend(each)
+        elif isinstance(each, dict):
+            todo.extend(each.values())
+            found.update(each[member] for member in ("table", "of") if isinstance(each.get(member), str))
+            found.update(each[member][at] for member, at in (("col", 0), ("field", 1)) if member in each)
+    return found

@@ -2,11 +2,12 @@
 other tables nothing (docs/GUARD.md)."""
 from __future__ import annotations
 
+import json
 from typing import Any, Dict, FrozenSet, Iterable, List, Mapping, Tuple, Type
 
 from .engines import Engine
 from .errors import NotShared, NotYetGuarded, SchemaError
-from .expressions import Expr, Values
+from .expressions import Expr, Values, filled, tables_of
 from .schema import Schema
 from .tables import Table, declared
 
@@ -19,7 +20,11 @@ class Guard:
         for table, predicate in guards.items():
             if not isinstance(predicate, Expr):
                 raise TypeError(f"the guard of {table.__name__} is a condition, as {table.__name__}.tenant_id == 7, and not {predicate!r}")
-            self._predicates[_name_in(schema, table)] = predicate
+            name = _name_in(schema, table)
+            others = sorted(tables_of(json.loads(filled(predicate.shape, predicate.values))) - {name})
+            if others:
+                raise SchemaError(f"the guard of {table.__name__} names {others[0]}: it is a condition on the columns of {table.__name__} alone")
+            self._predicates[name] = predicate
         self.shared: FrozenSet[str] = frozenset(_name_in(schema, table) for table in shared)
         both = sorted(self.shared & set(self._predicates))
         if both:
@@ -47,8 +52,6 @@ class Guard:
 
     def member(self, command: str, guarded: Tuple[str, ...], tables: Iterable[str], values: Values) -> Dict[str, Any]:
         """What a document of this command has besides, with these values in the predicates."""
-        from .expressions import filled
-        import json
         predicates: Dict[str, Any] = {}
         at = 0
         for name, predicate in self._predicates.items():

@@ -10,12 +10,12 @@ from __future__ import annotations
 import collections
 import json
 import threading
-from typing import Any, Callable, Dict, Iterable, Iterator, List, NamedTuple, Optional, Sequence, Set, Tuple, Union
+from typing import Any, Callable, Dict, Iterable, Iterator, List, NamedTuple, Optional, Sequence, Tuple, Union
 
 from .engines import MOST_BYTES, NO_MEMORY, Engine, Library, lines
 from .errors import EngineError, HardieflaxError, Refused, SchemaError
 from .explain import why
-from .expressions import Values, filled
+from .expressions import Values, filled, tables_of
 from .guards import Guard
 from .queries import Statement
 from .rules import refusal
@@ -234,21 +234,6 @@ def planner_of(schema: Schema, engine: Engine) -> Planner:
         if found is None or found.engine is not engine:
             found = schema.planners[id(engine)] = Planner(schema, engine)
         return found
-
-
-def tables_of(query: Json) -> Set[str]:
-    """The names of the tables that a query reads or names a column of, in subselects too."""
-    found: Set[str] = set()
-    todo: List[Any] = [query]
-    while todo:
-        each = todo.pop()
-        if isinstance(each, list):
-            todo.extend(each)
-        elif isinstance(each, dict):
-            todo.extend(each.values())
-            found.update(each[member] for member in ("table", "of") if isinstance(each.get(member), str))
-            found.update(each[member][at] for member, at in (("col", 0), ("field", 1)) if member in each)
-    return found
 
 
 def _batches(requests: Sequence[str]) -> Iterator[List[str]]:
