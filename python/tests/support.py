@@ -84,7 +84,8 @@ ROWS: Dict[Any, List[Any]] = {Users: USERS, Posts: POSTS, Comments: COMMENTS, Od
 _TYPES = {
     "Sqlite": {"SmallInt": "integer", "Integer": "integer", "BigInt": "integer", "Text": "text", "Binary": "blob", "Bool": "boolean"},
     "Pg": {"SmallInt": "smallint", "Integer": "integer", "BigInt": "bigint", "Text": "text", "Binary": "bytea", "Bool": "boolean"},
-    "Mysql": {"SmallInt": "smallint", "Integer": "int", "BigInt": "bigint", "Text": "varchar(190)", "Binary": "varbinary(190)", "Bool": "boolean"},
+    "Mysql": {"SmallInt": "smallint", "Integer": "int", "BigInt": "bigint", "Text": "varchar(190)", "Binary": "varbinary(190)",
+              "Bool": "boolean"},
 }
 
 
@@ -158,6 +159,7 @@ def _started_server(dialect: str) -> Any:
     try:
         atexit.register(servers.stop_all)
         connection, url = _STARTS[dialect]()
+        atexit.register(connection.close)
     except (servers.Missing, ImportError) as error:
         return f"no server or driver for {dialect}: {error}"
     fill(connection, dialect)

@@ -1,8 +1,13 @@
-"""The library by ctypes, on two stand-ins that are compiled with its header: one that tells what it was passed, one that answers by the program."""
+"""The library by ctypes, on two stand-ins that are compiled with its header.
+
+One answers with what it was passed, the other by the program.
+"""
 from __future__ import annotations
 
+import atexit
 import copy
 import ctypes
+import ctypes.util
 import gc
 import os
 import pathlib
@@ -20,6 +25,7 @@ from hardieflax import EngineError, EngineMissing, Library, Program, Refused, Sc
 from hardieflax import engines
 
 FOLDER = tempfile.TemporaryDirectory(prefix="hardieflax-")
+atexit.register(FOLDER.cleanup)
 
 
 def compiled(source: pathlib.Path) -> str:
@@ -29,7 +35,8 @@ def compiled(source: pathlib.Path) -> str:
         raise unittest.SkipTest("no C compiler for the library's stand-in")
     made = os.path.join(FOLDER.name, source.stem + ".so")
     if not os.path.exists(made):
-        words = ["-std=c99", "-D_POSIX_C_SOURCE=200809L", "-Wall", "-Wextra", "-Werror", "-O1", "-fPIC", "-shared", f"-I{support.TOP}/examples/c"]
+        words = ["-std=c99", "-D_POSIX_C_SOURCE=200809L", "-Wall", "-Wextra", "-Werror", "-O1", "-fPIC", "-shared"]
+        words.append(f"-I{support.TOP}/examples/c")
         subprocess.run([compiler, *words, "-o", made, str(source)], check=True)
     return made
 
@@ -143,14 +150,16 @@ class Sessions(unittest.TestCase):
         self.library = Library(compiled(support.HERE / "library.c"))
 
     def test_it_answers_as_the_program_does(self) -> None:
-        queries = [query(Users).filter(Users.name == "é\0"), query(Users).limit(1), query(Users).for_update(), query(Users).filter(Users.id.in_([1]))]
+        queries = [query(Users).filter(Users.name == "é\0"), query(Users).limit(1), query(Users).for_update(),
+                   query(Users).filter(Users.id.in_([1]))]
         by_library = Session(Schema(*support.SCHEMA), dialect="Sqlite", engine=self.library)
         by_program = Session(Schema(*support.SCHEMA), dialect="Sqlite", engine=support.engine())
         for mine, theirs in zip(by_library.answer_all(queries), by_program.answer_all(queries)):
             if isinstance(mine, Refused) or isinstance(theirs, Refused):
                 self.assertEqual(str(mine), str(theirs))
             else:
-                self.assertEqual((mine.sql, mine.values, mine.columns, mine.safe, mine.id), (theirs.sql, theirs.values, theirs.columns, theirs.safe, theirs.id))
+                for member in ("sql", "values", "columns", "safe", "id"):
+                    self.assertEqual(getattr(mine, member), getattr(theirs, member))
 
     def test_rows_and_guards(self) -> None:
         session = Session(support.SCHEMA, support.blog(), engine=self.library)
@@ -184,7 +193,8 @@ class Finding(unittest.TestCase):
             default_engine()
 
     def test_what_is_named_is_missing_or_another(self) -> None:
-        for made in (lambda: Library("./no/such.so"), lambda: Library(ctypes.util.find_library("c") or "libc.so.6"), lambda: Program("no-such-program")):
+        another = ctypes.util.find_library("c") or "libc.so.6"
+        for made in (lambda: Library("./no/such.so"), lambda: Library(another), lambda: Program("no-such-program")):
             with self.assertRaises(EngineMissing):
                 made()
 

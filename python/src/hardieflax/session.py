@@ -3,6 +3,7 @@ from __future__ import annotations
 
 import copy
 import dataclasses
+import functools
 from typing import Any, Generic, Iterable, Iterator, List, Mapping, Optional, Sequence, Tuple, Type, TypeVar, Union
 
 from .drivers import Driver, driver_of
@@ -35,12 +36,17 @@ class Built(Generic[R]):
     columns: Tuple[str, ...]
     safe: bool
     id: Optional[int]
-    reader: RowReader = dataclasses.field(repr=False, compare=False)
+    query: Statement[R] = dataclasses.field(repr=False, compare=False)
 
     @property
     def values(self) -> List[Any]:
         """The values as a driver of Python binds them. On PostgreSQL a list is one value."""
         return [each.python() for each in self.binds]
+
+    @functools.cached_property
+    def reader(self) -> RowReader:
+        """What makes rows of the statement."""
+        return RowReader(self.query.outputs, self.query.is_row_alone, self.dialect)
 
     def row(self, columns: Sequence[Any]) -> R:
         """A row, made of what a driver gives for its columns."""
@@ -139,14 +145,14 @@ class Session:
     def _built(self, query: Statement[R], plan: Outcome) -> Built[R]:
         if isinstance(plan, Plan):
             values = query.values if self._guard is None else self._guard.values + query.values
-            reader = RowReader(query.outputs, query.is_row_alone, self.dialect)
-            return Built(self.dialect, plan.sql, plan.binds(values), plan.columns, plan.safe, plan.id, reader)
+            return Built(self.dialect, plan.sql, plan.binds(values), plan.columns, plan.safe, plan.id, query)
         raise copy.copy(plan)
 
     @staticmethod
     def _read(driver: Driver, built: Built[R]) -> Iterator[R]:
+        read = built.row
         for row in driver.rows(built.sql, built.binds, built.safe):
-            yield built.row(row)
+            yield read(row)
 
 
 __all__ = ["Built", "EngineError", "Session"]
