@@ -13,14 +13,14 @@ import shutil
 import subprocess
 import threading
 import weakref
-from typing import Any, Callable, Dict, FrozenSet, List, NoReturn, Optional, Protocol, Sequence, Tuple, Type, Union
+from typing import Any, Callable, Dict, List, NoReturn, Optional, Protocol, Sequence, Tuple, Type, Union
 from types import TracebackType
 
 from .errors import EngineError, EngineMissing
 
 DIALECTS = ("Pg", "Mysql", "Sqlite", "Bracket")
 Path = Union[str, "os.PathLike[str]"]
-USAGE, NO_MEMORY = 2, 6
+USAGE, BAD_DOCUMENT, NO_MEMORY = 2, 3, 6
 # The size of an input that the program refuses is beyond 16777216.
 MOST_BYTES = 16_000_000
 
@@ -220,6 +220,3 @@ def default_engine() -> Engine:
                 _default[process] = found_engine()
             found = _default[process]
     return found
-
-
-COMMANDS: FrozenSet[str] = frozenset({"build", "guard", "read", "audit"})

@@ -12,7 +12,8 @@ import json
 import threading
 from typing import Any, Callable, Dict, Iterable, Iterator, List, NamedTuple, Optional, Sequence, Tuple, Union
 
-from .engines import MOST_BYTES, NO_MEMORY, Engine, Library, lines
+from .asking import answers
+from .engines import Engine, Library
 from .errors import EngineError, HardieflaxError, Refused, SchemaError
 from .explain import why
 from .expressions import Values, filled, tables_of
@@ -24,7 +25,6 @@ from .sql_types import Bound
 from .tables import near
 
 Json = Any
-BAD_DOCUMENT = 3
 # Of more values than a SmallInt has numbers, places cannot be told apart.
 MOST_VALUES = 32767
 _planners_lock = threading.Lock()
@@ -141,15 +141,15 @@ class Planner:
         values += [[trial.values(number) for trial in trials] for number in range(max(each.count for each in trials))]
         texts = [[(each.dialect, filled(each.query.shape, these[of_guard:])) for each, these in zip(requests, row)] for row in values]
         if of_guard:
-            answers = [asker.ask(row, these[0][:of_guard]) for row, these in zip(texts, values)]
+            told = [asker.ask(row, these[0][:of_guard]) for row, these in zip(texts, values)]
         else:  # a document has one guard, so only without values of it do all go together
             together, count = asker.ask([each for row in texts for each in row]), len(requests)
-            answers = [together[at:at + count] for at in range(0, len(together), count)]
+            told = [together[at:at + count] for at in range(0, len(together), count)]
         for at, (request, trial) in enumerate(zip(requests, trials)):
-            yield self._outcome(request, trial, [each[at] for each in answers], asker)
+            yield self._outcome(request, trial, [each[at] for each in told], asker)
 
-    def _outcome(self, request: Request, trial: _Trials, answers: List[Json], asker: _Asker) -> Outcome:
-        answer = answers[0]
+    def _outcome(self, request: Request, trial: _Trials, told: List[Json], asker: _Asker) -> Outcome:
+        answer = told[0]
         if isinstance(answer, HardieflaxError):
             return answer
         if "refused" in answer:
@@ -159,20 +159,20 @@ class Planner:
                 return asker.ask([(request.dialect, json.dumps(each)) for each in queries])
 
             return refusal(answer["refused"], why(ask, query, answer["refused"]), query)
-        return self._plan(request, trial, answers)
+        return self._plan(request, trial, told)
 
-    def _plan(self, request: Request, trial: _Trials, answers: List[Json]) -> Outcome:
-        answer = answers[0]
-        if any(isinstance(each, HardieflaxError) or each.get("sql") != answer["sql"] for each in answers[1:1 + trial.count]):
+    def _plan(self, request: Request, trial: _Trials, told: List[Json]) -> Outcome:
+        answer = told[0]
+        if any(isinstance(each, HardieflaxError) or each.get("sql") != answer["sql"] for each in told[1:1 + trial.count]):
             return EngineError(0, detail=f"with other values {answer['sql']} is another text")
         if answer["id"] is not None:
             with self._lock:
                 self._count += 1
         number = None if answer["id"] is None else self._count
-        plan = Plan(answer["sql"], trial.order(answers), tuple(answer["columns"]), answer["safe"], number)
-        told = [[each.type.document_name, list(each.wire) if each.is_list else each.wire] for each in plan.binds(request.values)]
+        plan = Plan(answer["sql"], trial.order(told), tuple(answer["columns"]), answer["safe"], number)
+        binds = [[each.type.document_name, list(each.wire) if each.is_list else each.wire] for each in plan.binds(request.values)]
         expected = [name for output in request.query.outputs for name in output.document_names()]
-        if told != answer["binds"]:
+        if binds != answer["binds"]:
             return EngineError(0, detail=f"the values of {answer['sql']} are not where they were found")
         if list(plan.columns) != expected:
             return EngineError(0, detail=f"the columns of {answer['sql']} are {list(plan.columns)}, and {expected} were expected")
@@ -190,28 +190,8 @@ class _Asker:
         if values is None:
             values = () if self.guard is None else self.guard.values
         requests = [f'{{"dialect":"{dialect}","query":{query}}}' for dialect, query in queries]
-        made: List[Any] = []
-        for batch in _batches(requests):
-            made += self._answers(batch, values)
-        return made
-
-    def _answers(self, requests: Sequence[str], values: Values) -> List[Any]:
-        try:
-            answers = lines(self._run(requests, values))
-            if len(answers) != len(requests):
-                raise EngineError(0, detail=f"{len(answers)} lines for {len(requests)} requests")
-            return answers
-        except EngineError as error:
-            if error.status == NO_MEMORY:
-                # It was the request after those that are answered.
-                before = lines(error.answered)
-                rest = requests[len(before) + 1:]
-                return [*before, error, *(self._answers(rest, values) if rest else [])]
-            if error.status == BAD_DOCUMENT and len(requests) > 1:
-                return [self._answers([each], values)[0] for each in requests]
-            if error.status == BAD_DOCUMENT:
-                return [EngineError(BAD_DOCUMENT, detail="values may nest 127 deep: join many conditions by all_of and any_of")]
-            return [error] * len(requests)
+        of_guard: Values = values
+        return answers(lambda batch: self._run(batch, of_guard), requests)
 
     def _run(self, requests: Sequence[str], values: Values) -> bytes:
         self.planner.asked += 1
@@ -234,21 +214,6 @@ def planner_of(schema: Schema, engine: Engine) -> Planner:
         if found is None or found.engine is not engine:
             found = schema.planners[id(engine)] = Planner(schema, engine)
         return found
-
-
-def _batches(requests: Sequence[str]) -> Iterator[List[str]]:
-    """The requests, so many at a time as fit a document. The schema is not counted: it has as much room as they leave."""
-    batch: List[str] = []
-    size = 0
-    for each in requests:
-        length = len(each.encode()) + 1
-        if batch and size + length > MOST_BYTES // 2:
-            yield batch
-            batch, size = [], 0
-        batch.append(each)
-        size += length
-    if batch:
-        yield batch
 
 
 class _Trials:
