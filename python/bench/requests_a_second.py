@@ -59,7 +59,8 @@ def theirs(number: int) -> List[Any]:
     """The same queries by SQLAlchemy Core."""
     return [
         sa.select(USERS).where(USERS.c.name == f"n{number}").limit(10),
-        sa.select(USERS, POSTS).join_from(USERS, POSTS).where(USERS.c.name == f"n{number}", USERS.c.active, POSTS.c.id > number, POSTS.c.title != "x")
+        sa.select(USERS, POSTS).join_from(USERS, POSTS).where(USERS.c.name == f"n{number}", USERS.c.active, POSTS.c.id > number,
+                                                              POSTS.c.title != "x")
         .order_by(POSTS.c.id.desc()).limit(number % 50),
         sa.select(USERS.c.id, POSTS.c.title).join_from(USERS, POSTS, isouter=True).where(USERS.c.id.in_([number, 2, 3, 4, 5]))
         .order_by(USERS.c.id),

@@ -45,12 +45,14 @@ class Audits(unittest.TestCase):
         self.assertEqual((use.tables, use.columns), (("users",), (("users", "id"), ("users", "name"))))
         self.assertEqual(str(use), "q.sql:3: users (users.id, users.name)")
         self.assertEqual(self.told("select 1", people=False).refused, "NotInGrammar")
-        self.assertEqual(str(self.told('SELECT "x"."id" FROM "x"', people=False)), "q.sql:3: UnknownTable: reads a table that the schema has not")
+        self.assertEqual(str(self.told('SELECT "x"."id" FROM "x"', people=False)),
+                         "q.sql:3: UnknownTable: reads a table that the schema has not")
 
     @unittest.skipUnless(HAS_SQLGLOT, "no sqlglot")
     def test_sql_as_people_write_it(self) -> None:
         cases = [
-            ("select id, lower(name) from users where email like 'a%' order by 1 limit 5", {("users", "id"), ("users", "name"), ("users", "email")}),
+            ("select id, lower(name) from users where email like 'a%' order by 1 limit 5", {("users", "id"), ("users", "name"), ("users",
+                                                                                                                                 "email")}),
             ("SELECT u.id FROM users u JOIN posts p ON p.author_id = u.id WHERE p.stars BETWEEN 1 AND 5",
              {("users", "id"), ("posts", "author_id"), ("posts", "stars")}),
             ("select count(*) from posts where id in (select post_id from comments)", {("posts", "id"), ("comments", "post_id")}),
@@ -80,7 +82,8 @@ class Commands(unittest.TestCase):
         self.path = pathlib.Path(self.folder.name)
         connection = sqlite3.connect(self.path / "blog.db")
         support.fill(connection, "Sqlite")
-        connection.execute("CREATE TABLE dated (id integer primary key, at date, place geometry, \"class\" text, user_id integer references users)")
+        connection.execute("CREATE TABLE dated (id integer primary key, at date, place geometry, \"class\" text, "
+                           "user_id integer references users)")
         connection.close()
         os.environ["HARDIEFLAX_PROGRAM"] = support.engine().words[0]
 
@@ -109,7 +112,8 @@ class Commands(unittest.TestCase):
         connection.close()
         status, text, _ = self.run_command("check", str(self.path / "tables.py"), database)
         self.assertEqual((status, text.splitlines()), (1, [
-            "comments: the database has no such table", "dated.at: the database has no such column", "users.email: the database has no such column"]))
+            "comments: the database has no such table", "dated.at: the database has no such column",
+            "users.email: the database has no such column"]))
 
     def test_audit(self) -> None:
         database = str(self.path / "blog.db")

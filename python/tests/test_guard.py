@@ -7,7 +7,8 @@ from typing import Any, List, Optional, Sequence
 
 import support
 from support import Comments, Odd, Posts, Users
-from hardieflax import (BigInt, HardieflaxError, NotShared, NotYetGuarded, Refused, SchemaError, Session, Table, Column, alias, count, nullable, query,
+from hardieflax import (BigInt, HardieflaxError, NotShared, NotYetGuarded, Refused, SchemaError, Session, Table, Column, alias, count,
+                        nullable, query,
                         value)
 
 
@@ -66,7 +67,8 @@ class Guards(unittest.TestCase):
     def test_what_is_closed(self) -> None:
         session = self.session()
         closed: List[Any] = [
-            query(Comments), query(alias(Comments, "c")), query(Posts).join(Comments), query(Users).left_join(Comments, Comments.user_id == Users.id),
+            query(Comments), query(alias(Comments, "c")), query(Posts).join(Comments), query(Users).left_join(Comments,
+                                                                                                              Comments.user_id == Users.id),
             query(Users).filter(query(Comments).exists()), query(Users).filter(Users.id.in_(query(Comments).select(Comments.id))),
             query(Users).select(Users.id).union(query(Comments).select(Comments.id)),
             query(Users).select(query(Comments).select(Comments.body).single_value()), query(Users).filter(Comments.id == 1),
@@ -118,7 +120,8 @@ class Guards(unittest.TestCase):
         for name, argument in calls.items():
             made = getattr(session, name)(argument)
             text = repr([each for each in made] if hasattr(made, "__iter__") else made)
-            self.assertTrue("author_id` = ?" in text or "Trees" not in text and "Birds" not in text and text not in ("1", "[1, 2, 3]"), (name, text))
+            self.assertTrue("author_id` = ?" in text or "Trees" not in text and "Birds" not in text and text not in ("1", "[1, 2, 3]"),
+                            (name, text))
 
     def test_what_is_no_guard(self) -> None:
         class Tags(Table, name="tags"):
@@ -137,7 +140,8 @@ class Guards(unittest.TestCase):
         for dialect in ("Pg", "Sqlite", "Mysql", "Bracket"):
             guard = (Posts.author_id.in_([4, 5])) & (Posts.stars == 3) & value(True, support.Bool)
             session = self.session(guards={Posts: guard}, dialect=dialect)
-            made = query(Users).left_join(Posts).filter(Users.active == False, Users.name.in_(["a"])).limit(9).select(Users.id, nullable(Posts))  # noqa: E712
+            made = query(Users).left_join(Posts).filter(Users.active == False, Users.name.in_(["a"])).limit(9)  # noqa: E712
+            made = made.select(Users.id, nullable(Posts))
             listed = [[4, 5]] if dialect == "Pg" else [4, 5]
             names = [["a"]] if dialect == "Pg" else ["a"]
             self.assertEqual(session.build(made).values, [*listed, 3, True, False, *names, 9], dialect)

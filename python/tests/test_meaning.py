@@ -56,7 +56,8 @@ class Maker:
 
     def column(self, tables: List[Any], base: Optional[str] = None) -> Tuple[Any, str, Any]:
         """(its expression, its name, its type) of some column of the tables."""
-        found = [(getattr(table, name), f"{table.__table__}.{name}", column.type) for table in tables for name, column in table.__columns__.items()
+        found = [(getattr(table, name), f"{table.__table__}.{name}", column.type) for table in tables for name,
+                 column in table.__columns__.items()
                  if base is None or column.type.base == base]
         return self.random.choice(found)
 
@@ -118,7 +119,8 @@ class Maker:
         made: Any = query(tables[0])
         rows = rows_of(tables[0])
         if kind == 1:
-            made, rows = made.join(Users), [{**p, **u} for p, u in itertools.product(rows, rows_of(Users)) if p["posts.author_id"] == u["users.id"]]
+            made, rows = made.join(Users), [{**p, **u} for p, u in itertools.product(rows,
+                                                                                     rows_of(Users)) if p["posts.author_id"] == u["users.id"]]
         if kind == 2:
             on, means = self.condition(tables, 1)
             made, rows = made.left_join(Posts, on), [row for u in rows for row in self.paired(u, rows_of(Posts), means)]

@@ -56,7 +56,8 @@ class Documents(unittest.TestCase):
             path.write_text(support.SCHEMA.json())
             environment = {**os.environ, "HARDIEFLAX_PROGRAM": support.engine().words[0], "PYTHONPATH": str(support.HERE.parent / "src")}
             words = [sys.executable, "-m", "hardieflax.partitions", str(path)]
-            lines = [json.dumps(each.json()) for each in some(10)] + ["no json", json.dumps({"from": {"table": "users"}, "x": "\u2028é"}, ensure_ascii=False)]
+            lines = [json.dumps(each.json()) for each in some(10)] + ["no json", json.dumps({"from": {"table": "users"}, "x": "\u2028é"},
+                                                                                            ensure_ascii=False)]
             run = subprocess.run([*words, "Sqlite"], input="\n".join(lines).encode(), stdout=subprocess.PIPE, env=environment)
             told = [json.loads(line) for line in run.stdout.decode().split("\n")[:-1]]
             self.check(told[:10], 10)
@@ -72,7 +73,8 @@ class Documents(unittest.TestCase):
         os.environ["PYTHONPATH"] = str(support.HERE.parent / "src")
         os.environ["HARDIEFLAX_PROGRAM"] = support.engine().words[0]
         # A document whose worker died is then not asked for again by dask itself, but by the package.
-        options = {"distributed.scheduler.allowed-failures": 0, "distributed.worker.use-file-locking": False, "distributed.logging.distributed": "critical"}
+        options = {"distributed.scheduler.allowed-failures": 0, "distributed.worker.use-file-locking": False,
+                   "distributed.logging.distributed": "critical"}
         told: List[Any] = []
         seen: List[Progress] = []
         with dask.config.set(options), tempfile.TemporaryDirectory() as folder:

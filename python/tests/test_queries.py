@@ -7,7 +7,8 @@ from typing import Any
 
 import support
 from support import Comments, Odd, Posts, Users
-from hardieflax import (Bool, Integer, SchemaError, Table, Column, Text, ValueRefused, alias, all_of, any_of, count, nullable, only, query, sampled,
+from hardieflax import (Bool, Integer, SchemaError, Table, Column, Text, ValueRefused, alias, all_of, any_of, count, nullable, only, query,
+                        sampled,
                         select, value)
 
 ID, NAME, EMAIL, ACTIVE = ({"col": ["users", name]} for name in ("id", "name", "email", "active"))
@@ -104,7 +105,8 @@ class Calls(unittest.TestCase):
         self.assertEqual(query(u2).filter(u2.id == 1).json(), {"from": {"alias": "u2", "of": "users"}, "calls": [
             ["filter", {"eq": [{"field": ["u2", "users", "id"]}, {"bind": ["BigInt", 1]}]}]]})
         self.assertEqual(query(only(Users)).json()["from"], {"table": "users", "only": True})
-        self.assertEqual(query(sampled(only(Users), "system", 10, 5)).json()["from"], {"table": "users", "only": True, "sample": ["system", 10, 5]})
+        self.assertEqual(query(sampled(only(Users), "system", 10, 5)).json()["from"], {"table": "users", "only": True, "sample": ["system",
+                                                                                                                                  10, 5]})
         self.assertEqual(query(Users).join(Posts).left_join(u2, u2.id == Posts.author_id).json()["calls"][1][1], {"alias": "u2", "of": "users"})
         for portion in (-1, 101):
             with self.assertRaises(ValueError):
@@ -129,7 +131,8 @@ class Calls(unittest.TestCase):
         self.assertEqual([each.width for each in made.outputs], [2, 5, 1])
 
     def test_no_source(self) -> None:
-        self.assertEqual(select(value(1, Integer), value(True, Bool)).json(), {"select": [{"bind": ["Integer", 1]}, {"bind": ["Bool", True]}], "calls": []})
+        made = select(value(1, Integer), value(True, Bool))
+        self.assertEqual(made.json(), {"select": [{"bind": ["Integer", 1]}, {"bind": ["Bool", True]}], "calls": []})
 
     def test_find(self) -> None:
         self.assertEqual(calls(query(Users).find(7)), [["find", [{"bind": ["BigInt", 7]}]]])
@@ -190,8 +193,10 @@ class Tables(unittest.TestCase):
         self.assertEqual(query(Notes).filter(Notes.at == "x").json()["calls"][0][1]["eq"][0], {"col": ["notes", "at"]})
 
     def test_relations(self) -> None:
-        self.assertEqual(set(support.SCHEMA.relations), {("posts", "author_id", "users"), ("comments", "post_id", "posts"), ("comments", "user_id", "users")})
-        self.assertEqual(support.SCHEMA.document(["users", "comments"])["joinable"], [{"child": "comments", "key": "user_id", "parent": "users"}])
+        self.assertEqual(set(support.SCHEMA.relations), {
+            ("posts", "author_id", "users"), ("comments", "post_id", "posts"), ("comments", "user_id", "users")})
+        joinable = support.SCHEMA.document(["users", "comments"])["joinable"]
+        self.assertEqual(joinable, [{"child": "comments", "key": "user_id", "parent": "users"}])
         self.assertIn(alias(Comments, "c"), support.SCHEMA)
 
 

@@ -10,7 +10,8 @@ from typing import Any, ClassVar
 
 import support
 from support import Comments, Odd, Posts, Users
-from hardieflax import (Column, Date, Decimal, Enumeration, Float, Integer, Json, Nullable, RowError, Schema, SchemaError, Session, Table, Text, Time,
+from hardieflax import (Column, Date, Decimal, Enumeration, Float, Integer, Json, Nullable, RowError, Schema, SchemaError, Session, Table,
+                        Text, Time,
                         Timestamp, Uuid, Binary, Bool, BigInt, SmallInt, alias, nullable, query, select, value)
 from hardieflax.drivers import Psycopg, Pymysql
 
@@ -68,11 +69,13 @@ class OnAServer:
                 wanted = [user[0] for user in support.USERS if user[index] == row[index]]
                 self.assertEqual(self.session.values(query(Users).filter(column == row[index]).order(Users.id).select(Users.id)), wanted)
                 if row[index] is not None:
-                    self.assertEqual(self.session.values(query(Users).filter(column.in_([row[index]])).order(Users.id).select(Users.id)), wanted)
+                    among = query(Users).filter(column.in_([row[index]])).order(Users.id).select(Users.id)
+                    self.assertEqual(self.session.values(among), wanted)
         for post in support.POSTS:
             self.assertEqual(self.session.one(query(Posts).filter(Posts.title == post[3])).id, post[0])
         self.assertEqual(self.session.values(query(Posts).filter(Posts.stars.in_([])).select(Posts.id)), [])
-        self.assertEqual(self.session.values(query(Posts).filter(Posts.title.in_([p[3] for p in support.POSTS])).order(Posts.id).select(Posts.id)), [1, 2, 3])
+        titles = [post[3] for post in support.POSTS]
+        self.assertEqual(self.session.values(query(Posts).filter(Posts.title.in_(titles)).order(Posts.id).select(Posts.id)), [1, 2, 3])
 
     def test_values_without_a_table(self: Any) -> None:
         made = select(value(-5, SmallInt), value(2**40, BigInt), value("%s ? $1 '\\", Text), value(b"\0'%s", Binary), value(True, Bool))
@@ -152,8 +155,9 @@ class OnPostgres(OnAServer, unittest.TestCase):
         except ImportError as error:
             raise unittest.SkipTest(str(error))
         self.connection.commit()
-        self.connection.cursor().execute("CREATE TYPE colour AS ENUM ('red'); CREATE TABLE reflected (id bigint PRIMARY KEY, day date NOT NULL, price numeric, "
-                                         "uid uuid, data jsonb, c colour, place point, author bigint REFERENCES users); CREATE VIEW seen AS SELECT 1")
+        self.connection.cursor().execute(
+            "CREATE TYPE colour AS ENUM ('red'); CREATE TABLE reflected (id bigint PRIMARY KEY, day date NOT NULL, price numeric, uid uuid, "
+            "data jsonb, c colour, place point, author bigint REFERENCES users); CREATE VIEW seen AS SELECT 1")
         self.connection.commit()
         try:
             schema = Schema.reflect(sqlalchemy.create_engine(self.url.replace("postgresql:", "postgresql+psycopg2:")))
@@ -184,8 +188,8 @@ class OnPostgres(OnAServer, unittest.TestCase):
 
 class OnMariadb(OnAServer, unittest.TestCase):
     dialect = "Mysql"
-    things = ("CREATE TEMPORARY TABLE things (id integer PRIMARY KEY, day date, clock time, moment datetime(6), price numeric(9, 2), weight double, "
-              "uid varchar(36), data json, mood enum('ok', 'sad'))")
+    things = ("CREATE TEMPORARY TABLE things (id integer PRIMARY KEY, day date, clock time, moment datetime(6), price numeric(9, 2), "
+              "weight double, uid varchar(36), data json, mood enum('ok', 'sad'))")
 
     def connected(self) -> Any:
         import pymysql
@@ -193,8 +197,8 @@ class OnMariadb(OnAServer, unittest.TestCase):
 
     def test_reflection(self) -> None:
         cursor = self.connection.cursor()
-        cursor.execute("CREATE TABLE reflected (id bigint unsigned PRIMARY KEY, small tinyint, flag tinyint(1) NOT NULL, day date, mood enum('a'), "
-                       "author bigint, FOREIGN KEY (author) REFERENCES users (id))")
+        cursor.execute("CREATE TABLE reflected (id bigint unsigned PRIMARY KEY, small tinyint, flag tinyint(1) NOT NULL, day date, "
+                       "mood enum('a'), author bigint, FOREIGN KEY (author) REFERENCES users (id))")
         try:
             schema = Schema.reflect(self.sqlalchemy_engine(), only=["reflected", "users"])
             self.assertEqual({name: repr(column.type) for name, column in schema["reflected"].__columns__.items()}, {

@@ -10,7 +10,8 @@ from typing import Any, List
 
 import support
 from support import Comments, Odd, Posts, Users
-from hardieflax import (EngineError, HardieflaxError, Integer, NoRow, Nullable, Refused, RowError, Schema, SchemaError, Session, SeveralRows, Table,
+from hardieflax import (EngineError, HardieflaxError, Integer, NoRow, Nullable, Refused, RowError, Schema, SchemaError, Session,
+                        SeveralRows, Table,
                         Column, Text, Bool, alias, all_of, count, nullable, query, select, value)
 from hardieflax.plans import Planner, Request
 
@@ -28,7 +29,8 @@ class Rows(unittest.TestCase):
 
     def test_rows_of_joins(self) -> None:
         pairs = self.session.all(query(Users).left_join(Posts).order(Users.id, Posts.id))
-        self.assertEqual([(u.name, p and p.title) for u, p in pairs], [("Sean", "Trees"), ("Sean", "Birds"), ("Tess", support.POSTS[2][3]), (None, None)])
+        self.assertEqual([(u.name, p and p.title) for u, p in pairs], [("Sean", "Trees"), ("Sean", "Birds"), ("Tess", support.POSTS[2][3]),
+                                                                       (None, None)])
         three = self.session.all(query(Posts).join(Users).left_join(Comments).order(Posts.id, Comments.id))
         self.assertEqual([(p.id, u.id, c and c.id) for p, u, c in three], [(1, 1, 1), (1, 1, 2), (2, 1, None), (3, 2, 3)])
         pages = self.session.all(query(Posts).join(Users).select(Users, Posts.title, nullable(Posts)).limit(1))
@@ -183,7 +185,8 @@ class Plans(unittest.TestCase):
         self.assertEqual(self.planner.asked, asked)
 
     def test_values_stand_in_the_order_of_the_text(self) -> None:
-        made = query(Users).limit(5).offset(6).filter(Users.active == True, Users.avatar == b"\7").having(Users.name == "x").group_by(Users.id)  # noqa: E712
+        made = query(Users).limit(5).offset(6).filter(Users.active == True, Users.avatar == b"\7")  # noqa: E712
+        made = made.having(Users.name == "x").group_by(Users.id)
         made = made.filter(Users.id.in_([8, 9]), Users.active == False).select(Users.id)  # noqa: E712
         for dialect, wanted in (("Sqlite", [True, b"\7", 8, 9, False, "x", 5, 6]), ("Bracket", [True, b"\7", 8, 9, False, "x", 6, 5]),
                                 ("Pg", [True, b"\7", [8, 9], False, "x", 5, 6])):
@@ -204,7 +207,8 @@ class Plans(unittest.TestCase):
     def test_ids(self) -> None:
         def made(number: int) -> Any:
             return query(Users).filter(Users.id == number)
-        first, other, listed = self.built("Pg", made(1)), self.built("Pg", made(1).limit(1)), self.built("Pg", query(Users).filter(Users.id.in_([1])))
+        first, other, listed = self.built("Pg", made(1)), self.built("Pg", made(1).limit(1)), self.built("Pg",
+                                                                                                         query(Users).filter(Users.id.in_([1])))
         self.assertEqual((self.built("Pg", made(2)).id, listed.id), (first.id, None))
         self.assertNotEqual(first.id, other.id)
 

@@ -9,7 +9,8 @@ import uuid
 from typing import Any
 
 import support
-from hardieflax import (BigInt, Binary, Bool, Date, Decimal, Enumeration, Float, Integer, Json, Nullable, RowError, SmallInt, SqlType, Text, Time,
+from hardieflax import (BigInt, Binary, Bool, Date, Decimal, Enumeration, Float, Integer, Json, Nullable, RowError, SmallInt, SqlType, Text,
+                        Time,
                         Timestamp, Uuid, ValueRefused)
 from hardieflax.sql_types import DECLARED, OTHERS, bound, bound_list
 
@@ -75,7 +76,8 @@ class Types(unittest.TestCase):
         self.assertEqual(repr(Nullable(Date)), "Nullable(Date)")
 
     def test_what_is_not_of_the_type_is_no_row(self) -> None:
-        wrong: Any = [(Integer, "x"), (Integer, None), (Text, 5), (Binary, 5), (Bool, 2), (Date, "yesterday"), (Uuid, "x"), (Enumeration(Mood), "no")]
+        wrong: Any = [(Integer, "x"), (Integer, None), (Text, 5), (Binary, 5), (Bool, 2), (Date, "yesterday"), (Uuid, "x"),
+                      (Enumeration(Mood), "no")]
         for type, value in wrong:
             with self.subTest(type=type), self.assertRaises(RowError):
                 type.decoder("Sqlite")(value)

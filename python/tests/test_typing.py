@@ -15,7 +15,8 @@ import support
 BEGIN = """
 import datetime
 from typing import List, Optional, Tuple
-from hardieflax import (BigInt, Bool, Column, Date, Integer, Nullable, Schema, Session, Table, Text, alias, count, nullable, query, select, value)
+from hardieflax import (BigInt, Bool, Column, Date, Integer, Nullable, Schema, Session, Table, Text, alias, count, nullable, query, select,
+                        value)
 
 
 class Users(Table, name="users"):
@@ -55,7 +56,8 @@ RIGHT = [
     ("session.all(query(Posts).group_by(Posts.author_id).select(Posts.author_id, count()))", "List[Tuple[int, int]]"),
     ("session.one(query(Users).select(query(Posts).select(Posts.title).single_value()))", "Tuple[Optional[str]]"),
     ("session.one(select(value(1, Integer)))", "Tuple[int]"),
-    ("session.all(query(Users).filter(Users.active, Users.name == None, Users.id == Posts.editor_id, Posts.editor_id == Users.id))", "List[Users]"),
+    ("session.all(query(Users).filter(Users.active, Users.name == None, Users.id == Posts.editor_id, Posts.editor_id == Users.id))",
+     "List[Users]"),
     ("session.all(query(Users).filter(Users.id.in_([1]) & ~Users.active | Users.born.in_([None, datetime.date.today()])))", "List[Users]"),
     ("session.all(query(Posts).filter(Posts.editor_id.in_(query(Users).select(Users.id))))", "List[Posts]"),
 ]
@@ -107,7 +109,8 @@ class Typing(unittest.TestCase):
 
     def test_types_are_no_wider(self) -> None:
         """What may be NULL is not taken for a text, and the other way round a row's number is no text."""
-        text = BEGIN + "a: str = users[0].name\nb: str = users[0].id\nc: List[Tuple[Users, Posts]] = session.all(query(Users).left_join(Posts))\n"
+        wrong = ["a: str = users[0].name", "b: str = users[0].id", "c: List[Tuple[Users, Posts]] = session.all(query(Users).left_join(Posts))"]
+        text = BEGIN + "\n".join(wrong) + "\n"
         begin = BEGIN.count("\n") + 1
         self.assertEqual(self.lines_of(text), [begin, begin + 1, begin + 2])
 
