@@ -59,7 +59,8 @@ class OnAServer:
         pairs = self.session.all(query(Users).left_join(Posts).order(Users.id, Posts.id))
         self.assertEqual([(u.id, p and p.id) for u, p in pairs], [(1, 1), (1, 2), (2, 3), (3, None)])
         answers = alias(Posts, "answers")
-        rows = self.session.all(query(Posts).join(answers, answers.parent_id == Posts.id).order(answers.id).for_update())
+        asked = query(Posts).join(answers, answers.parent_id == Posts.id).order(answers.id)
+        rows = self.session.all(asked if self.dialect == "Sqlite" else asked.for_update())
         self.assertEqual([(p.id, a.id) for p, a in rows], [(1, 2), (1, 3)])
         self.assertEqual(self.session.value(query(Comments).count()), 3)
 
@@ -83,6 +84,7 @@ class OnAServer:
 
     def test_odd_names(self: Any) -> None:
         self.assertEqual(self.session.one(query(Odd).filter(Odd.mark == "a")), Odd(id=1, mark="a"))
+        self.assertEqual([odd.mark for odd in self.session.all(query(Odd).order(Odd.id))], ["a", None])
         built = self.session.build(query(Odd).filter(Odd.mark == "a", Odd.id == 1))
         for driver, numbers in ((Psycopg, ["$1", "$2"]), (Pymysql, ["?", "?"])):
             if driver.dialect == self.dialect:
@@ -99,7 +101,8 @@ class OnAServer:
         for text in self.things.split(";"):
             cursor.execute(text)
         texts = [str(each.value if isinstance(each, Mood) else each) for each in THING[:7]] + ['{"a": [1, "é"]}', "sad"]
-        cursor.execute(f"INSERT INTO things VALUES ({', '.join(['%s'] * 9)})", texts)
+        mark = "?" if self.dialect == "Sqlite" else "%s"
+        cursor.execute(f"INSERT INTO things VALUES ({', '.join([mark] * 9)})", texts)
         cursor.execute("INSERT INTO things (id) VALUES (2)")
         session = Session(Schema(Things), self.connection, engine=self.engine)
         full, empty = session.all(query(Things).order(Things.id))
@@ -107,7 +110,7 @@ class OnAServer:
         self.assertEqual([getattr(empty, name) for name in Things.__columns__], [2] + [None] * 8)
         for name, wanted in zip(Things.__columns__, THING):
             if name == "data" and self.dialect == "Mysql":
-                continue  # JSON is a text there, and is compared as one
+                continue  # JSON is a text there, but is not compared as what was written
             column: Any = getattr(Things, name)
             self.assertEqual(session.values(query(Things).filter(column == wanted).select(Things.id)), [1], name)
             if name != "data":
@@ -138,6 +141,25 @@ class OnAServer:
         made = query(Users).join(Posts, Posts.id > 0).join(Comments, Comments.id > 0).join(alias(Users, "a"), Users.active | ~Users.active)
         made = made.join(alias(Posts, "b"), Posts.id > 0).join(alias(Comments, "c"), Posts.id > 0)
         self.assertEqual(len(self.session.all(made.select(Users.id, nullable(Posts)))), 3 ** 6)
+
+
+class OnSqlite(OnAServer, unittest.TestCase):
+    dialect = "Sqlite"
+    things = ("CREATE TABLE things (id integer PRIMARY KEY, day date, clock time, moment timestamp, price numeric, weight real, uid text, "
+              "data json, mood text)")
+
+    def setUp(self) -> None:
+        self.connection = support.blog()
+        self.session = Session(support.SCHEMA, self.connection, engine=support.engine())
+        self.engine = support.engine()
+
+    def test_a_connection_of_sqlalchemy(self) -> None:
+        try:
+            import sqlalchemy
+        except ImportError as error:
+            raise unittest.SkipTest(str(error))
+        with sqlalchemy.create_engine("sqlite://", creator=support.blog).connect() as connection:
+            self.assertEqual(Session(support.SCHEMA, connection, engine=self.engine).value(query(Users).count()), 3)
 
 
 class OnPostgres(OnAServer, unittest.TestCase):

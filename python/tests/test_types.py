@@ -11,7 +11,7 @@ from typing import Any
 import support
 from hardieflax import (BigInt, Binary, Bool, Date, Decimal, Enumeration, Float, Integer, Json, Nullable, RowError, SmallInt, SqlType, Text,
                         Time,
-                        Timestamp, Uuid, ValueRefused)
+                        Timestamp, TimestampTz, Uuid, ValueRefused)
 from hardieflax.sql_types import DECLARED, OTHERS, bound, bound_list
 
 
@@ -34,7 +34,8 @@ FITTING: Any = [
     (Bool, [True, False], [0, 1, "true"]),
     (Date, [datetime.date(2024, 1, 2)], [MOMENT, "2024-01-02", 5]),
     (Time, [datetime.time(3, 4)], ["03:04"]),
-    (Timestamp, [MOMENT, MOMENT.replace(tzinfo=datetime.timezone.utc)], [datetime.date(2024, 1, 2)]),
+    (Timestamp, [MOMENT], [datetime.date(2024, 1, 2), MOMENT.replace(tzinfo=datetime.timezone.utc)]),
+    (TimestampTz, [MOMENT.replace(tzinfo=datetime.timezone.utc)], [MOMENT]),
     (Decimal, [decimal.Decimal("1E+3"), decimal.Decimal("-0.10")], [1.5, 1]),
     (Float, [1.5, 1e300], ["1.5", True]),
     (Uuid, [uuid.UUID(int=7)], ["00000000-0000-0000-0000-000000000007"]),

@@ -16,7 +16,7 @@ from .queries import Combination, Query, Selected, Statement, nullable, query, s
 from .schema import Schema
 from .session import Built, Session
 from .sql_types import (BigInt, Binary, Bool, Date, Decimal, Enumeration, Float, Integer, Json, Nullable, SmallInt, SqlType, Text, Time,
-                        Timestamp, Uuid)
+                        Timestamp, TimestampTz, Uuid)
 from .tables import Column, Table, alias, only, sampled
 
 __version__ = "0.1.0"
@@ -25,6 +25,6 @@ __all__ = [
     "BigInt", "Binary", "Bool", "Built", "Column", "Combination", "Date", "Decimal", "Engine", "EngineError", "EngineMissing",
     "Enumeration", "Expr", "Float", "HardieflaxError", "Integer", "Json", "Library", "NoRow", "NotShared", "NotYetGuarded", "Nullable",
     "Order", "Program", "Query", "Refused", "RowError", "Schema", "SchemaError", "Selected", "Session", "SeveralRows", "SmallInt",
-    "SqlType", "Statement", "Table", "Text", "Time", "Timestamp", "Uuid", "ValueRefused", "alias", "all_of", "any_of", "count",
+    "SqlType", "Statement", "Table", "Text", "Time", "Timestamp", "TimestampTz", "Uuid", "ValueRefused", "alias", "all_of", "any_of", "count",
     "default_engine", "nullable", "only", "query", "sampled", "select", "value",
 ]

@@ -13,7 +13,7 @@ import shutil
 import subprocess
 import threading
 import weakref
-from typing import Any, Callable, Dict, List, NoReturn, Optional, Protocol, Sequence, Tuple, Type, Union
+from typing import Any, Callable, Dict, List, NoReturn, Optional, Protocol, Sequence, Tuple, Type, Union, runtime_checkable
 from types import TracebackType
 
 from .errors import EngineError, EngineMissing
@@ -38,6 +38,14 @@ class Engine(Protocol):
 
     def has(self, command: str) -> bool:
         """Whether it knows a command."""
+
+
+@runtime_checkable
+class KeepsSession(Engine, Protocol):
+    """An engine that reads a schema once: the library, and in time a program that answers over a pipe."""
+
+    def next(self, owner: object, schema: Callable[[], Any], body: str) -> bytes:
+        """The lines of requests over the schema of an owner. The engine has one session: that of the owner who asked last."""
 
 
 class _Handle(ctypes.Structure):
@@ -107,10 +115,7 @@ class Library:
             self._free(self._handle)
 
     def next(self, owner: object, schema: Callable[[], Any], body: str) -> bytes:
-        """The lines of requests over the schema of an owner. The handle has one session: that of the owner who asked last.
-
-        A session is opened where there is none, as after memory ran out.
-        """
+        """The lines of requests over the schema of an owner. A session is opened where there is none, as after memory ran out."""
         with self._session_lock:
             if self._session_of is not owner:
                 self.run(["open"], f'{{"schema":{json.dumps(schema(), ensure_ascii=False)},"requests":[]}}'.encode())

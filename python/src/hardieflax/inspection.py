@@ -5,7 +5,7 @@ from typing import Any, FrozenSet, List, Optional, Tuple
 
 from .errors import SchemaError
 from .reflection import ForeignKey, Found, FoundColumn, FoundTable
-from .sql_types import BigInt, Binary, Bool, Date, Decimal, Float, Integer, Json, SmallInt, SqlType, Text, Time, Timestamp, Uuid
+from .sql_types import BigInt, Binary, Bool, Date, Decimal, Float, Integer, Json, SmallInt, SqlType, Text, Time, Timestamp, TimestampTz, Uuid
 
 _UNSIGNED = {"TINYINT": SmallInt, "SMALLINT": Integer, "MEDIUMINT": Integer, "INTEGER": BigInt}
 _NUMBERS = {"TINYINT": SmallInt, "MEDIUMINT": Integer, "YEAR": SmallInt}
@@ -95,9 +95,10 @@ def _by_class(type: Any) -> Optional[SqlType[Any]]:
         return Uuid
     if isinstance(type, types.Enum) or name == "SET":
         return None
+    moment = TimestampTz if getattr(type, "timezone", False) else Timestamp
     listed: Tuple[Tuple[Any, SqlType[Any]], ...] = (
         (types.SmallInteger, SmallInt), (types.BigInteger, BigInt), (types.Integer, Integer),
         (types.LargeBinary, Binary), (types._Binary, Binary),
-        (types.JSON, Json), (types.DateTime, Timestamp), (types.Date, Date), (types.Time, Time), (types.Float, Float), (types.Numeric, Decimal),
+        (types.JSON, Json), (types.DateTime, moment), (types.Date, Date), (types.Time, Time), (types.Float, Float), (types.Numeric, Decimal),
         (types.String, Text))
     return next((found for kind, found in listed if isinstance(type, kind)), None)

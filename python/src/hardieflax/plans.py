@@ -13,7 +13,7 @@ import threading
 from typing import Any, Callable, Dict, Iterable, Iterator, List, NamedTuple, Optional, Sequence, Tuple, Union
 
 from .asking import answers
-from .engines import Engine, Library
+from .engines import Engine, KeepsSession
 from .errors import EngineError, HardieflaxError, Refused, SchemaError
 from .explain import why
 from .expressions import Values, filled, tables_of
@@ -198,7 +198,7 @@ class _Asker:
         body = f'"requests":[{",".join(requests)}]'
         tables = {name for each in requests for name in tables_of(json.loads(each))}
         engine, schema = self.planner.engine, self.planner.schema
-        if self.command == "build" and self.guard is None and isinstance(engine, Library):
+        if self.command == "build" and self.guard is None and isinstance(engine, KeepsSession):
             return engine.next(schema, schema.document, body)
         known = tables & schema.names | set(self.guarded)
         members = {"schema": schema.document(known)}

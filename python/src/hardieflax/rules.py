@@ -6,6 +6,8 @@ from typing import Any, Dict, Sequence, Tuple
 from .errors import Refused
 from .rendering import rendered_query
 
+MOST = 300
+
 RULES: Dict[str, Tuple[str, str]] = {
     "UnknownName": ("the schema has no such table or column",
                     "add it to the schema, or mend its name"),
@@ -49,4 +51,9 @@ RULES: Dict[str, Tuple[str, str]] = {
 def refusal(rule: str, parts: Sequence[str], query: Any) -> Refused:
     """The error of a query that breaks a rule."""
     meaning, mend = RULES.get(rule, ("the query breaks this rule", "see docs/RULES.md"))
-    return Refused(rule, meaning, mend, parts, rendered_query(query))
+    return Refused(rule, meaning, mend, [cut(part) for part in parts], cut(rendered_query(query)))
+
+
+def cut(text: str) -> str:
+    """A text for a message, cut where it is long."""
+    return text if len(text) <= MOST else text[:MOST - 2] + ".."

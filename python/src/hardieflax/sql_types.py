@@ -63,12 +63,16 @@ class SqlType(Generic[T]):
                 return None
             raise ValueRefused(f"None is no {self.name}: declare the column as Nullable({self.name})")
         if not self.has(value):
-            raise ValueRefused(f"{shown(value)} is no {self.name}, but {article(value)}")
+            raise ValueRefused(f"{shown(value)} is no {self.name}, but {self._found(value)}")
         return self._encoded(value)
 
     def has(self, value: object) -> bool:
         """Whether the value has the form of this type. A truth value is no number."""
         return isinstance(value, self.python) and (type(value) is not bool or bool in self.python)
+
+    def _found(self, value: object) -> str:
+        """What a value is that is none of this type."""
+        return article(value)
 
     def _encoded(self, value: Any) -> Wire:
         return cast(Wire, value)
@@ -175,8 +179,18 @@ class OtherType(SqlType[T]):
             raise RowError(f"the database has {shown(value)} where the schema says {self!r}: {error}") from error
 
 
-class _Timestamp(OtherType[datetime.datetime]):
-    """Dates with a time."""
+class _Moment(OtherType[Any]):
+    """Times, and dates with a time: with an offset from UTC, or without one. The two are never taken for each other."""
+
+    def __init__(self, name: str, of: type, to_text: Callable[[Any], str], from_text: Callable[[Any], Any], has_offset: bool = False) -> None:
+        super().__init__(name, (of,), to_text, from_text)
+        self._has_offset = has_offset
+
+    def has(self, value: object) -> bool:
+        return super().has(value) and (getattr(value, "tzinfo", None) is not None) == self._has_offset
+
+    def _found(self, value: object) -> str:
+        return article(value) + (f" {'without' if self._has_offset else 'with'} an offset from UTC" if super().has(value) else "")
 
 
 class _Date(OtherType[datetime.date]):
@@ -245,15 +259,17 @@ Binary: SqlType[bytes] = _Binary("Binary", (bytes, bytearray, memoryview))
 Bool: SqlType[bool] = _Bool("Bool", (bool,))
 
 Date: SqlType[datetime.date] = _Date("Date", (), datetime.date.isoformat, datetime.date.fromisoformat)
-Time: SqlType[datetime.time] = OtherType("Time", (datetime.time,), datetime.time.isoformat, _time_of)
-Timestamp: SqlType[datetime.datetime] = _Timestamp("Timestamp", (datetime.datetime,), _timestamp_text, datetime.datetime.fromisoformat)
+Time: SqlType[datetime.time] = _Moment("Time", datetime.time, datetime.time.isoformat, _time_of)
+Timestamp: SqlType[datetime.datetime] = _Moment("Timestamp", datetime.datetime, _timestamp_text, datetime.datetime.fromisoformat)
+TimestampTz: SqlType[datetime.datetime] = _Moment(
+    "TimestampTz", datetime.datetime, _timestamp_text, datetime.datetime.fromisoformat, has_offset=True)
 Decimal: SqlType[decimal.Decimal] = OtherType("Decimal", (decimal.Decimal,), _decimal_text, _decimal_of)
 Float: SqlType[float] = OtherType("Float", (float, int), _float_text, float)
 Uuid: SqlType[uuid.UUID] = OtherType("Uuid", (uuid.UUID,), str, uuid.UUID)
 Json: SqlType[Any] = _Json("Json", (), str, json.loads)
 
 DECLARED: Tuple[SqlType[Any], ...] = (SmallInt, Integer, BigInt, Text, Binary, Bool)
-OTHERS: Tuple[SqlType[Any], ...] = (Date, Time, Timestamp, Decimal, Float, Uuid, Json)
+OTHERS: Tuple[SqlType[Any], ...] = (Date, Time, Timestamp, TimestampTz, Decimal, Float, Uuid, Json)
 
 
 class _Enumeration(OtherType[Any]):
