@@ -5,7 +5,9 @@ with True, False and None, joins are loops.
 """
 from __future__ import annotations
 
+import functools
 import itertools
+import operator
 import os
 import random
 import unittest
@@ -94,8 +96,10 @@ class Maker:
             return self.exists(tables)
         if kind in (2, 3):
             some = [self.condition(tables, depth - 1) for _ in range(self.random.randrange(1, 4))]
-            join, meant = (all_of, conjunction) if kind == 2 else (any_of, disjunction)
-            return join(*(made for made, _ in some)), lambda row: meant([means(row) for _, means in some])
+            join, by, meant = (all_of, operator.and_, conjunction) if kind == 2 else (any_of, operator.or_, disjunction)
+            parts = [made for made, _ in some]
+            joined = join(*parts) if self.random.random() < 0.5 else functools.reduce(by, parts)
+            return joined, lambda row: meant([means(row) for _, means in some])
         return self.atom(tables)
 
     def exists(self, tables: List[Any]) -> Condition:

@@ -199,6 +199,14 @@ class OnPostgres(OnAServer, unittest.TestCase):
         self.assertEqual(self.session.values(made), [2, 3])
         self.assertEqual(len(self.session.all(query(Users).for_no_key_update().skip_locked())), 3)
 
+    def test_one_text_is_prepared_once(self) -> None:
+        self.connection.cursor().execute("DEALLOCATE ALL")
+        for number in range(4):
+            self.session.all(query(Users).filter(Users.id.in_(range(number)), Users.email == f"{number}"))
+        cursor = self.connection.cursor()
+        cursor.execute("SELECT statement FROM pg_prepared_statements WHERE statement LIKE '%ANY%'")
+        self.assertEqual(len(cursor.fetchall()), 1)
+
     def test_the_server_gets_the_text_as_it_is(self) -> None:
         built = self.session.build(query(Odd).filter(Odd.mark == "a", Odd.id.in_([1])))
         cursor, is_raw = self.session._driver._cursor()  # type: ignore[union-attr]

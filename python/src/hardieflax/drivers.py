@@ -110,7 +110,7 @@ class Psycopg:
         cursor, is_raw = self._cursor()
         with cursor:
             parameters = [self._parameter(each) for each in binds]
-            cursor.execute(sql if is_raw else self._percent(sql), parameters, prepare=keep or None)
+            cursor.execute(sql if is_raw else self._percent(sql), parameters, prepare=keep)
             while True:
                 some = cursor.fetchmany(FETCHED)
                 yield from some
