@@ -209,9 +209,9 @@ class OnPostgres(OnAServer, unittest.TestCase):
 
     def test_the_server_gets_the_text_as_it_is(self) -> None:
         built = self.session.build(query(Odd).filter(Odd.mark == "a", Odd.id.in_([1])))
-        cursor, is_raw = self.session._driver._cursor()  # type: ignore[union-attr]
-        parameters = [self.session._driver._parameter(each) for each in built.binds]  # type: ignore[union-attr]
-        cursor.execute(built.sql if is_raw else Psycopg._percent(built.sql), parameters)
+        driver = Psycopg(self.connection)
+        cursor = driver._cursor()
+        cursor.execute(driver._percent(built.sql), [driver._parameter(each) for each in built.binds])
         self.assertEqual(cursor._query.query.decode(), built.sql)
         self.assertEqual(list(cursor._query.types), [25, 1007])
 

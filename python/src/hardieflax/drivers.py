@@ -95,37 +95,36 @@ _UNKNOWN = 0
 
 
 class Psycopg:
-    """psycopg 3. Each value has the type that the statement says; one that a document does not know has none, and the server finds it."""
+    """psycopg 3. Each value has the type that the statement says; one that a document does not know has none, and the server finds it.
+
+    psycopg numbers its `%s` from 1 on, as the text does its placeholders, so the server gets the text as it was. (A RawCursor would take
+    the text itself, but is not there before psycopg 3.2.)
+    """
 
     dialect = "Pg"
     _percent = staticmethod(_in_place('"', r"\$[0-9]+"))
 
     def __init__(self, connection: Any) -> None:
         self.connection = connection
-        self._parameter: Any = None
-        self._raw: Any = None
+        self._parameter, self._dumper = _psycopg_parameter()
 
     def rows(self, sql: str, binds: Sequence[Bound], keep: bool) -> Iterator[Row]:
         """The rows, once all are received. The text goes to the server as it is."""
-        cursor, is_raw = self._cursor()
-        with cursor:
-            parameters = [self._parameter(each) for each in binds]
-            cursor.execute(sql if is_raw else self._percent(sql), parameters, prepare=keep)
+        with self._cursor() as cursor:
+            cursor.execute(self._percent(sql), [self._parameter(each) for each in binds], prepare=keep)
             while True:
                 some = cursor.fetchmany(FETCHED)
                 yield from some
                 if len(some) < FETCHED:
                     return
 
-    def _cursor(self) -> Tuple[Any, bool]:
-        import psycopg
+    def _cursor(self) -> Any:
+        """A cursor of psycopg's own, whatever kind the connection makes, that knows our parameters."""
+        from psycopg import Cursor
         from psycopg.rows import tuple_row
-        raw = getattr(psycopg, "RawCursor", None)
-        if self._parameter is None:
-            self._parameter, self._dumper = _psycopg_parameter()
-        cursor = psycopg.Cursor(self.connection, row_factory=tuple_row) if raw is None else raw(self.connection, row_factory=tuple_row)
+        cursor: Any = Cursor(self.connection, row_factory=tuple_row)
         cursor.adapters.register_dumper(self._parameter, self._dumper)
-        return cursor, raw is not None
+        return cursor
 
 
 _parameters: List[Tuple[Any, Any]] = []
