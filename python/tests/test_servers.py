@@ -178,17 +178,22 @@ class OnPostgres(OnAServer, unittest.TestCase):
             raise unittest.SkipTest(str(error))
         self.connection.commit()
         self.connection.cursor().execute(
-            "CREATE TYPE colour AS ENUM ('red'); CREATE TABLE reflected (id bigint PRIMARY KEY, day date NOT NULL, price numeric, uid uuid, "
-            "data jsonb, c colour, place point, author bigint REFERENCES users); CREATE VIEW seen AS SELECT 1")
+            "CREATE TYPE colour AS ENUM ('red', 'dark blue'); "
+            "CREATE TABLE reflected (id bigint PRIMARY KEY, day date NOT NULL, price numeric, uid uuid, data jsonb, "
+            "c colour, place point, author bigint REFERENCES users); CREATE VIEW seen AS SELECT 1")
         self.connection.commit()
         try:
             schema = Schema.reflect(sqlalchemy.create_engine(self.url.replace("postgresql:", "postgresql+psycopg2:")))
             self.assertEqual({name: repr(column.type) for name, column in schema["reflected"].__columns__.items()}, {
                 "id": "BigInt", "day": "Date", "price": "Nullable(Decimal)", "uid": "Nullable(Uuid)", "data": "Nullable(Json)",
-                "author": "Nullable(BigInt)"})
+                "c": "Nullable(Enumeration(Colour))", "author": "Nullable(BigInt)"})
+            made: Any = {}
+            exec(schema.python(), made)
+            self.assertEqual([each.value for each in made["Colour"]], ["red", "dark blue"])
+            self.assertEqual(made["schema"].document(), schema.document())
             self.assertIn(("reflected", "author", "users"), schema.relations)
             self.assertTrue(any(note.startswith("seen: is a view") for note in schema.notes))
-            self.assertTrue(any(note.startswith("reflected.c: ") for note in schema.notes))
+            self.assertTrue(any(note.startswith("reflected.place: ") for note in schema.notes))
             self.assertEqual(repr(schema["users"].name.type), "Nullable(Text)")
         finally:
             self.connection.cursor().execute("DROP VIEW seen; DROP TABLE reflected; DROP TYPE colour")
@@ -232,7 +237,8 @@ class OnMariadb(OnAServer, unittest.TestCase):
         try:
             schema = Schema.reflect(self.sqlalchemy_engine(), only=["reflected", "users"])
             self.assertEqual({name: repr(column.type) for name, column in schema["reflected"].__columns__.items()}, {
-                "id": "BigInt", "small": "Nullable(SmallInt)", "flag": "Bool", "day": "Nullable(Date)", "author": "Nullable(BigInt)"})
+                "id": "BigInt", "small": "Nullable(SmallInt)", "flag": "Bool", "day": "Nullable(Date)",
+                "mood": "Nullable(Enumeration(ReflectedMood))", "author": "Nullable(BigInt)"})
             self.assertIn(("reflected", "author", "users"), schema.relations)
             self.assertTrue(any("BIGINT UNSIGNED" in note for note in schema.notes))
             with self.assertRaises(SchemaError):

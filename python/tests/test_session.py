@@ -212,6 +212,21 @@ class Plans(unittest.TestCase):
         self.assertEqual((self.built("Pg", made(2)).id, listed.id), (first.id, None))
         self.assertNotEqual(first.id, other.id)
 
+    def test_a_document_that_is_too_large_is_halved(self) -> None:
+        text = "x" * 9_000_000
+        made = [query(Users).filter(Users.email == text).limit(1), query(Users).filter(Users.email == text), query(Users)]
+        plans = self.planner.plans([Request("Sqlite", each, None) for each in made])
+        self.assertEqual(["sql" in getattr(plan, "_fields", ()) for plan in plans], [True, True, True])
+        with self.assertRaises(EngineError) as caught:
+            Session(support.SCHEMA, dialect="Pg", engine=support.engine()).build(query(Users).filter(Users.email == text * 2))
+        self.assertEqual(caught.exception.status, 7)
+
+    def test_many_tables(self) -> None:
+        made = [type(f"T{number}", (Table,), {"id": Column(Integer)}, name=f"t{number}") for number in range(400)]
+        session = Session(Schema(*made), dialect="Pg", engine=support.engine())
+        built = session.build_all([query(each) for each in made])
+        self.assertEqual([each.sql for each in built][399], 'SELECT "t399"."id" FROM "t399"')
+
     def test_no_more_than_the_capacity_is_kept(self) -> None:
         small = Planner(support.SCHEMA, support.engine(), capacity=2)
         for number in range(4):

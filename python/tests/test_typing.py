@@ -60,6 +60,9 @@ RIGHT = [
      "List[Users]"),
     ("session.all(query(Users).filter(Users.id.in_([1]) & ~Users.active | Users.born.in_([None, datetime.date.today()])))", "List[Users]"),
     ("session.all(query(Posts).filter(Posts.editor_id.in_(query(Users).select(Users.id))))", "List[Posts]"),
+    ("session.all(query(Users).filter(Users.id.not_in(query(Posts).select(Posts.editor_id)), ~Users.active))", "List[Users]"),
+    ("session.all(query(Users).filter(~(Users.name == 'x')))", "List[Users]"),
+    ("session.one(query(Users).select(~Users.active, Users.name == 'x'))", "Tuple[bool, Optional[bool]]"),
 ]
 
 # What is wrong.

@@ -3,7 +3,7 @@ from __future__ import annotations
 
 from typing import Any, Callable, Iterator, List, Sequence
 
-from .engines import BAD_DOCUMENT, MOST_BYTES, NO_MEMORY, lines
+from .engines import BAD_DOCUMENT, MOST_BYTES, NO_MEMORY, TOO_LARGE, lines
 from .errors import EngineError
 
 # What the engine writes for a document with these requests.
@@ -48,13 +48,13 @@ def _answers(run: Run, requests: Sequence[str]) -> List[Any]:
                 made += [*before, error]
                 rest = rest[len(before) + 1:]
             else:
-                return made + _one_by_one(run, rest, error)
+                return made + _halved(run, rest, error)
     return made
 
 
-def _one_by_one(run: Run, requests: Sequence[str], error: EngineError) -> List[Any]:
-    """Where one is none, all of a document are refused: so each is asked alone, and only it has the error."""
-    if error.status != BAD_DOCUMENT:
+def _halved(run: Run, requests: Sequence[str], error: EngineError) -> List[Any]:
+    """Where one is none, or all are too much, all of a document are refused: so halves of it are asked, and only that one has the error."""
+    if error.status not in (BAD_DOCUMENT, TOO_LARGE) or error.status == TOO_LARGE and len(requests) == 1:
         return [error] * len(requests)
     if len(requests) == 1:
         return [EngineError(BAD_DOCUMENT, detail="a value has another form than its type's, or values nest deeper than 127: join many "

@@ -10,7 +10,7 @@ from typing import Any, Iterator, List
 from .errors import SchemaError
 from .reflection import FoundColumn, FoundTable, reflected
 from .schema import Schema
-from .sql_types import SqlType
+from .sql_types import EnumerationType, SqlType
 from .tables import Table, key_of
 
 
@@ -42,6 +42,8 @@ def _of_column(table: str, mine: SqlType[Any], column: FoundColumn) -> Iterator[
             yield f"{table}.{column.name}: the schema says {mine.name}, and the database {theirs}"
     elif mine.name != theirs.name:
         yield f"{table}.{column.name}: the schema says {mine.name}, and the database {theirs.name}"
+    elif isinstance(mine, EnumerationType) and isinstance(theirs, EnumerationType) and set(mine.texts) != set(theirs.texts):
+        yield f"{table}.{column.name}: the schema says {', '.join(mine.texts)}, and the database {', '.join(theirs.texts)}"
     if mine.nullable != column.nullable:
         says = "may be NULL" if column.nullable else "is never NULL"
         yield f"{table}.{column.name}: in the database it {says}, and the schema says otherwise"

@@ -20,7 +20,7 @@ from .errors import EngineError, EngineMissing
 
 DIALECTS = ("Pg", "Mysql", "Sqlite", "Bracket")
 Path = Union[str, "os.PathLike[str]"]
-USAGE, BAD_DOCUMENT, NO_MEMORY = 2, 3, 6
+USAGE, BAD_DOCUMENT, NO_MEMORY, TOO_LARGE = 2, 3, 6, 7
 # The size of an input that the program refuses is beyond 16777216.
 MOST_BYTES = 16_000_000
 

@@ -16,6 +16,7 @@ if TYPE_CHECKING:
 
 T_co = TypeVar("T_co", covariant=True)
 T = TypeVar("T")
+Truth = TypeVar("Truth", bound=Optional[bool])
 
 # Where a value stands. JSON has an escape for this character, so it stands for nothing else.
 HOLE = "\0"
@@ -72,7 +73,7 @@ class Expr(Generic[T_co]):
     def __or__(self: Expr[Optional[bool]], other: Expr[Optional[bool]]) -> Expr[Optional[bool]]:
         return _joined("or", self, other)
 
-    def __invert__(self: Expr[Optional[bool]]) -> Expr[Optional[bool]]:
+    def __invert__(self: Expr[Truth]) -> Expr[Truth]:
         return Expr(f'{{"not":{self.shape}}}', self.values, self.type, is_not=True)
 
     def is_null(self) -> Expr[bool]:
@@ -93,11 +94,11 @@ class Expr(Generic[T_co]):
         """Both ends belong to it. It is written as two comparisons, joined by AND."""
         return (self >= least) & (self <= most)
 
-    def in_(self, values: Union[Iterable[T_co], Statement[Tuple[T_co]]]) -> Expr[Optional[bool]]:
+    def in_(self, values: Union[Iterable[T_co], Statement[Tuple[Optional[T_co]]]]) -> Expr[Optional[bool]]:
         """IN a list of values, or in the one column of a query. On PostgreSQL a list is one value, an array."""
         return self._among("eq_any", values)
 
-    def not_in(self, values: Union[Iterable[T_co], Statement[Tuple[T_co]]]) -> Expr[Optional[bool]]:
+    def not_in(self, values: Union[Iterable[T_co], Statement[Tuple[Optional[T_co]]]]) -> Expr[Optional[bool]]:
         """NOT IN. Mind that it is never true where the list, or the query, has a NULL."""
         return self._among("ne_all", values)
 

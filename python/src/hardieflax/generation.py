@@ -1,23 +1,28 @@
 """A module of Python with a class for each table of a schema."""
 from __future__ import annotations
 
+import enum
 from typing import Any, Dict, List, Set, Type
 
 from .schema import Schema, class_name
-from .sql_types import SqlType
+from .sql_types import EnumerationType, SqlType
 from .tables import Column, Table, key_of
 
 
 def module(schema: Schema) -> str:
     """The module's text. `schema` is the last name that it defines."""
     names = class_names(schema)
+    enumerations = _enumerations(schema, names)
     ordered = _parents_first(schema)
     types = [column.type for table in schema for column in table.__columns__.values()]
     imports = sorted({"Column", "Schema", "Table"}.union(*map(_imported, types)))
-    lines = ['"""Tables, as `hardieflax schema --python` reads them from a database."""', f"from hardieflax import {', '.join(imports)}"]
+    lines = ['"""Tables, as `hardieflax schema --python` reads them from a database."""', *["import enum", ""] * bool(enumerations),
+             f"from hardieflax import {', '.join(imports)}"]
+    for members, name in enumerations.items():
+        lines += ["", "", f"class {name}(enum.Enum):", *(f"    {each.name} = {each.value!r}" for each in members)]
     known: Set[str] = set()
     for table in ordered:
-        lines += ["", "", *_class(schema, table, names, known)]
+        lines += ["", "", *_class(schema, table, names, known, enumerations)]
         known.add(table.__table__)
     lines += ["", "", f"schema = Schema({', '.join(names[table.__table__] for table in schema)})"]
     return "\n".join(lines) + "\n"
@@ -48,18 +53,40 @@ def _parents_first(schema: Schema) -> List[Type[Table]]:
     return made
 
 
-def _class(schema: Schema, table: Type[Table], names: Dict[str, str], known: Set[str]) -> List[str]:
+def _enumerations(schema: Schema, names: Dict[str, str]) -> Dict[Type[enum.Enum], str]:
+    """The enumerations of the schema, each with a name that no other class has."""
+    import hardieflax
+    made: Dict[Type[enum.Enum], str] = {}
+    for column in (column for table in schema for column in table.__columns__.values()):
+        if isinstance(column.type, EnumerationType) and column.type.members not in made:
+            name = column.type.members.__name__
+            while name in made.values() or name in names.values() or name in hardieflax.__all__:
+                name += "_"
+            made[column.type.members] = name
+    return made
+
+
+def _type(type: SqlType[Any], enumerations: Dict[Type[enum.Enum], str]) -> str:
+    """The type as the module writes it."""
+    if not isinstance(type, EnumerationType):
+        return repr(type)
+    made = f"Enumeration({enumerations[type.members]}{', by_name=True' if type.by_name else ''})"
+    return f"Nullable({made})" if type.nullable else made
+
+
+def _class(schema: Schema, table: Type[Table], names: Dict[str, str], known: Set[str], enumerations: Dict[Type[enum.Enum], str]) -> List[str]:
     options = [f"name={table.__table__!r}"]
     options += [f"{word}={value!r}" for word, value in (("sql_name", table.__sql_name__), ("schema", table.__schema__)) if value is not None]
     lines = [f"class {names[table.__table__]}(Table, {', '.join(options)}):"]
     relations = {key: parent for child, key, parent in schema.relations if child == table.__table__}
     for name, column in table.__columns__.items():
-        lines.append(f"    {name} = Column({', '.join(_arguments(table, name, column, relations.get(name), names, known))})")
+        arguments = [_type(column.type, enumerations), *_arguments(table, name, column, relations.get(name), names, known)]
+        lines.append(f"    {name} = Column({', '.join(arguments)})")
     return lines
 
 
 def _arguments(table: Type[Table], name: str, column: Column[Any], parent: Any, names: Dict[str, str], known: Set[str]) -> List[str]:
-    made = [repr(column.type)]
+    made: List[str] = []
     if name in key_of(table) and key_of(table) != ("id",):
         made.append("key=True")
     if column.sql_name != name:

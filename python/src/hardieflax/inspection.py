@@ -1,11 +1,14 @@
 """Tables as SQLAlchemy's inspector describes them: PostgreSQL, MySQL, MariaDB and SQLite."""
 from __future__ import annotations
 
-from typing import Any, FrozenSet, List, Optional, Tuple
+import enum
+from typing import Any, Dict, FrozenSet, List, Optional, Sequence, Tuple
 
 from .errors import SchemaError
-from .reflection import ForeignKey, Found, FoundColumn, FoundTable
-from .sql_types import BigInt, Binary, Bool, Date, Decimal, Float, Integer, Json, SmallInt, SqlType, Text, Time, Timestamp, TimestampTz, Uuid
+from .reflection import ForeignKey, Found, FoundColumn, FoundTable, attribute_name
+from .schema import class_name
+from .sql_types import (BigInt, Binary, Bool, Date, Decimal, Enumeration, Float, Integer, Json, SmallInt, SqlType, Text, Time, Timestamp,
+                        TimestampTz, Uuid)
 
 _UNSIGNED = {"TINYINT": SmallInt, "SMALLINT": Integer, "MEDIUMINT": Integer, "INTEGER": BigInt}
 _NUMBERS = {"TINYINT": SmallInt, "MEDIUMINT": Integer, "YEAR": SmallInt}
@@ -56,7 +59,7 @@ def _table(inspector: Any, name: str, described: List[Any], dialect: str, schema
     key: Tuple[str, ...] = tuple(inspector.get_pk_constraint(name, schema).get("constrained_columns") or ())
     columns = []
     for each in described:
-        type = found_type(each["type"], dialect, trust)
+        type = found_type(each["type"], dialect, f"{name}_{each['name']}", trust)
         if type is BigInt and getattr(each["type"], "unsigned", False) and _name(each["type"]) == "BIGINT":
             notes.append(f"{name}.{each['name']}: BIGINT UNSIGNED is BigInt here: a value of 2^63 or more does not fit")
         is_row_number = dialect == "sqlite" and key == (each["name"],) and _name(each["type"]) == "INTEGER"
@@ -70,8 +73,8 @@ def _name(type: Any) -> str:
     return str(type.__class__.__name__).upper()
 
 
-def found_type(type: Any, dialect: str, trust: bool = False) -> Found:
-    """The counterpart of a type of SQLAlchemy, or its name."""
+def found_type(type: Any, dialect: str, where: str, trust: bool = False) -> Found:
+    """The counterpart of a type of SQLAlchemy, or its name. `where` names an enumeration that has no name of its own."""
     from sqlalchemy import types
     name = _name(type)
     if isinstance(type, types.Boolean) or name == "TINYINT" and getattr(type, "display_width", None) == 1:
@@ -84,15 +87,33 @@ def found_type(type: Any, dialect: str, trust: bool = False) -> Found:
         return Bool
     if isinstance(type, types.Integer) and dialect == "sqlite" and not trust:
         return BigInt
-    found = _by_class(type)
+    found = _by_class(type, where)
     return str(type) if found is None else found
 
 
-def _by_class(type: Any) -> Optional[SqlType[Any]]:
+_enumerations: Dict[Tuple[str, ...], SqlType[Any]] = {}
+
+
+def enumeration(name: str, texts: Sequence[str]) -> SqlType[Any]:
+    """A type of the database with these texts, as an enumeration whose members are made now. One of a name and texts is made once."""
+    key = (name, *texts)
+    if key not in _enumerations:
+        members: Dict[str, str] = {}
+        for number, text in enumerate(texts, 1):
+            member = attribute_name(text).upper().strip("_") or f"MEMBER{number}"
+            members[member if member.isidentifier() and member not in members else f"MEMBER{number}"] = text
+        made: Any = enum.Enum(class_name(name), members)  # type: ignore[misc]
+        _enumerations[key] = Enumeration(made)
+    return _enumerations[key]
+
+
+def _by_class(type: Any, where: str) -> Optional[SqlType[Any]]:
     from sqlalchemy import types
     name = _name(type)
     if name == "UUID":
         return Uuid
+    if isinstance(type, types.Enum) and name != "SET" and type.enums:
+        return enumeration(type.name or where, type.enums)
     if isinstance(type, types.Enum) or name == "SET":
         return None
     moment = TimestampTz if getattr(type, "timezone", False) else Timestamp

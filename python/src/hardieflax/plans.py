@@ -27,6 +27,8 @@ from .tables import near
 Json = Any
 # Of more values than a SmallInt has numbers, places cannot be told apart.
 MOST_VALUES = 32767
+# Of more tables, the pairs that may stand together are too many for one document: then each has the tables that it needs.
+MOST_TABLES = 300
 _planners_lock = threading.Lock()
 
 
@@ -198,7 +200,8 @@ class _Asker:
         body = f'"requests":[{",".join(requests)}]'
         tables = {name for each in requests for name in tables_of(json.loads(each))}
         engine, schema = self.planner.engine, self.planner.schema
-        if self.command == "build" and self.guard is None and isinstance(engine, KeepsSession):
+        is_small = len(schema) <= MOST_TABLES
+        if self.command == "build" and self.guard is None and is_small and isinstance(engine, KeepsSession):
             return engine.next(schema, schema.document, body)
         known = tables & schema.names | set(self.guarded)
         members = {"schema": schema.document(known)}

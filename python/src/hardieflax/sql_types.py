@@ -272,7 +272,7 @@ DECLARED: Tuple[SqlType[Any], ...] = (SmallInt, Integer, BigInt, Text, Binary, B
 OTHERS: Tuple[SqlType[Any], ...] = (Date, Time, Timestamp, TimestampTz, Decimal, Float, Uuid, Json)
 
 
-class _Enumeration(OtherType[Any]):
+class EnumerationType(OtherType[Any]):
     """The members of an enumeration of Python, by their values or by their names."""
 
     def __init__(self, members: Type[enum.Enum], by_name: bool) -> None:
@@ -282,6 +282,11 @@ class _Enumeration(OtherType[Any]):
     def __repr__(self) -> str:
         made = f"Enumeration({self.members.__name__}{', by_name=True' if self.by_name else ''})"
         return f"Nullable({made})" if self.nullable else made
+
+    @property
+    def texts(self) -> List[str]:
+        """The texts of the members."""
+        return [self._text_of(each) for each in self.members]
 
     def _text_of(self, value: enum.Enum) -> str:
         return value.name if self.by_name else str(value.value)
@@ -294,7 +299,7 @@ def Enumeration(members: Type[E], *, by_name: bool = False) -> SqlType[E]:  # no
     """A type of the database whose texts are the values of an enumeration's members, or with `by_name` their names."""
     if not by_name and not all(isinstance(member.value, str) for member in members):
         raise TypeError(f"{members.__name__} has a member whose value is no text: say by_name=True, or give each a text")
-    return _Enumeration(members, by_name)
+    return EnumerationType(members, by_name)
 
 
 def Nullable(of: SqlType[T]) -> SqlType[Optional[T]]:  # noqa: N802, since it stands where a type does
