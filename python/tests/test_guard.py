@@ -7,7 +7,8 @@ from typing import Any, List, Optional, Sequence
 
 import support
 from support import Comments, Odd, Posts, Users
-from hardieflax import (BigInt, HardieflaxError, NotShared, NotYetGuarded, Refused, SchemaError, Session, Table, Column, alias, count,
+from hardieflax import (AsyncSession, BigInt, HardieflaxError, NotShared, NotYetGuarded, Refused, SchemaError, Session, Table, Column,
+                        alias, count,
                         nullable, query,
                         value)
 
@@ -122,6 +123,11 @@ class Guards(unittest.TestCase):
             text = repr([each for each in made] if hasattr(made, "__iter__") else made)
             self.assertTrue("author_id` = ?" in text or "Trees" not in text and "Birds" not in text and text not in ("1", "[1, 2, 3]"),
                             (name, text))
+
+    def test_a_session_of_asyncio_has_the_same_calls(self) -> None:
+        """Those that its test on PostgreSQL guards; a new one has to be looked at."""
+        public = {name for name in dir(AsyncSession) if not name.startswith("_")}
+        self.assertEqual(public, {name for name in dir(Session) if not name.startswith("_")})
 
     def test_what_is_no_guard(self) -> None:
         class Tags(Table, name="tags"):

@@ -1,6 +1,7 @@
 """Sessions on PostgreSQL and MariaDB, which are started here; what is missing is skipped."""
 from __future__ import annotations
 
+import asyncio
 import datetime
 import decimal
 import enum
@@ -10,9 +11,9 @@ from typing import Any, ClassVar
 
 import support
 from support import Comments, Odd, Posts, Users
-from hardieflax import (Column, Date, Decimal, Enumeration, Float, Integer, Json, Nullable, RowError, Schema, SchemaError, Session, Table,
-                        Text, Time,
-                        Timestamp, Uuid, Binary, Bool, BigInt, SmallInt, alias, nullable, query, select, value)
+from hardieflax import (AsyncSession, BigInt, Binary, Bool, Column, Date, Decimal, Enumeration, Float, HardieflaxError, Integer, Json, NoRow,
+                        NotShared, Nullable, Refused, RowError, Schema, SchemaError, Session, SeveralRows, SmallInt, Table, Text, Time,
+                        Timestamp, Uuid, alias, nullable, query, select, value)
 from hardieflax.drivers import Psycopg, Pymysql
 
 
@@ -204,6 +205,31 @@ class OnPostgres(OnAServer, unittest.TestCase):
         self.assertEqual(self.session.values(made), [2, 3])
         self.assertEqual(len(self.session.all(query(Users).for_no_key_update().skip_locked())), 3)
 
+    def test_a_connection_of_asyncio(self) -> None:
+        import psycopg
+
+        async def ask() -> None:
+            async with await psycopg.AsyncConnection.connect(self.url) as connection:
+                session = AsyncSession(support.SCHEMA, connection, engine=self.engine)
+                for name, wanted in (("Sean", [1]), ("Tess", [2]), ("x", [])):
+                    self.assertEqual(await session.values(query(Users).filter(Users.name == name, Users.id.in_([1, 2])).select(Users.id)),
+                                     wanted)
+                self.assertEqual([(u.id, p and p.id) for u, p in await session.all(query(Users).left_join(Posts).order(Users.id, Posts.id))],
+                                 [(1, 1), (1, 2), (2, 3), (3, None)])
+                self.assertEqual(await session.value(query(Users).count()), 3)
+                self.assertIsNone(await session.first(query(Users).filter(Users.id == 9)))
+                for made, error in ((query(Users), SeveralRows), (query(Users).filter(Users.id == 9), NoRow), (query(Posts).join(Odd), Refused)):
+                    with self.assertRaises(error):
+                        await session.one(made)
+                tenant = AsyncSession(support.SCHEMA, connection, engine=self.engine, guards={Posts: Posts.author_id == 2}, shared=[Users])
+                self.assertEqual([post.id for post in await tenant.all(query(Posts))], [3])
+                with self.assertRaises(NotShared):
+                    await tenant.all(query(Comments))
+
+        asyncio.run(ask())
+        with self.assertRaises(HardieflaxError):
+            AsyncSession(support.SCHEMA, self.connection, engine=self.engine)
+
     def test_one_text_is_prepared_once(self) -> None:
         self.connection.cursor().execute("DEALLOCATE ALL")
         for number in range(4):
@@ -215,8 +241,8 @@ class OnPostgres(OnAServer, unittest.TestCase):
     def test_the_server_gets_the_text_as_it_is(self) -> None:
         built = self.session.build(query(Odd).filter(Odd.mark == "a", Odd.id.in_([1])))
         driver = Psycopg(self.connection)
-        cursor = driver._cursor()
-        cursor.execute(driver._percent(built.sql), [driver._parameter(each) for each in built.binds])
+        cursor = driver.cursor()
+        cursor.execute(*driver.words(built.sql, built.binds))
         self.assertEqual(cursor._query.query.decode(), built.sql)
         self.assertEqual(list(cursor._query.types), [25, 1007])
 

@@ -8,6 +8,7 @@
     for user in session.all(query(Users).filter(Users.name == "Sean").order(Users.id.desc()).limit(10)):
         print(user.id, user.name)
 """
+from .async_session import AsyncSession
 from .engines import Engine, Library, Program, default_engine
 from .errors import (EngineError, EngineMissing, HardieflaxError, NoRow, NotShared, NotYetGuarded, Refused, RowError, SchemaError, SeveralRows,
                      ValueRefused)
@@ -22,7 +23,7 @@ from .tables import Column, Table, alias, only, sampled
 __version__ = "0.1.0"
 
 __all__ = [
-    "BigInt", "Binary", "Bool", "Built", "Column", "Combination", "Date", "Decimal", "Engine", "EngineError", "EngineMissing",
+    "AsyncSession", "BigInt", "Binary", "Bool", "Built", "Column", "Combination", "Date", "Decimal", "Engine", "EngineError", "EngineMissing",
     "Enumeration", "Expr", "Float", "HardieflaxError", "Integer", "Json", "Library", "NoRow", "NotShared", "NotYetGuarded", "Nullable",
     "Order", "Program", "Query", "Refused", "RowError", "Schema", "SchemaError", "Selected", "Session", "SeveralRows", "SmallInt",
     "SqlType", "Statement", "Table", "Text", "Time", "Timestamp", "TimestampTz", "Uuid", "ValueRefused", "alias", "all_of", "any_of", "count",

@@ -110,19 +110,31 @@ class Psycopg:
 
     def rows(self, sql: str, binds: Sequence[Bound], keep: bool) -> Iterator[Row]:
         """The rows, once all are received. The text goes to the server as it is."""
-        with self._cursor() as cursor:
-            cursor.execute(self._percent(sql), [self._parameter(each) for each in binds], prepare=keep)
+        with self.cursor() as cursor:
+            cursor.execute(*self.words(sql, binds), prepare=keep)
             while True:
                 some = cursor.fetchmany(FETCHED)
                 yield from some
                 if len(some) < FETCHED:
                     return
 
-    def _cursor(self) -> Any:
+    def words(self, sql: str, binds: Sequence[Bound]) -> Tuple[str, List[Any]]:
+        """The text and the values as psycopg takes them."""
+        return self._percent(sql), [self._parameter(each) for each in binds]
+
+    def cursor(self) -> Any:
         """A cursor of psycopg's own, whatever kind the connection makes, that knows our parameters."""
         from psycopg import Cursor
+        return self._prepared(Cursor)
+
+    def async_cursor(self) -> Any:
+        """The same on a connection of asyncio."""
+        from psycopg import AsyncCursor
+        return self._prepared(AsyncCursor)
+
+    def _prepared(self, kind: Any) -> Any:
         from psycopg.rows import tuple_row
-        cursor: Any = Cursor(self.connection, row_factory=tuple_row)
+        cursor = kind(self.connection, row_factory=tuple_row)
         cursor.adapters.register_dumper(self._parameter, self._dumper)
         return cursor
 

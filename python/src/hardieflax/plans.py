@@ -86,6 +86,10 @@ class Planner:
             found = [made[each.key(True)] if plan is None else plan for each, plan in zip(requests, found)]
         return [each for each in found if each is not None]
 
+    def knows(self, request: Request) -> bool:
+        """Whether the request's plan needs no question."""
+        return self._known(request) is not None
+
     def _known(self, request: Request) -> Optional[Outcome]:
         has_lists = any(value.is_list for value in request.values)
         with self._lock:

@@ -56,26 +56,18 @@ class Built(Generic[R]):
         return made
 
 
-class Session:
-    """Builds queries over a schema, and runs them on a connection.
+class Builder:
+    """Builds queries over a schema, in a dialect, restricted by a guard or not: what sessions have in common."""
 
-    The dialect is that of the connection, or else it is given ("Pg", "Mysql", "Sqlite" or "Bracket"): without a connection a session
-    builds statements alone. `engine` is the library or the program; by default it is found.
-
-    With `guards` a session shows of each guarded table the rows for which its condition is true, of the tables in `shared` all rows, and
-    of any other nothing. No call of such a session gives a statement without its guard.
-    """
-
-    def __init__(self, schema: Schema, connection: Any = None, *, dialect: Optional[str] = None, engine: Optional[Engine] = None,
-                 guards: Optional[Mapping[Type[Table], Expr[Any]]] = None, shared: Iterable[Type[Table]] = ()) -> None:
-        self._driver: Optional[Driver] = None if connection is None else driver_of(connection)
-        found = dialect or (self._driver.dialect if self._driver else None)
+    def __init__(self, schema: Schema, dialect: Optional[str], spoken: Optional[str], engine: Optional[Engine],
+                 guards: Optional[Mapping[Type[Table], Expr[Any]]], shared: Iterable[Type[Table]]) -> None:
+        found = dialect or spoken
         if found is None:
             raise HardieflaxError(f"a session has a connection, or a dialect: one of {', '.join(DIALECTS)}")
         if found not in DIALECTS:
             raise HardieflaxError(f"{found!r} is no dialect: one of {', '.join(DIALECTS)}")
-        if self._driver is not None and self._driver.dialect != found:
-            raise HardieflaxError(f"the connection speaks {self._driver.dialect}, and not {found}")
+        if spoken not in (None, found):
+            raise HardieflaxError(f"the connection speaks {spoken}, and not {found}")
         if shared and guards is None:
             raise SchemaError("tables are shared in a guarded session: give guards={..}, which may be empty")
         self.schema, self.dialect = schema, found
@@ -102,6 +94,33 @@ class Session:
         listed = list(queries)
         plans = self._planner.plans([self._request(each) for each in listed])
         return [copy.copy(plan) if isinstance(plan, Refused) else self._built(query, plan) for query, plan in zip(listed, plans)]
+
+    def _request(self, query: Statement[Any]) -> Request:
+        if not isinstance(query, Statement):
+            raise TypeError(f"a session takes a query, as query(Users), and not {query!r}")
+        return Request(self.dialect, query, self._guard)
+
+    def _built(self, query: Statement[R], plan: Outcome) -> Built[R]:
+        if isinstance(plan, Plan):
+            values = query.values if self._guard is None else self._guard.values + query.values
+            return Built(self.dialect, plan.sql, plan.binds(values), plan.columns, plan.safe, plan.id, query)
+        raise copy.copy(plan)
+
+
+class Session(Builder):
+    """Builds queries over a schema, and runs them on a connection.
+
+    The dialect is that of the connection, or else it is given ("Pg", "Mysql", "Sqlite" or "Bracket"): without a connection a session
+    builds statements alone. `engine` is the library or the program; by default it is found.
+
+    With `guards` a session shows of each guarded table the rows for which its condition is true, of the tables in `shared` all rows, and
+    of any other nothing. No call of such a session gives a statement without its guard.
+    """
+
+    def __init__(self, schema: Schema, connection: Any = None, *, dialect: Optional[str] = None, engine: Optional[Engine] = None,
+                 guards: Optional[Mapping[Type[Table], Expr[Any]]] = None, shared: Iterable[Type[Table]] = ()) -> None:
+        self._driver: Optional[Driver] = None if connection is None else driver_of(connection)
+        super().__init__(schema, dialect, self._driver.dialect if self._driver else None, engine, guards, shared)
 
     def all(self, query: Statement[R]) -> List[R]:
         """All rows."""
@@ -137,17 +156,6 @@ class Session:
         """The values of the one column."""
         return [row[0] for row in self.rows(query)]
 
-    def _request(self, query: Statement[Any]) -> Request:
-        if not isinstance(query, Statement):
-            raise TypeError(f"a session takes a query, as query(Users), and not {query!r}")
-        return Request(self.dialect, query, self._guard)
-
-    def _built(self, query: Statement[R], plan: Outcome) -> Built[R]:
-        if isinstance(plan, Plan):
-            values = query.values if self._guard is None else self._guard.values + query.values
-            return Built(self.dialect, plan.sql, plan.binds(values), plan.columns, plan.safe, plan.id, query)
-        raise copy.copy(plan)
-
     @staticmethod
     def _read(driver: Driver, built: Built[R]) -> Iterator[R]:
         read = built.row
@@ -155,4 +163,4 @@ class Session:
             yield read(row)
 
 
-__all__ = ["Built", "EngineError", "Session"]
+__all__ = ["Builder", "Built", "EngineError", "Session"]
