@@ -1,0 +1,278 @@
+"""Statements, each asked for once.
+
+Queries that differ only in values break the same rules and have one text (docs/PROMISES.md, `values_can_be_exchanged`; for lists of other
+lengths `list_lengths_can_be_exchanged`, where the answer says `safe`). So an engine is asked for a shape once, and from then on its
+values are put in order here. Which value goes where is learned from the engine too: it is asked for the same shape with values that
+tell their places.
+"""
+from __future__ import annotations
+
+import collections
+import json
+import threading
+from typing import Any, Callable, Dict, Iterable, Iterator, List, NamedTuple, Optional, Sequence, Tuple, Union
+
+from .asking import answers
+from .engines import Engine, KeepsSession
+from .errors import EngineError, HardieflaxError, Refused, SchemaError
+from .explain import why
+from .expressions import Values, filled, tables_of
+from .guards import Guard
+from .queries import Statement
+from .rules import refusal
+from .schema import Schema
+from .sql_types import Bound
+from .tables import near
+
+Json = Any
+# Of more values than a SmallInt has numbers, places cannot be told apart.
+MOST_VALUES = 32767
+# Of more tables, the pairs that may stand together are too many for one document: then each has the tables that it needs.
+MOST_TABLES = 300
+_planners_lock = threading.Lock()
+
+
+class Plan(NamedTuple):
+    """What is known of a shape: its text, and which value each placeholder takes: (the number of a value, the number in a list)."""
+
+    sql: str
+    order: Tuple[Tuple[int, Optional[int]], ...]
+    columns: Tuple[str, ...]
+    safe: bool
+    id: Optional[int]
+
+    def binds(self, values: Values) -> Tuple[Bound, ...]:
+        """The values in the order of their placeholders."""
+        return tuple(values[at] if element is None else Bound(values[at].type, values[at].wire[element]) for at, element in self.order)
+
+
+class Request(NamedTuple):
+    """A query in a dialect, restricted by a guard or not."""
+
+    dialect: str
+    query: Statement[Any]
+    guard: Optional[Guard]
+
+    @property
+    def values(self) -> Values:
+        """The values of the guard, and then those of the query."""
+        return self.query.values if self.guard is None else self.guard.values + self.query.values
+
+    def key(self, with_lengths: bool) -> Tuple[Any, ...]:
+        """What requests of one plan have in common: all but the values, and all but the lengths of lists where those do not matter."""
+        lengths = tuple(value.length for value in self.values if value.is_list) if with_lengths else None
+        return (self.dialect, "" if self.guard is None else self.guard.key, self.query.shape, lengths)
+
+
+Outcome = Union[Plan, HardieflaxError]
+
+
+class Planner:
+    """The plans over one schema by one engine. Threads may share it."""
+
+    def __init__(self, schema: Schema, engine: Engine, capacity: int = 4096) -> None:
+        self.schema, self.engine, self.capacity = schema, engine, capacity
+        self._plans: collections.OrderedDict[Tuple[Any, ...], Outcome] = collections.OrderedDict()
+        self._lock = threading.Lock()
+        self._count = 0
+        self.asked = 0
+
+    def plans(self, requests: Sequence[Request]) -> List[Outcome]:
+        """A plan for each request, or why there is none. What is not known yet is asked for at once."""
+        found = [self._known(each) for each in requests]
+        missing: Dict[Tuple[Any, ...], Request] = {each.key(True): each for each, plan in zip(requests, found) if plan is None}
+        if missing:
+            made = dict(zip(missing, self._made(list(missing.values()))))
+            found = [made[each.key(True)] if plan is None else plan for each, plan in zip(requests, found)]
+        return [each for each in found if each is not None]
+
+    def knows(self, request: Request) -> bool:
+        """Whether the request's plan needs no question."""
+        return self._known(request) is not None
+
+    def _known(self, request: Request) -> Optional[Outcome]:
+        has_lists = any(value.is_list for value in request.values)
+        with self._lock:
+            for with_lengths in (False, True) if has_lists else (True,):
+                key = request.key(with_lengths)
+                found = self._plans.get(key)
+                if found is not None:
+                    self._plans.move_to_end(key)
+                    return found
+        return None
+
+    def _keep(self, request: Request, outcome: Outcome) -> None:
+        has_lists = any(value.is_list for value in request.values)
+        any_length = has_lists and isinstance(outcome, Plan) and outcome.safe
+        with self._lock:
+            self._plans[request.key(not any_length)] = outcome
+            while len(self._plans) > self.capacity:
+                self._plans.popitem(last=False)
+
+    def _made(self, requests: List[Request]) -> List[Outcome]:
+        outcomes: List[Optional[Outcome]] = [None] * len(requests)
+        groups: Dict[Tuple[Any, ...], List[int]] = {}
+        for at, request in enumerate(requests):
+            try:
+                groups.setdefault(self._document_key(request), []).append(at)
+            except HardieflaxError as error:
+                outcomes[at] = error
+        for key, places in groups.items():
+            for at, outcome in zip(places, self._asked([requests[at] for at in places], key[0], key[1])):
+                outcomes[at] = outcome
+                if not isinstance(outcome, EngineError):
+                    self._keep(requests[at], outcome)
+        return [outcome for outcome in outcomes if outcome is not None]
+
+    def _document_key(self, request: Request) -> Tuple[Any, ...]:
+        """What requests of one document have in common: the command, the guarded tables, and the values of the guard."""
+        if len(request.values) > MOST_VALUES:
+            raise SchemaError(f"the query has more than {MOST_VALUES} values: give many values as a list, by in_")
+        tables = tables_of(request.query.json())
+        for each in tables:
+            if each not in self.schema.names:
+                raise SchemaError(f"the query reads {each}, which is not in the schema{near(each, self.schema.names)}")
+        if request.guard is None:
+            return ("build", ())
+        guarded = request.guard.guarded(tables, self.engine)
+        command = request.guard.command(guarded, self.engine)
+        return (command, guarded, request.guard.key, json.dumps([value.wire for value in request.guard.values]))
+
+    def _asked(self, requests: List[Request], command: str, guarded: Tuple[str, ...]) -> Iterator[Outcome]:
+        """Asks for requests of one document."""
+        guard = requests[0].guard
+        asker, trials = _Asker(self, command, guarded, guard), [_Trials(each) for each in requests]
+        of_guard = 0 if guard is None else len(guard.values)
+        values = [[each.values for each in requests]]
+        values += [[trial.values(number) for trial in trials] for number in range(max(each.count for each in trials))]
+        texts = [[(each.dialect, filled(each.query.shape, these[of_guard:])) for each, these in zip(requests, row)] for row in values]
+        if of_guard:
+            told = [asker.ask(row, these[0][:of_guard]) for row, these in zip(texts, values)]
+        else:  # a document has one guard, so only without values of it do all go together
+            together, count = asker.ask([each for row in texts for each in row]), len(requests)
+            told = [together[at:at + count] for at in range(0, len(together), count)]
+        for at, (request, trial) in enumerate(zip(requests, trials)):
+            yield self._outcome(request, trial, [each[at] for each in told], asker)
+
+    def _outcome(self, request: Request, trial: _Trials, told: List[Json], asker: _Asker) -> Outcome:
+        answer = told[0]
+        if isinstance(answer, HardieflaxError):
+            return answer
+        if "refused" in answer:
+            query = request.query.json()
+
+            def ask(queries: Sequence[Json]) -> List[Json]:
+                return asker.ask([(request.dialect, json.dumps(each)) for each in queries])
+
+            return refusal(answer["refused"], why(ask, query, answer["refused"]), query)
+        return self._plan(request, trial, told)
+
+    def _plan(self, request: Request, trial: _Trials, told: List[Json]) -> Outcome:
+        answer = told[0]
+        if any(isinstance(each, HardieflaxError) or each.get("sql") != answer["sql"] for each in told[1:1 + trial.count]):
+            return EngineError(0, detail=f"with other values {answer['sql']} is another text")
+        if answer["id"] is not None:
+            with self._lock:
+                self._count += 1
+        number = None if answer["id"] is None else self._count
+        plan = Plan(answer["sql"], trial.order(told), tuple(answer["columns"]), answer["safe"], number)
+        binds = [[each.type.document_name, list(each.wire) if each.is_list else each.wire] for each in plan.binds(request.values)]
+        expected = [name for output in request.query.outputs for name in output.document_names()]
+        if binds != answer["binds"]:
+            return EngineError(0, detail=f"the values of {answer['sql']} are not where they were found")
+        if list(plan.columns) != expected:
+            return EngineError(0, detail=f"the columns of {answer['sql']} are {list(plan.columns)}, and {expected} were expected")
+        return plan
+
+
+class _Asker:
+    """Asks an engine for queries by one command."""
+
+    def __init__(self, planner: Planner, command: str, guarded: Tuple[str, ...], guard: Optional[Guard]) -> None:
+        self.planner, self.command, self.guarded, self.guard = planner, command, guarded, guard
+
+    def ask(self, queries: Sequence[Tuple[str, str]], values: Optional[Values] = None) -> List[Any]:
+        """The answer to each query, or the error for it. The guard may have other values than its own."""
+        if values is None:
+            values = () if self.guard is None else self.guard.values
+        requests = [f'{{"dialect":"{dialect}","query":{query}}}' for dialect, query in queries]
+        of_guard: Values = values
+        return answers(lambda batch: self._run(batch, of_guard), requests)
+
+    def _run(self, requests: Sequence[str], values: Values) -> bytes:
+        self.planner.asked += 1
+        body = f'"requests":[{",".join(requests)}]'
+        tables = {name for each in requests for name in tables_of(json.loads(each))}
+        engine, schema = self.planner.engine, self.planner.schema
+        is_small = len(schema) <= MOST_TABLES
+        if self.command == "build" and self.guard is None and is_small and isinstance(engine, KeepsSession):
+            return engine.next(schema, schema.document, body)
+        known = tables & schema.names | set(self.guarded)
+        members = {"schema": schema.document(known)}
+        if self.guard is not None:
+            members.update(self.guard.member(self.command, self.guarded, tables, values))
+        return engine.run([self.command], f"{json.dumps(members, ensure_ascii=False)[:-1]},{body}}}".encode())
+
+
+def planner_of(schema: Schema, engine: Engine) -> Planner:
+    """The planner of a schema by an engine: sessions share it."""
+    with _planners_lock:
+        found = schema.planners.get(id(engine))
+        if found is None or found.engine is not engine:
+            found = schema.planners[id(engine)] = Planner(schema, engine)
+        return found
+
+
+class _Trials:
+    """A request with values that tell their places: all but truth values at once, and these by a trial for each bit of a number."""
+
+    def __init__(self, request: Request) -> None:
+        self._bounds = request.values
+        self._is_pg = request.dialect == "Pg"
+        has_bool = any(each.type.base == "Bool" for each in self._bounds)
+        self.count = (max(1, (len(self._bounds) - 1).bit_length()) if has_bool else 1) if self._bounds else 0
+
+    def values(self, number: int) -> Values:
+        """The values of a trial."""
+        return tuple(self._marked(at, each, number) for at, each in enumerate(self._bounds))
+
+    def _marked(self, at: int, bound: Bound, number: int) -> Bound:
+        wire = _MARKS[bound.type.base](at, number)
+        if not bound.is_list:
+            return Bound(bound.type, wire)
+        # An empty list is a value on PostgreSQL, which has to tell its place too.
+        return Bound(bound.type, (wire,) * max(len(bound.wire), int(self._is_pg)), is_list=True)
+
+    def order(self, answers: Sequence[Json]) -> Tuple[Tuple[int, Optional[int]], ...]:
+        """Which value each placeholder takes, by the answers to the request and to the trials."""
+        seen: collections.Counter[int] = collections.Counter()
+        made: List[Tuple[int, Optional[int]]] = []
+        for place in range(len(answers[0]["binds"])):
+            marks = [each["binds"][place] for each in answers[1:1 + self.count]]
+            at, is_whole = _place(marks), isinstance(marks[0][1], list)
+            if is_whole or not self._bounds[at].is_list:
+                made.append((at, None))
+            else:
+                made.append((at, seen[at] % len(self._bounds[at].wire)))
+                seen[at] += 1
+        return tuple(made)
+
+
+_MARKS: Dict[str, Callable[[int, int], Any]] = {
+    "SmallInt": lambda at, number: at, "Integer": lambda at, number: at, "BigInt": lambda at, number: at,
+    "Text": lambda at, number: str(at), "Binary": lambda at, number: f"{at:08x}", "Bool": lambda at, number: bool(at >> number & 1),
+}
+
+
+def _place(marks: Iterable[Json]) -> int:
+    """The number that a placeholder's values in the trials tell."""
+    at = 0
+    for number, (name, value) in enumerate(marks):
+        mark = value[0] if isinstance(value, list) else value
+        if not isinstance(mark, bool):
+            return int(mark, 16 if name.startswith("Binary") else 10) if isinstance(mark, str) else int(mark)
+        at |= mark << number
+    return at
+
+
+__all__ = ["Outcome", "Plan", "Planner", "Refused", "Request", "planner_of", "tables_of"]

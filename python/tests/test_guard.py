@@ -1,0 +1,157 @@
+"""Guarded sessions: what they let through, and that nothing else comes out."""
+from __future__ import annotations
+
+import inspect
+import unittest
+from typing import Any, List, Optional, Sequence
+
+import support
+from support import Comments, Odd, Posts, Users
+from hardieflax import (AsyncSession, BigInt, HardieflaxError, NotShared, NotYetGuarded, Refused, SchemaError, Session, Table, Column,
+                        alias, count,
+                        nullable, query,
+                        value)
+
+
+class TenantEngine:
+    """The program with a command `tenant` that is to come: it keeps what it was asked, and answers by `build`."""
+
+    def __init__(self) -> None:
+        self.documents: List[bytes] = []
+
+    def has(self, command: str) -> bool:
+        return command in ("build", "guard", "tenant")
+
+    def run(self, command: Sequence[str], document: bytes) -> bytes:
+        self.documents.append(document)
+        return support.engine().run(["build" if command[0] == "tenant" else command[0]], document)
+
+
+class Guards(unittest.TestCase):
+    def session(self, connection: Any = None, author: int = 1, **options: Any) -> Session:
+        options = {"guards": {Posts: Posts.author_id == author}, "shared": [Users], "engine": support.engine(), **options}
+        if connection is None:
+            options.setdefault("dialect", "Sqlite")
+        return Session(support.SCHEMA, connection, **options)
+
+    def test_rows_of_a_tenant(self) -> None:
+        for author, wanted in ((1, [1, 2]), (2, [3]), (9, [])):
+            session = self.session(support.blog(), author)
+            self.assertEqual([post.id for post in session.all(query(Posts).order(Posts.id))], wanted)
+            self.assertEqual([user.id for user in session.all(query(Users).order(Users.id))], [1, 2, 3])
+            pairs = session.all(query(Users).left_join(Posts).order(Users.id, Posts.id))
+            self.assertEqual(sorted(p.id for _, p in pairs if p), wanted)
+            self.assertEqual({u.id for u, _ in pairs}, {1, 2, 3})
+        with self.assertRaises(NotShared):
+            self.session(support.blog()).all(query(Comments))
+
+    def test_each_place_is_guarded(self) -> None:
+        session, answers = self.session(), alias(Posts, "answers")
+        made = query(Posts).join(answers, answers.parent_id == Posts.id).filter(Posts.title == "x").limit(5)
+        built = session.build(made)
+        self.assertEqual(built.sql.count("`author_id` = ?"), 2)
+        self.assertEqual(built.values, ["x", 1, 1, 5])
+        both = query(Posts).select(Posts.id).union(query(Posts).select(Posts.author_id))
+        self.assertEqual(session.build(both).values, [1, 1])
+
+    def test_tenants_share_plans(self) -> None:
+        made = query(Posts).filter(Posts.title == "x").limit(7)
+        first = self.session(author=5).build(made)
+        asked = self.session()._planner.asked
+        second = self.session(author=6).build(made)
+        self.assertEqual((first.sql, first.values, second.values), (second.sql, ["x", 5, 7], ["x", 6, 7]))
+        self.assertEqual(self.session()._planner.asked, asked)
+        plain = Session(support.SCHEMA, dialect="Sqlite", engine=support.engine()).build(made)
+        self.assertNotIn("author_id` = ?", plain.sql)
+        self.assertEqual(self.session(author=8).build(made).values, ["x", 8, 7])
+
+    def test_what_is_closed(self) -> None:
+        session = self.session()
+        closed: List[Any] = [
+            query(Comments), query(alias(Comments, "c")), query(Posts).join(Comments), query(Users).left_join(Comments,
+                                                                                                              Comments.user_id == Users.id),
+            query(Users).filter(query(Comments).exists()), query(Users).filter(Users.id.in_(query(Comments).select(Comments.id))),
+            query(Users).select(Users.id).union(query(Comments).select(Comments.id)),
+            query(Users).select(query(Comments).select(Comments.body).single_value()), query(Users).filter(Comments.id == 1),
+        ]
+        for made in closed:
+            with self.subTest(query=repr(made)), self.assertRaises(NotShared):
+                session.build(made)
+
+    def test_what_the_guard_refuses(self) -> None:
+        session = self.session()
+        for made in (query(Posts).count(), query(Users).filter(query(Posts).exists()), query(Posts).group_by(Posts.id).select(count())):
+            with self.assertRaises(Refused) as caught:
+                session.build(made)
+            self.assertEqual(caught.exception.rule, "OutOfKind")
+        with self.assertRaises(Refused) as caught:
+            self.session(guards={Posts: query(Posts).exists()}).build(query(Posts))
+        self.assertEqual(caught.exception.rule, "BadPredicate")
+        for predicate in (query(Users).exists(), Posts.author_id == Users.id):
+            with self.assertRaises(SchemaError):
+                self.session(guards={Posts: predicate})
+
+    def test_several_guarded_tables(self) -> None:
+        session = self.session(guards={Posts: Posts.author_id == 1, Comments: Comments.user_id == 2}, shared=[])
+        self.assertIn("user_id", session.build(query(Comments)).sql)
+        with self.assertRaises(NotYetGuarded) as caught:
+            session.build(query(Posts).join(Comments))
+        self.assertIsInstance(caught.exception, NotImplementedError)
+
+    def test_the_command_tenant(self) -> None:
+        import json
+        engine = TenantEngine()
+        session = Session(support.SCHEMA, dialect="Pg", engine=engine, guards={Posts: Posts.author_id == 1, Comments: Comments.user_id == 2},
+                          shared=[Users, Odd])
+        session.build(query(Posts).join(Comments).join(Users))
+        document = json.loads(engine.documents[0])
+        self.assertEqual(document["tenant"], [
+            {"table": "posts", "predicate": {"eq": [{"col": ["posts", "author_id"]}, {"bind": ["BigInt", 1]}]}},
+            {"table": "comments", "predicate": {"eq": [{"col": ["comments", "user_id"]}, {"bind": ["BigInt", 2]}]}}, {"table": "users"}])
+        self.assertEqual({table["name"] for table in document["schema"]["tables"]}, {"posts", "comments", "users"})
+
+    def test_every_call_that_gives_a_text_is_guarded(self) -> None:
+        """Each public call of a session, asked for the posts, tells those of the tenant, or nothing."""
+        session, posts = self.session(support.blog(), author=2), query(Posts).order(Posts.id)
+        ids = posts.select(Posts.id)
+        calls = {"build": posts, "build_all": [posts], "answer_all": [posts], "all": posts, "rows": posts, "first": posts, "one": posts,
+                 "value": ids, "values": ids}
+        public = {name for name, _ in inspect.getmembers(session, callable) if not name.startswith("_")}
+        self.assertEqual(public, set(calls))
+        for name, argument in calls.items():
+            made = getattr(session, name)(argument)
+            text = repr([each for each in made] if hasattr(made, "__iter__") else made)
+            self.assertTrue("author_id` = ?" in text or "Trees" not in text and "Birds" not in text and text not in ("1", "[1, 2, 3]"),
+                            (name, text))
+
+    def test_a_session_of_asyncio_has_the_same_calls(self) -> None:
+        """Those that its test on PostgreSQL guards; a new one has to be looked at."""
+        public = {name for name in dir(AsyncSession) if not name.startswith("_")}
+        self.assertEqual(public, {name for name in dir(Session) if not name.startswith("_")})
+
+    def test_what_is_no_guard(self) -> None:
+        class Tags(Table, name="tags"):
+            id = Column(BigInt)
+
+        wrong: Optional[Any]
+        for wrong in ({"guards": {Posts: True}}, {"guards": {Tags: Tags.id == 1}}, {"shared": [Tags]}, {"shared": [Posts]}):
+            with self.assertRaises((HardieflaxError, TypeError)):
+                self.session(**wrong)
+        with self.assertRaises(SchemaError):
+            Session(support.SCHEMA, dialect="Pg", shared=[Users], engine=support.engine())
+        with self.assertRaises(NotShared):
+            self.session(guards={}, shared=[]).build(query(Users))
+
+    def test_values_of_the_guard_keep_their_places(self) -> None:
+        for dialect in ("Pg", "Sqlite", "Mysql", "Bracket"):
+            guard = (Posts.author_id.in_([4, 5])) & (Posts.stars == 3) & value(True, support.Bool)
+            session = self.session(guards={Posts: guard}, dialect=dialect)
+            made = query(Users).left_join(Posts).filter(Users.active == False, Users.name.in_(["a"])).limit(9)  # noqa: E712
+            made = made.select(Users.id, nullable(Posts))
+            listed = [[4, 5]] if dialect == "Pg" else [4, 5]
+            names = [["a"]] if dialect == "Pg" else ["a"]
+            self.assertEqual(session.build(made).values, [*listed, 3, True, False, *names, 9], dialect)
+
+
+if __name__ == "__main__":
+    unittest.main()

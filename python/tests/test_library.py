@@ -1,0 +1,207 @@
+"""The library by ctypes, on two stand-ins that are compiled with its header.
+
+One answers with what it was passed, the other by the program.
+"""
+from __future__ import annotations
+
+import atexit
+import copy
+import ctypes
+import ctypes.util
+import gc
+import os
+import pathlib
+import pickle
+import shutil
+import subprocess
+import tempfile
+import threading
+import unittest
+from typing import Any
+
+import support
+from support import Users
+from hardieflax import EngineError, EngineMissing, Library, Program, Refused, Schema, Session, default_engine, query
+from hardieflax import engines
+
+FOLDER = tempfile.TemporaryDirectory(prefix="hardieflax-")
+atexit.register(FOLDER.cleanup)
+
+
+def compiled(source: pathlib.Path) -> str:
+    """The shared library of a C file. A test is skipped where there is no compiler."""
+    compiler = shutil.which("cc") or shutil.which("gcc") or shutil.which("clang")
+    if compiler is None:
+        raise unittest.SkipTest("no C compiler for the library's stand-in")
+    made = os.path.join(FOLDER.name, source.stem + ".so")
+    if not os.path.exists(made):
+        words = ["-std=c99", "-D_POSIX_C_SOURCE=200809L", "-Wall", "-Wextra", "-Werror", "-O1", "-fPIC", "-shared"]
+        words.append(f"-I{support.TOP}/examples/c")
+        subprocess.run([compiler, *words, "-o", made, str(source)], check=True)
+    return made
+
+
+class Calls(unittest.TestCase):
+    """On the stand-in that answers with the call's name and its input."""
+
+    def setUp(self) -> None:
+        self.path = compiled(support.TOP / "tests/wrappers/stand_in.c")
+        self.library = Library(self.path)
+
+    def living(self) -> int:
+        """How many handles own something."""
+        gc.collect()
+        count = ctypes.CDLL(self.path).stand_in_living
+        count.restype = ctypes.c_size_t
+        return int(count())
+
+    def test_each_call_passes_what_it_is_given(self) -> None:
+        text = "é \0 x".encode()
+        for name in ("build", "guard", "open", "next"):
+            self.assertEqual(self.library.run([name], text), name.encode() + b" - " + text)
+        for number, dialect in enumerate(engines.DIALECTS):
+            self.assertEqual(self.library.run(["audit", dialect], text), b"audit %d " % number + text)
+        self.assertEqual([self.library.has(each) for each in ("build", "next", "tenant", "x")], [True, True, False, False])
+
+    def test_a_status_is_an_error(self) -> None:
+        for status, answered in ((2, b""), (3, b""), (7, b""), (5, b"")):
+            with self.assertRaises(EngineError) as caught:
+                self.library.run(["build"], b"status %d" % status)
+            self.assertEqual((caught.exception.status, caught.exception.answered), (status, answered))
+            again = pickle.loads(pickle.dumps(caught.exception))
+            self.assertEqual((again.status, str(again)), (status, str(caught.exception)))
+        with self.assertRaises(EngineError) as caught:
+            self.library.run(["build"], b"deep")
+        self.assertEqual((caught.exception.status, caught.exception.answered), (6, b"build - deep"))
+
+    def test_a_session_is_opened_again_where_it_is_gone(self) -> None:
+        def opened(owner: str, body: str) -> bytes:
+            return self.library.next(owner, lambda: owner, body)
+        self.assertEqual(opened("one", "x"), b'next - {"schema":{"tables":[]},x}')
+        asked = []
+        self.library.next("one", lambda: asked.append(1), "y")
+        self.assertEqual(asked, [])
+        self.library.next("two", lambda: asked.append(1), "y")
+        self.library.close()
+        self.library.next("two", lambda: asked.append(1), "y")
+        self.assertEqual(asked, [1, 1])
+
+    def test_what_is_no_input_is_not_passed(self) -> None:
+        wrong: Any = "text"
+        with self.assertRaises(TypeError):
+            self.library.run(["build"], wrong)
+        with self.assertRaises(ValueError):
+            self.library.run(["read", "Oracle"], b"")
+        with self.assertRaises(EngineError):
+            self.library.run(["tenant"], b"")
+
+    def test_a_handle_is_neither_copied_nor_kept(self) -> None:
+        for made in (copy.copy, copy.deepcopy, pickle.dumps):
+            with self.assertRaises(TypeError):
+                made(self.library)
+        before = self.living()
+        with Library(self.path) as other:
+            other.run(["open"], b"x")
+            self.assertEqual(self.living(), before + 1)
+        self.assertEqual(self.living(), before)
+        other.run(["open"], b"x")
+        del other
+        self.assertEqual(self.living(), before)
+
+    def test_threads_take_turns(self) -> None:
+        wrong = []
+
+        def ask(number: int) -> None:
+            for turn in range(5):
+                text = b"%d %d" % (number, turn)
+                if self.library.run(["build"], b"slow") != b"build - slow" or self.library.run(["build"], text) != b"build - " + text:
+                    wrong.append(text)
+
+        threads = [threading.Thread(target=ask, args=(number,)) for number in range(4)]
+        for thread in threads:
+            thread.start()
+        for thread in threads:
+            thread.join()
+        self.assertEqual(wrong, [])
+
+    def test_a_forked_child_is_told(self) -> None:
+        self.library.run(["open"], b"x")
+        reading, writing = os.pipe()
+        child = os.fork()
+        if child == 0:
+            try:
+                self.library.run(["build"], b"x")
+                os.write(writing, b"ran")
+            except EngineError:
+                os.write(writing, b"refused")
+            finally:
+                os._exit(0)
+        os.waitpid(child, 0)
+        self.assertEqual(os.read(reading, 20), b"refused")
+        os.close(reading)
+        os.close(writing)
+
+
+class Sessions(unittest.TestCase):
+    """On the stand-in that answers by the program."""
+
+    def setUp(self) -> None:
+        os.environ["HARDIEFLAX_STAND_IN"] = support.engine().words[0]
+        self.library = Library(compiled(support.HERE / "library.c"))
+
+    def test_it_answers_as_the_program_does(self) -> None:
+        queries = [query(Users).filter(Users.name == "é\0"), query(Users).limit(1), query(Users).for_update(),
+                   query(Users).filter(Users.id.in_([1]))]
+        by_library = Session(Schema(*support.SCHEMA), dialect="Sqlite", engine=self.library)
+        by_program = Session(Schema(*support.SCHEMA), dialect="Sqlite", engine=support.engine())
+        for mine, theirs in zip(by_library.answer_all(queries), by_program.answer_all(queries)):
+            if isinstance(mine, Refused) or isinstance(theirs, Refused):
+                self.assertEqual(str(mine), str(theirs))
+            else:
+                for member in ("sql", "values", "columns", "safe", "id"):
+                    self.assertEqual(getattr(mine, member), getattr(theirs, member))
+
+    def test_rows_and_guards(self) -> None:
+        session = Session(support.SCHEMA, support.blog(), engine=self.library)
+        self.assertEqual(session.value(query(Users).count()), 3)
+        guarded = Session(support.SCHEMA, support.blog(), engine=self.library, guards={Users: Users.id == 2})
+        self.assertEqual([user.id for user in guarded.all(query(Users))], [2])
+
+
+class Finding(unittest.TestCase):
+    def setUp(self) -> None:
+        self.before = dict(os.environ)
+        engines._default.clear()
+
+    def tearDown(self) -> None:
+        os.environ.clear()
+        os.environ.update(self.before)
+        engines._default.clear()
+
+    def test_what_the_environment_names(self) -> None:
+        os.environ["HARDIEFLAX_PROGRAM"] = support.engine().words[0]
+        os.environ.pop("HARDIEFLAX_LIBRARY", None)
+        found = default_engine()
+        self.assertIsInstance(found, Program)
+        self.assertIs(found, default_engine())
+
+    def test_nothing_is_there(self) -> None:
+        for name in ("HARDIEFLAX_PROGRAM", "HARDIEFLAX_LIBRARY"):
+            os.environ.pop(name, None)
+        os.environ["PATH"] = ""
+        with self.assertRaisesRegex(EngineMissing, "HARDIEFLAX_LIBRARY=PATH"):
+            default_engine()
+
+    def test_what_is_named_is_missing_or_another(self) -> None:
+        another = ctypes.util.find_library("c") or "libc.so.6"
+        for made in (lambda: Library("./no/such.so"), lambda: Library(another), lambda: Program("no-such-program")):
+            with self.assertRaises(EngineMissing):
+                made()
+
+    def test_commands(self) -> None:
+        program = support.engine()
+        self.assertEqual([program.has(each) for each in ("build", "guard", "biuld", "open")], [True, True, False, False])
+
+
+if __name__ == "__main__":
+    unittest.main()
