@@ -80,13 +80,11 @@ else
 fi
 
 if command -v cargo >/dev/null && command -v ar >/dev/null; then
-    # The wrapper links two archives; the stand-in needs nothing of the second.
-    ar rcs "$work/libhardieflax_c.a" "$work/stand_in.o" && ar rcs "$work/liblibc_c.a"
-    HARDIEFLAX_LIB=$work
-    RATTLE_C=$work
+    ar rcs "$work/libhardieflax.a" "$work/stand_in.o"
     CARGO_TARGET_DIR=$work/target
-    export HARDIEFLAX_LIB RATTLE_C CARGO_TARGET_DIR
-    check 'the tests of the Rust wrapper' quiet cargo test --offline --quiet --manifest-path "$top/examples/rust/Cargo.toml" --test stand_in
+    export CARGO_TARGET_DIR
+    check 'the tests of the Rust wrapper' quiet "$top/packaging/cargo.sh" "$work" test --offline --quiet --manifest-path "$top/rust/Cargo.toml" \
+        --test stand_in
 else
     echo 'skipped Rust: no cargo, or no ar'
 fi
