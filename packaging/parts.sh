@@ -165,7 +165,7 @@ make_wheel() {
 # make_crate FOLDER: the Rust crate with the static library
 make_crate() {
     name=hardieflax-$version
-    (cd "$top/rust" && find . -type f ! -path './target/*' ! -path './native/*' ! -name stand_in.rs ! -name Cargo.lock) >"$work/files"
+    (cd "$top/rust" && find . -type f ! -path './target/*' ! -path './native/*' ! -name Cargo.lock) | LC_ALL=C sort >"$work/files"
     while read -r it; do place "$top/rust/$it" "$work/crate/$name/$it"; done <"$work/files"
     # The package's version may say more than the tree's.
     sed -i "s/^version = .*/version = \"$version\"/" "$work/crate/$name/Cargo.toml"
