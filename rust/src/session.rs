@@ -64,7 +64,8 @@ impl Session {
 /// let posts = Table::new("posts").column("id", Type::Integer).column("tenant", Type::Integer);
 /// let query = Query::from("posts").select([col("posts", "id")]);
 /// let answers = guard(&Schema::new([posts]), "posts", &col("posts", "tenant").eq(7), &[(Dialect::Sqlite, &query)])?;
-/// assert_eq!(answers[0].as_ref()?.sql, "SELECT `posts`.`id` FROM `posts` WHERE (`posts`.`tenant` = ?)");
+/// let built = answers[0].as_ref().expect("it breaks no rule");
+/// assert_eq!(built.sql, "SELECT `posts`.`id` FROM `posts` WHERE (`posts`.`tenant` = ?)");
 /// # Ok(())
 /// # }
 /// ```

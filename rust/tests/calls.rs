@@ -7,17 +7,15 @@ use hardieflax::{Dialect, Hardieflax, HardieflaxError};
 
 const USERS: &str = r#"{"tables":[{"name":"users","columns":[{"name":"id","type":"Integer"},{"name":"name","type":"Text"}]}]}"#;
 const NONE: &str = r#"{"tables":[]}"#;
-const BY_ID: &str = r#"{"dialect":"Pg","query":{"from":{"table":"users"},"calls":[["filter",{"eq":[{"col":["users","id"]},{"bind":["Integer",7]}]}]]}}"#;
+const BY_ID: &str =
+    r#"{"dialect":"Pg","query":{"from":{"table":"users"},"calls":[["filter",{"eq":[{"col":["users","id"]},{"bind":["Integer",7]}]}]]}}"#;
 const NAMES: &str = r#"{"dialect":"Pg","query":{"from":{"table":"users"},"calls":[["select",[{"col":["users","name"]}]]]}}"#;
 const BY_ID_LINE: &str = concat!(
     r#"{"binds":[["Integer",7]],"columns":["Integer","Text"],"id":1,"safe":true,"sql":"#,
     r#""SELECT \"users\".\"id\", \"users\".\"name\" FROM \"users\" WHERE (\"users\".\"id\" = $1)"}"#,
     "\n"
 );
-const NAMES_LINE: &str = concat!(
-    r#"{"binds":[],"columns":["Text"],"id":2,"safe":true,"sql":"SELECT \"users\".\"name\" FROM \"users\""}"#,
-    "\n"
-);
+const NAMES_LINE: &str = concat!(r#"{"binds":[],"columns":["Text"],"id":2,"safe":true,"sql":"SELECT \"users\".\"name\" FROM \"users\""}"#, "\n");
 
 fn document(schema: &str, requests: &[&str]) -> Vec<u8> {
     format!(r#"{{"schema":{schema},"requests":[{}]}}"#, requests.join(",")).into_bytes()

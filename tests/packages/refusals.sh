@@ -7,13 +7,13 @@ kit=$work/kit
 
 # The copy: what ./release packs, crates without sources, tests that pass.
 make_copy() {
-    mkdir -p "$copy/crates/sql_tool/src" "$copy/crates/hardieflax_c/src" "$copy/tests/servers"
+    mkdir -p "$copy/crates/sql_low/src" "$copy/crates/sql_tool/src" "$copy/crates/hardieflax_c/src" "$copy/tests/servers"
     for it in .ci .gitignore CHANGELOG.md LICENSE-APACHE LICENSE-MIT README.md VERSION docs examples packaging release rust sql_tool; do
         cp -R "$top/$it" "$copy"
     done
     rm -rf "$copy/.ci/out"
-    printf 'sql_tool: std\nhardieflax_c staticlib: std\n' >"$copy/crates.txt"
-    touch "$copy/crates/sql_tool/src/main.rt" "$copy/crates/hardieflax_c/src/lib.rt"
+    printf 'sql_low: std\nsql_tool: sql_low\nhardieflax_c staticlib: sql_low\n' >"$copy/crates.txt"
+    touch "$copy/crates/sql_low/src/lib.rt" "$copy/crates/sql_tool/src/main.rt" "$copy/crates/hardieflax_c/src/lib.rt"
     printf '#!/bin/sh\n' >"$work/good"
     chmod +x "$work/good"
     for it in calls_test.py calls.py facade.py tool.sh wrappers.sh packages.sh documents.sh schema.sh pages.sh servers/run.py; do
@@ -40,8 +40,11 @@ case $1 in
 version) cat "$kit/version" ;;
 doc) echo "$kit/page.md" ;;
 ci) cat "$kit/says" && [ ! -e "$kit/fails" ] ;;
-run) cp "$kit/program" out/sql_tool ;;
-lib) mkdir -p out && cp "$kit/library" out/libhardieflax_c.a ;;
+run) mkdir -p out && cp "$kit/program" out/sql_tool ;;
+lib)
+    mkdir -p out
+    [ "${PWD##*/}" != hardieflax_c ] || cp "$kit/library" out/libhardieflax_c.a
+    ;;
 esac
 SH2
     chmod +x "$kit/bin/rt"
