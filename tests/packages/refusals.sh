@@ -20,8 +20,8 @@ make_copy() {
         cp "$work/good" "$copy/tests/$it"
     done
     # These two build what a release needs.
-    printf '#!/bin/sh\n./sql_tool generate 0 >/dev/null\n' >"$copy/tests/process.sh"
-    printf '#!/bin/sh\ncd crates/hardieflax_c && rt lib\n' >"$copy/tests/embed.sh"
+    printf '#!/bin/sh\n%s/sql_tool generate 0 >/dev/null\n' "$copy" >"$copy/tests/process.sh"
+    printf '#!/bin/sh\ncd %s/crates/hardieflax_c && rt lib\n' "$copy" >"$copy/tests/embed.sh"
     chmod +x "$copy/tests/process.sh" "$copy/tests/embed.sh"
 }
 
