@@ -56,12 +56,16 @@ place() {
     chmod 644 "$2"
 }
 
-# install_commands PREFIX: the program and what a shell and `man` say of it
-install_commands() {
+# install_program PREFIX: the program, and the script that runs it
+install_program() {
     place "$top/packaging/hardieflax" "$1/bin/hardieflax"
     place "$program" "$1/lib/hardieflax/sql_tool"
     chmod 755 "$1/bin/hardieflax" "$1/lib/hardieflax/sql_tool"
     for it in help commands version; do place "$work/words/$it" "$1/lib/hardieflax/$it"; done
+}
+
+# install_words PREFIX FOLDER: what `man` and shells say of it; FOLDER is where zsh looks
+install_words() {
     place "$work/words/hardieflax.1" "$1/share/man/man1/hardieflax.1"
     place "$work/words/hardieflax.bash" "$1/share/bash-completion/completions/hardieflax"
     place "$work/words/hardieflax.zsh" "$1/share/zsh/$2/_hardieflax"
@@ -98,7 +102,8 @@ packed() {
 # make_tar FOLDER: everything, to be unpacked anywhere
 make_tar() {
     name=hardieflax-$version-x86_64-linux
-    install_commands "$work/tar/$name" site-functions
+    install_program "$work/tar/$name"
+    install_words "$work/tar/$name" site-functions
     # Wherever it is unpacked, the description is two folders below.
     # shellcheck disable=SC2016 # pkg-config's own variable
     install_library "$work/tar/$name" lib '${pcfiledir}/../..'
@@ -111,7 +116,8 @@ make_deb() {
     root=$work/deb
     libraries=lib/x86_64-linux-gnu
     pages=$root/usr/share/doc/hardieflax
-    install_commands "$root/usr" vendor-completions
+    install_program "$root/usr"
+    install_words "$root/usr" vendor-completions
     install_library "$root/usr" $libraries /usr
     install_pages "$pages"
     mv "$pages/CHANGELOG.md" "$pages/changelog"
@@ -155,7 +161,7 @@ TXT
 
 # make_wheel FOLDER: the Python package with the shared library and the program
 make_wheel() {
-    install_commands "$work/wheel" site-functions
+    install_program "$work/wheel"
     place "$work/PROVED.md" "$work/wheel/share/doc/hardieflax/PROVED.md"
     licences "$work/wheel/share/doc/hardieflax/licences"
     python3 "$top/packaging/wheel.py" --version "$version" --tag "py3-none-manylinux_$(echo "$glibc" | tr . _)_x86_64" \

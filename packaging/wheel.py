@@ -3,8 +3,8 @@
 
 wheel.py --version VERSION --tag TAG --library FILE --prefix FOLDER OUT writes OUT/hardieflax-VERSION-TAG.whl
 
-The prefix's folder `bin` becomes the scripts of an environment, and all else goes where the environment has such folders. The same files and
-the same SOURCE_DATE_EPOCH give the same bytes.
+The prefix's folder `bin` becomes the scripts of an environment, and all else goes where the environment has such folders. Where the package
+has a script `hardieflax` of its own, the program's is `sql_tool`. The same files and the same SOURCE_DATE_EPOCH give the same bytes.
 """
 
 from __future__ import annotations
@@ -58,16 +58,14 @@ class ProjectError(Exception):
     """What pyproject.toml says does not fit a wheel that is packed here."""
 
 
-def project() -> dict[str, Any]:
-    """The table `project` of python/pyproject.toml."""
+def project(version: str) -> dict[str, Any]:
+    """The table `project` of python/pyproject.toml. ProjectError: it is of another package or another version."""
     path = TOP / "python/pyproject.toml"
     if not path.exists():
         return ALONE
     table: dict[str, Any] = tomllib.loads(path.read_text(encoding="utf-8"))["project"]
-    if table["name"] != NAME:
-        raise ProjectError(f"the name is {table['name']}")
-    if NAME in table.get("scripts", {}):
-        raise ProjectError(f"a script {NAME} stands in the way of the program, which the wheel has by that name")
+    if (table["name"], table.get("version", version)) != (NAME, version):
+        raise ProjectError(f"{path} is of {table['name']} {table['version']}, and not of {NAME} {version}")
     return table
 
 
@@ -111,6 +109,7 @@ def metadata(table: dict[str, Any], version: str) -> str:
         f"Summary: {table['description']}",
         f"License: {license_of(table)}",
         f"Requires-Python: {table['requires-python']}",
+        *([f"Keywords: {','.join(table['keywords'])}"] if "keywords" in table else []),
         *(f"Classifier: {each}" for each in table.get("classifiers", [])),
         *(f"Project-URL: {label}, {url}" for label, url in table.get("urls", {}).items()),
         *(f"License-File: {each}" for each in ("LICENSE-MIT", "LICENSE-APACHE")),
@@ -129,9 +128,8 @@ def entry_points(table: dict[str, Any]) -> str:
     return "[console_scripts]\n" + "".join(f"{name} = {call}\n" for name, call in sorted(scripts.items())) if scripts else ""
 
 
-def information(version: str, tag: str) -> Iterator[tuple[str, bytes]]:
+def information(table: dict[str, Any], version: str, tag: str) -> Iterator[tuple[str, bytes]]:
     """The files of the folder dist-info but RECORD, by their names there."""
-    table = project()
     yield "METADATA", metadata(table, version).encode()
     yield "WHEEL", f"Wheel-Version: 1.0\nGenerator: {GENERATOR}\nRoot-Is-Purelib: false\nTag: {tag}\n".encode()
     for name in ("LICENSE-MIT", "LICENSE-APACHE"):
@@ -140,13 +138,12 @@ def information(version: str, tag: str) -> Iterator[tuple[str, bytes]]:
         yield "entry_points.txt", points.encode()
 
 
-def installed(prefix: pathlib.Path) -> Iterator[tuple[str, bytes, bool]]:
-    """The files of the prefix: their names in the folder data, their bytes, and whether they are to be run."""
+def installed(prefix: pathlib.Path, script: str) -> Iterator[tuple[str, bytes, bool]]:
+    """The files of the prefix: their names in the folder data, their bytes, and whether they are to be run. The script gets this name."""
     for path in prefix.rglob("*"):
         if path.is_file():
             name = path.relative_to(prefix).as_posix()
-            to = f"scripts/{name.removeprefix('bin/')}" if name.startswith("bin/") else f"data/{name}"
-            yield to, path.read_bytes(), os.access(path, os.X_OK)
+            yield f"scripts/{script}" if name == f"bin/{NAME}" else f"data/{name}", path.read_bytes(), os.access(path, os.X_OK)
 
 
 def record_line(name: str, content: bytes) -> str:
@@ -177,10 +174,12 @@ def main() -> int:
     parser.add_argument("out", type=pathlib.Path)
     given = parser.parse_args()
     base = f"{NAME}-{given.version}"
+    table = project(given.version.partition("+")[0])
+    script = "sql_tool" if NAME in table.get("scripts", {}) else NAME
     files = {name: (content, False) for name, content in package()}
     files[LIBRARY] = (given.library.read_bytes(), False)
-    files.update({f"{base}.dist-info/{name}": (content, False) for name, content in information(given.version, given.tag)})
-    files.update({f"{base}.data/{name}": (content, runs) for name, content, runs in installed(given.prefix)})
+    files.update({f"{base}.dist-info/{name}": (content, False) for name, content in information(table, given.version, given.tag)})
+    files.update({f"{base}.data/{name}": (content, runs) for name, content, runs in installed(given.prefix, script)})
     write(given.out / f"{base}-{given.tag}.whl", files, f"{base}.dist-info/RECORD")
     return 0
 

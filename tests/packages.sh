@@ -60,9 +60,10 @@ make_both() {
     for it in cc ar dpkg-deb gzip nm objdump python3 sha256sum tar; do
         has $it || { echo "skipped all: no $it"; exit 0; }
     done
+    python3 -c 'import tomllib' 2>/dev/null || { echo 'skipped all: python3 is older than 3.11'; exit 0; }
     [ -x "$program" ] || { echo 'packages.sh: the program is not built' >&2; exit 1; }
-    cc -std=c11 -Wall -Wextra -Werror -O1 -fPIC -I"$top/examples/c" -DPROGRAM="\"$program\"" -c -o "$work/library.o" "$top/tests/packages/library.c" &&
-        ar rcsD "$work/libhardieflax_c.a" "$work/library.o" || exit 1
+    set -- -std=c11 -Wall -Wextra -Werror -O1 -fPIC -I"$top/examples/c" -DPROGRAM="\"$program\""
+    cc "$@" -c -o "$work/library.o" "$top/tests/packages/library.c" && ar rcsD "$work/libhardieflax_c.a" "$work/library.o" || exit 1
     check 'the packages are made' make dist || exit
     check 'the packages are made again' make again
     check 'two runs make the same' quiet diff -r "$work/dist" "$work/again"
@@ -87,14 +88,14 @@ one() {
 # is_version COMMAND: it answers --version with this version first
 is_version() { [ "$("$1" --version | head -n 1)" = "hardieflax $version" ]; }
 
-# commands WHERE PREFIX: the command `hardieflax` of this prefix
+# commands WHERE FILE: the script of the program
 commands() {
-    it=$2/bin/hardieflax
+    it=$2
     check "$1: a first answer" builds "$it" build
     check "$1: --version" is_version "$it"
     check "$1: --help" ends 0 "$it" --help
     check "$1: the page of --help" grep -q '^usage: hardieflax COMMAND' "$work/out"
-    check "$1: a word that is no command" says 2 '^usage: hardieflax build$' "$it" biuld
+    check "$1: a word that is no command" says 2 "^usage: ${it##*/} build\$" "$it" biuld
     check "$1: a command without its dialect" says 2 '^Usage$' "$it" read
     check "$1: no document" says 3 '^BadDocument$' "$it" build
     ln -s "$it" "$work/link" && check "$1: by a link" builds "$work/link" build
@@ -158,7 +159,7 @@ links_shared() { objdump -p "$1" | grep -q 'NEEDED *libhardieflax\.so\.[0-9.]*$'
 
 tar_file=$(one '*-x86_64-linux.tar.gz')
 check 'the tar file' quiet tar -xzf "$tar_file" -C "$work" && mv "$work/hardieflax-$version-x86_64-linux" "$work/a folder" && {
-    commands 'tar file' "$work/a folder"
+    commands 'tar file' "$work/a folder/bin/hardieflax"
     told "$work/a folder" site-functions
     check 'what is proved' cmp "$work/a folder/share/doc/hardieflax/PROVED.md" "$dist/PROVED.md"
     mv "$work/a folder" "$work/folder"
@@ -182,7 +183,7 @@ if has dpkg-deb; then
     if check 'the Debian package' quiet dpkg-deb -x "$deb" "$root"; then
         check 'its version' [ "$(dpkg-deb -f "$deb" Version)" = "$version" ]
         check 'its sums' quiet is_whole "$root" "$deb"
-        commands 'Debian package' "$root/usr"
+        commands 'Debian package' "$root/usr/bin/hardieflax"
         if has pkg-config && has cc; then
             PKG_CONFIG_SYSROOT_DIR=$root
             PKG_CONFIG_PATH=$root/usr/lib/x86_64-linux-gnu/pkgconfig
@@ -214,7 +215,10 @@ if [ -n "$python" ]; then
     bin=$work/venv/bin
     if check 'the wheel' quiet "$bin/pip" install --no-index --disable-pip-version-check "$wheel"; then
         check 'its files are those of RECORD' quiet "$bin/pip" check
-        commands wheel "$work/venv"
+        # The package may have a script `hardieflax` of its own.
+        script=$bin/sql_tool
+        [ -e "$script" ] || script=$bin/hardieflax
+        commands wheel "$script"
         check 'Python' builds "$bin/python" "$top/tests/packages/user.py"
         site=$("$bin/python" -c 'import hardieflax, os; print(os.path.dirname(hardieflax.__file__))')
         check 'its library fits its tag' fits_system "$wheel" "$site/libhardieflax.so"
@@ -248,7 +252,10 @@ TXT
         if check 'a program with the crate' quiet cargo build --offline --quiet --manifest-path "$work/user/Cargo.toml"; then
             check 'Rust' builds "$work/target/debug/user"
         fi
-        check 'the examples of its pages' quiet cargo test --doc --offline --quiet --manifest-path "$unpacked/Cargo.toml"
+        for it in '--lib --test requests' --doc; do
+            # shellcheck disable=SC2086 # words
+            check "the crate's tests, $it" quiet cargo test --offline --quiet --manifest-path "$unpacked/Cargo.toml" $it
+        done
     fi
 else
     echo 'skipped the crate: no cargo'
