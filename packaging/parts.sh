@@ -120,7 +120,10 @@ make_deb() {
     install_words "$root/usr" vendor-completions
     install_library "$root/usr" $libraries /usr
     install_pages "$pages"
-    mv "$pages/CHANGELOG.md" "$pages/changelog"
+    {
+        printf 'hardieflax (%s) unstable; urgency=medium\n\n  * CHANGELOG.md says what is new.\n\n' "$version"
+        printf ' -- %s  %s\n' "$MAINTAINER" "$(LC_ALL=C date -u -R -d "@$SOURCE_DATE_EPOCH")"
+    } >"$pages/changelog"
     gzip -n9 "$root/usr/share/man/man1/hardieflax.1" "$pages/changelog"
     {
         printf 'Format: https://www.debian.org/doc/packaging-manuals/copyright-format/1.0/\nUpstream-Name: hardieflax\n\n'
@@ -150,7 +153,6 @@ Installed-Size: $(find "$1/usr" -type f -printf '%s\n' | awk '{ sum += int(($1 +
 Depends: libc6 (>= $glibc)
 Section: database
 Priority: optional
-Multi-Arch: foreign
 Description: $SUMMARY
  The program hardieflax, its library for C and its pages. It writes statements
  for PostgreSQL, MySQL and SQLite, and every function of it is proved:
