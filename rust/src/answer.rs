@@ -114,7 +114,8 @@ mod tests {
     #[test]
     fn lines_are_read() {
         let lines = concat!(
-            r#"{"binds":[["Binary","00ff"],["Text?",null],["Bool",true],["Integer",[1,2]]],"columns":["Text?"],"id":null,"safe":false,"sql":"é"}"#,
+            r#"{"binds":[["Binary","00ff"],["Text?",null],["Bool",true],["Integer",[1,2]]],"#,
+            r#""columns":["Text?"],"id":null,"safe":false,"sql":"é"}"#,
             "\n",
             r#"{"refused":"NotInScope"}"#,
             "\n"
