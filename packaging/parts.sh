@@ -150,7 +150,7 @@ Version: $version
 Architecture: amd64
 Maintainer: $MAINTAINER
 Installed-Size: $(find "$1/usr" -type f -printf '%s\n' | awk '{ sum += int(($1 + 1023) / 1024) } END { print sum }')
-Depends: libc6 (>= $glibc)
+Depends: libc6 (>= $glibc)$(! grep -q 'NEEDED *libgcc_s' "$work/dynamic" || echo ', libgcc-s1')
 Section: database
 Priority: optional
 Description: $SUMMARY

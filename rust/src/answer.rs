@@ -10,7 +10,9 @@ use crate::schema::{ColumnType, Type};
 /// A value beside a text, with its type.
 #[derive(Debug, Clone, PartialEq, Eq, Hash)]
 pub struct Bind {
+    /// Its type.
     pub of: ColumnType,
+    /// The value.
     pub value: Value,
 }
 
@@ -32,6 +34,7 @@ pub struct Built {
 /// A request that is refused: the name of the first rule that it breaks (`docs/RULES.md`).
 #[derive(Debug, Clone, PartialEq, Eq, Hash)]
 pub struct Refusal {
+    /// The name of the rule, as `NotInScope`.
     pub rule: String,
 }
 

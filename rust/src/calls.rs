@@ -9,9 +9,13 @@ use crate::raw;
 #[derive(Debug, Clone, Copy, PartialEq, Eq, Hash)]
 #[repr(u32)]
 pub enum Dialect {
+    /// PostgreSQL
     Pg = 0,
+    /// MySQL and MariaDB
     Mysql = 1,
+    /// SQLite
     Sqlite = 2,
+    /// A dialect of this project's own, like SQL Server's
     Bracket = 3,
 }
 

@@ -10,10 +10,15 @@ use crate::schema::{ColumnType, Type};
 /// A value of SQL.
 #[derive(Debug, Clone, PartialEq, Eq, Hash)]
 pub enum Value {
+    /// NULL, of any type that may be it
     Null,
+    /// A whole number of any of the three sizes
     Number(i64),
+    /// A text
     Text(String),
+    /// Bytes
     Binary(Vec<u8>),
+    /// A truth value
     Bool(bool),
     /// Values that are bound as one, as PostgreSQL binds a list.
     List(Vec<Value>),

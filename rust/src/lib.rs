@@ -32,6 +32,8 @@
 //! are proved; this crate, which is plain Rust round them and has no other dependency, is tested. A call runs on the caller's stack: give a
 //! thread that guards or reads what others send 8 MB.
 
+#![warn(missing_docs)]
+
 mod answer;
 mod calls;
 mod expression;

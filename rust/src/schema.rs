@@ -7,11 +7,17 @@ use crate::json::{texts, List, Text};
 /// A type of SQL.
 #[derive(Debug, Clone, Copy, PartialEq, Eq, Hash)]
 pub enum Type {
+    /// A whole number of 16 bits
     SmallInt,
+    /// A whole number of 32 bits
     Integer,
+    /// A whole number of 64 bits
     BigInt,
+    /// A text
     Text,
+    /// Bytes
     Binary,
+    /// A truth value
     Bool,
 }
 
