@@ -46,6 +46,6 @@ mod session;
 pub use answer::{Answer, Bind, Built, Refusal};
 pub use calls::{version, Dialect, Hardieflax, HardieflaxError, Lines};
 pub use expression::{col, count_star, exists, field, single_value, Bindable, Expr, Value};
-pub use query::{alias, Query, Source};
+pub use query::{alias, only, sampled, Query, Sample, Source};
 pub use schema::{ColumnType, Schema, Table, Type};
 pub use session::{guard, Session};

@@ -15,6 +15,32 @@ impl From<&str> for Source {
     }
 }
 
+/// How PostgreSQL picks the rows of a sample.
+#[derive(Debug, Clone, Copy, PartialEq, Eq, Hash)]
+pub enum Sample {
+    /// Each row for itself
+    Bernoulli,
+    /// Whole blocks of rows
+    System,
+}
+
+/// A table without those that inherit from it, on PostgreSQL.
+#[must_use]
+pub fn only(table: &str) -> Source {
+    Source(format!("{{\"table\":{},\"only\":true}}", Text(table)))
+}
+
+/// A sample of a table's rows, on PostgreSQL: a portion of them in percent, and the seed by which they are picked again.
+#[must_use]
+pub fn sampled(table: &str, sample: Sample, percent: i16, seed: Option<i32>) -> Source {
+    let method = match sample {
+        Sample::Bernoulli => "bernoulli",
+        Sample::System => "system",
+    };
+    let seed = seed.map(|seed| format!(",{seed}")).unwrap_or_default();
+    Source(format!("{{\"table\":{},\"sample\":[\"{method}\",{percent}{seed}]}}", Text(table)))
+}
+
 /// A table under another name.
 #[must_use]
 pub fn alias(alias: &str, table: &str) -> Source {

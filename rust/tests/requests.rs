@@ -1,7 +1,7 @@
 //! Each call that makes a request, over the library: the statement that it is meant to be.
 
 use hardieflax::{alias, col, count_star, exists, field, guard, single_value, Bindable, Dialect, Expr, HardieflaxError, Query, Schema, Session};
-use hardieflax::{Source, Table, Type, Value};
+use hardieflax::{only, sampled, Sample, Source, Table, Type, Value};
 
 fn schema() -> Schema {
     let users = Table::new("users").column("id", Type::Integer).column("name", Type::Text).column_named("born", "date", Type::BigInt.nullable());
@@ -97,6 +97,10 @@ fn joins() {
     assert_eq!(sql_on(Dialect::Pg, &Query::from(users().left_join_on("posts", &on)).select([id()])), left);
     let other = Query::from(alias("u", "users")).select([field("u", "users", "name")]);
     assert_eq!(sql_on(Dialect::Pg, &other), "SELECT u.name FROM users AS u");
+    assert_eq!(sql_on(Dialect::Pg, &Query::from(only("users")).select([id()])), "SELECT users.id FROM  ONLY users");
+    let sample = |sample, seed| sql_on(Dialect::Pg, &Query::from(sampled("users", sample, 10, seed)).select([id()]));
+    assert_eq!(sample(Sample::Bernoulli, None), "SELECT users.id FROM users TABLESAMPLE BERNOULLI($1)");
+    assert_eq!(sample(Sample::System, Some(7)), "SELECT users.id FROM users TABLESAMPLE SYSTEM($1) REPEATABLE($2)");
 }
 
 #[test]
