@@ -174,6 +174,7 @@ def main() -> int:
     parser.add_argument("out", type=pathlib.Path)
     given = parser.parse_args()
     base = f"{NAME}-{given.version}"
+    # What is packed for tests says more.
     table = project(given.version.partition("+")[0])
     script = "sql_tool" if NAME in table.get("scripts", {}) else NAME
     files = {name: (content, False) for name, content in package()}
@@ -185,4 +186,7 @@ def main() -> int:
 
 
 if __name__ == "__main__":
-    sys.exit(main())
+    try:
+        sys.exit(main())
+    except ProjectError as error:
+        sys.exit(f"wheel.py: {error}")
