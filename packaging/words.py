@@ -4,7 +4,7 @@
 words.py VERSION TOOLCHAIN FOLDER < PAGE writes to the folder
 
     help               the page as the installed program has it
-    commands           a line for each command: its name, and D or N where a dialect or a number follows
+    commands           a line for each command: its name, and a letter where a word follows
     version            the answer to --version
     hardieflax.1       the manual page
     hardieflax.bash    the completions of three shells
@@ -56,16 +56,18 @@ class Page:
     notes: str
     statuses: tuple[Entry, ...]
 
+    def words_for(self, operand: str) -> list[str]:
+        """The words that may stand for an operand, which the page has in brackets: "the dialect D (Pg or Mysql)"."""
+        found = re.search(rf"\b{operand}(?: \w+)? \(([^;)]*)", " ".join(entry.text for entry in self.commands)) if operand else None
+        return [word for word in re.findall(r"[A-Za-z]\w*", found[1]) if word not in ("or", "to")] if found else []
+
     @property
-    def dialects(self) -> list[str]:
-        """The words that may stand for D."""
-        found = re.search(r"dialect D \(([^)]*)\)", " ".join(entry.text for entry in self.commands))
-        if found is None:
-            raise PageError("no dialects")
-        return re.findall(r"[A-Z]\w*", found[1])
+    def with_words(self) -> list[tuple[Entry, list[str]]]:
+        """The commands that one of some words follows, with those words."""
+        return [(entry, words) for entry in self.commands if (words := self.words_for(entry.operand))]
 
 
-ENTRY = re.compile(r"^  (\S+)(?: ([A-Z]+(?:\.\.)?))?(?:  +(.*))?$")
+ENTRY = re.compile(r"^  (\S+)(?: ([A-Z]|[A-Z]+\.\.)(?= |$))?(?: +(.*))?$")
 
 
 def entries(block: str) -> list[Entry]:
@@ -183,21 +185,17 @@ def first_words(entry: Entry) -> str:
     return re.split(r"[,:;({]| on standard", entry.text)[0].replace("'", "").strip()
 
 
-def with_dialect(page: Page) -> list[str]:
-    """The commands that a dialect follows."""
-    return [entry.name for entry in page.commands if entry.operand == "D"]
-
-
 def bash(page: Page) -> str:
     """The completion for bash."""
     words = " ".join(entry.name for entry in (*page.commands, *page.options))
+    operands = "\n".join(f"    2,{entry.name}) words='{' '.join(choice)}' ;;" for entry, choice in page.with_words)
     return f"""\
 # shellcheck shell=bash
 _{NAME}() {{
     local words='' word=${{COMP_WORDS[COMP_CWORD]}}
     case $COMP_CWORD,${{COMP_WORDS[1]}} in
     1,*) words='{words}' ;;
-    {" | ".join(f"2,{name}" for name in with_dialect(page))}) words='{" ".join(page.dialects)}' ;;
+{operands}
     esac
     mapfile -t COMPREPLY < <(compgen -W "$words" -- "$word")
 }}
@@ -208,6 +206,7 @@ complete -o bashdefault -o default -F _{NAME} {NAME}
 def zsh(page: Page) -> str:
     """The completion for zsh."""
     words = "\n".join(f"    '{entry.name}:{first_words(entry)}'" for entry in (*page.commands, *page.options))
+    operands = "\n".join(f"3,{entry.name}) compadd {' '.join(choice)} ;;" for entry, choice in page.with_words)
     return f"""\
 #compdef {NAME}
 local -a words_of_{NAME}
@@ -216,7 +215,7 @@ words_of_{NAME}=(
 )
 case $CURRENT,$words[2] in
 2,*) _describe command words_of_{NAME} ;;
-{"|".join(f"3,{name}" for name in with_dialect(page))}) compadd {" ".join(page.dialects)} ;;
+{operands}
 *) _files ;;
 esac
 """
@@ -227,8 +226,8 @@ def fish(page: Page) -> str:
     lines = []
     for entry in (*page.commands, *page.options):
         lines.append(f"complete -c {NAME} -f -n __fish_use_subcommand -a '{entry.name}' -d '{first_words(entry)}'")
-    for name in with_dialect(page):
-        lines.append(f"complete -c {NAME} -f -n '__fish_seen_subcommand_from {name}' -a '{' '.join(page.dialects)}'")
+    for entry, choice in page.with_words:
+        lines.append(f"complete -c {NAME} -f -n '__fish_seen_subcommand_from {entry.name}' -a '{' '.join(choice)}'")
     return "\n".join(lines) + "\n"
 
 
@@ -253,4 +252,7 @@ def main(arguments: list[str]) -> int:
 
 
 if __name__ == "__main__":
-    sys.exit(main(sys.argv[1:]))
+    try:
+        sys.exit(main(sys.argv[1:]))
+    except PageError as error:
+        sys.exit(f"words.py: the page of ./sql_tool --help has another layout: {error}")
