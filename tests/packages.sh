@@ -214,7 +214,7 @@ if [ -n "$python" ]; then
     check 'an environment' quiet "$python" -m venv "$work/venv"
     bin=$work/venv/bin
     if check 'the wheel' quiet "$bin/pip" install --no-index --disable-pip-version-check "$wheel"; then
-        check 'its files are those of RECORD' quiet "$bin/pip" check
+        check 'its files are those of RECORD' quiet "$python" "$top/tests/packages/record.py" "$wheel"
         # The package may have a script `hardieflax` of its own.
         script=$bin/sql_tool
         [ -e "$script" ] || script=$bin/hardieflax
