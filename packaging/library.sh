@@ -38,6 +38,10 @@ for archive in "$@"; do
     archive=$(cd "$(dirname "$archive")" && pwd)/$(basename "$archive")
     mkdir "$work/$number"
     (cd "$work/$number" && ar x "$archive")
+    [ -z "$(ar t "$archive" | sort | uniq -d)" ] || {
+        echo "library.sh: two members of $archive have one name, so one would be lost" >&2
+        exit 1
+    }
     for member in "$work/$number"/*; do
         # Two archives may have members of one name.
         [ ! -e "$member" ] || mv "$member" "$members/$number-${member##*/}"
