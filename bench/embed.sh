@@ -14,15 +14,14 @@ if [ -z "$PROGRAM" ]; then
     "$top/sql_tool" </dev/null >/dev/null 2>&1
     PROGRAM=$top/crates/sql_tool/out/sql_tool
 fi
-cc -O2 -I "$top/examples/c" -o "$work/session" "$top/bench/embed/session.c" "$library" "$heap" || exit 1
+made=$work/library
+shared=$made/libhardieflax.so
+"$top/packaging/library.sh" "$(cat "$top/VERSION")" "$made" "$library" "$heap" || exit 1
+cc -O2 -I "$top/examples/c" -o "$work/session" "$top/bench/embed/session.c" "$made/libhardieflax.a" || exit 1
 rustc -O -o "$work/by_hand" "$top/bench/embed/by_hand.rs" || exit 1
-shared=$work/libhardieflax.so
-cc -shared -o "$shared" -Wl,--whole-archive "$library" -Wl,--no-whole-archive "$heap" || exit 1
-HARDIEFLAX_LIB=$(dirname "$library")
-RATTLE_C=$(dirname "$heap")
 CARGO_TARGET_DIR=$work/target
-export HARDIEFLAX_LIB RATTLE_C CARGO_TARGET_DIR
-(cd "$top/examples/rust" && cargo build --release --offline --quiet --example timed) || exit 1
+export CARGO_TARGET_DIR
+"$top/packaging/cargo.sh" "$made" build --release --offline --quiet --manifest-path "$top/rust/Cargo.toml" --example timed || exit 1
 
 python3 "$top/bench/requests.py" "$count" >"$work/all.json"
 python3 - "$work" <<'END'

@@ -1,5 +1,6 @@
 #!/bin/sh
-# Calls the static library from C, Rust and Python: compares what the examples print with the stored lines, and runs the wrappers' tests.
+# Calls the library from C, Rust and Python, as packaging/library.sh makes it of the two archives: compares what the examples print with the
+# stored lines, and runs the wrappers' tests.
 #   tests/embed.sh             tests the library of crates/hardieflax_c, and ends with 1 where it is not built or a source is newer
 #   tests/embed.sh --build     proves and builds it first where it has to be: about an hour from a clean checkout
 #   LIBRARY=FILE tests/embed.sh      tests this static library
@@ -105,8 +106,12 @@ small() { (ulimit -s 2048 && "$@"); }
 answers() { "$@" >"$work/out" 2>"$work/err" && [ "$(wc -l <"$work/out")" = 1 ] && ! grep -q refused "$work/out"; }
 
 c=$(command -v cc || command -v gcc || command -v clang)
+made=$work/library
+shared=$made/libhardieflax.so
 if [ -n "$c" ]; then
-    if check 'the C example compiles' "$c" -std=c99 -Wall -Wextra -Werror -pedantic -O2 -o "$work/main" "$top/examples/c/main.c" "$library" "$heap"; then
+    check 'the library of the packages' "$top/packaging/library.sh" "$(cat "$top/VERSION")" "$made" "$library" "$heap" || exit
+    set -- -std=c99 -Wall -Wextra -Werror -pedantic -O2
+    if check 'the C example compiles' "$c" "$@" -o "$work/main" "$top/examples/c/main.c" "$made/libhardieflax.a"; then
         for document in "$top"/examples/*.json; do
             case $document in
             */audit.json) continue ;;
@@ -124,25 +129,21 @@ if [ -n "$c" ]; then
     fi
     # So a handle may pass from thread to thread.
     check 'the library keeps nothing by thread' is_without_thread_storage
-    shared=$work/libhardieflax.so
-    check 'the shared library links' "$c" -shared -o "$shared" -Wl,--whole-archive "$library" -Wl,--no-whole-archive "$heap"
 else
     echo 'skipped C and the shared library: no cc'
 fi
 
-if command -v cargo >/dev/null; then
-    HARDIEFLAX_LIB=$(dirname "$library")
-    RATTLE_C=$(dirname "$heap")
+if command -v cargo >/dev/null && [ -e "$shared" ]; then
     CARGO_TARGET_DIR=$work/target
-    export HARDIEFLAX_LIB RATTLE_C CARGO_TARGET_DIR
-    (cd "$top/examples/rust" && cargo test --offline --quiet) >"$work/log" 2>&1
+    export CARGO_TARGET_DIR
+    "$top/packaging/cargo.sh" "$made" test --offline --quiet --manifest-path "$top/rust/Cargo.toml" >"$work/log" 2>&1
     check 'the tests of the Rust wrapper' [ $? = 0 ] || cat "$work/log"
-    rust() { cargo run --offline --quiet --manifest-path "$top/examples/rust/Cargo.toml" -- "$@"; }
+    rust() { "$top/packaging/cargo.sh" "$made" run --offline --quiet --manifest-path "$top/rust/Cargo.toml" --example session -- "$@"; }
     check 'Rust, a session' prints "$work/twice" rust "$top/examples/filter.json" "$again"
     check 'Rust, no document' ends 3 rust "$work/bad.json"
     check 'Rust, the lines before a deeper request' stops "$work/around.jsonl" 6 rust "$work/around.json"
 else
-    echo 'skipped Rust: no cargo'
+    echo 'skipped Rust: no cargo, or no library'
 fi
 
 if command -v python3 >/dev/null && [ -e "$shared" ]; then

@@ -31,6 +31,18 @@ ends() {
     return 1
 }
 
+# stops STATUS TEXT COMMAND..: the command ends with this status and prints the text
+stops() {
+    wanted=$1
+    text=$2
+    shift 2
+    out=$("$@" 2>"$work/log")
+    got=$?
+    [ "$got" = "$wanted" ] && [ "$out" = "$text" ] && return
+    echo "status $got, $out"
+    return 1
+}
+
 c=$(command -v cc || command -v gcc || command -v clang) || { echo 'skipped all: no C compiler'; exit 0; }
 cat >"$work/flags" <<'TXT'
 -std=c99 -D_POSIX_C_SOURCE=199309L -Wall -Wextra -Werror -pedantic -O1 -fPIC
@@ -80,13 +92,19 @@ else
 fi
 
 if command -v cargo >/dev/null && command -v ar >/dev/null; then
-    # The wrapper links two archives; the stand-in needs nothing of the second.
-    ar rcs "$work/libhardieflax_c.a" "$work/stand_in.o" && ar rcs "$work/liblibc_c.a"
-    HARDIEFLAX_LIB=$work
-    RATTLE_C=$work
+    ar rcs "$work/libhardieflax.a" "$work/stand_in.o"
     CARGO_TARGET_DIR=$work/target
-    export HARDIEFLAX_LIB RATTLE_C CARGO_TARGET_DIR
-    check 'the tests of the Rust wrapper' quiet cargo test --offline --quiet --manifest-path "$top/examples/rust/Cargo.toml" --test stand_in
+    export CARGO_TARGET_DIR
+    rust() {
+        word=$1
+        shift
+        RUSTFLAGS='--cfg hardieflax_stand_in' "$top/packaging/cargo.sh" "$work" "$word" --offline --quiet --manifest-path "$top/rust/Cargo.toml" "$@"
+    }
+    check 'the tests of the Rust wrapper' quiet rust test --lib --test stand_in
+    session() { rust run --example session -- "$work/first" "$@"; }
+    check 'Rust, a session' prints 'open - firstnext - secondnext - third' session second third
+    check 'Rust, the lines before a status' stops 6 'open - firstnext - secondnext - deep' session second deep third
+    check 'Rust, a status' ends 3 rust run --example session -- "$work/bad"
 else
     echo 'skipped Rust: no cargo, or no ar'
 fi

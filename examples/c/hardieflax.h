@@ -1,8 +1,9 @@
 /*
  * hardieflax.h: the commands of the program, over bytes in memory.
  *
- * Link libhardieflax_c.a and liblibc_c.a (docs/EMBEDDING.md). This header is written by hand, and nothing checks it against the library.
- * tests/wrappers.sh tries the wrappers in Rust and Python on a stand-in that is compiled with it.
+ * Link libhardieflax (docs/EMBEDDING.md). This header is written by hand, and nothing checks it against the library but that the names of
+ * its calls are those that the shared library exports (packaging/library.sh). tests/wrappers.sh tries the wrappers in Rust and Python on a
+ * stand-in that is compiled with it.
  *
  * A handle holds the answer of the last call, and at most one session. It begins as HARDIEFLAX_INIT, which owns nothing:
  *
@@ -98,6 +99,9 @@ uint32_t hardieflax_next(hardieflax *handle, const uint8_t *document, size_t len
 
 /* Frees what the handle owns, which then owns nothing and may be used again. On a handle that owns nothing it does nothing. */
 void hardieflax_free(hardieflax *handle);
+
+/* The version of the library, as "0.1.0": a text that stays. CONTRIBUTING.md says what may change from one version to another. */
+const char *hardieflax_version(void);
 
 #ifdef __cplusplus
 }

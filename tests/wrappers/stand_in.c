@@ -134,6 +134,8 @@ uint32_t hardieflax_next(hardieflax *handle, const uint8_t *document, size_t len
     return answer(handle, "next", -1, document, length);
 }
 
+const char *hardieflax_version(void) { return "stand-in"; }
+
 void hardieflax_free(hardieflax *handle) {
     struct owned *owned;
     if (handle->owned == NULL)

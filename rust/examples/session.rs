@@ -5,14 +5,14 @@ use std::io::Write;
 use std::process::ExitCode;
 use std::{env, error::Error, fs, io};
 
-use hardieflax::Hardieflax;
+use hardieflax::{Hardieflax, HardieflaxError};
 
 fn main() -> ExitCode {
     let Err(error) = run() else {
         return ExitCode::SUCCESS;
     };
     eprintln!("{error}");
-    let Some(error) = error.downcast_ref::<hardieflax::Error>() else {
+    let Some(error) = error.downcast_ref::<HardieflaxError>() else {
         return ExitCode::FAILURE;
     };
     print!("{}", error.answered());
@@ -21,7 +21,7 @@ fn main() -> ExitCode {
 
 fn run() -> Result<(), Box<dyn Error>> {
     let mut arguments = env::args().skip(1);
-    let path = arguments.next().ok_or("usage: main FILE [DOCUMENT..]")?;
+    let path = arguments.next().ok_or("usage: session FILE [DOCUMENT..]")?;
     let mut session = Hardieflax::new();
     let mut output = io::stdout();
     output.write_all(session.open(&fs::read(path)?)?.as_bytes())?;

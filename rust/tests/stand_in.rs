@@ -1,9 +1,10 @@
 //! The wrapper on the stand-in for the library (`tests/wrappers/stand_in.c`), which answers with what it was passed.
+#![cfg(hardieflax_stand_in)]
 
-use std::process::Command;
 use std::sync::{Mutex, MutexGuard, PoisonError};
+use std::thread;
 
-use hardieflax::{Dialect, Error, Hardieflax};
+use hardieflax::{Dialect, Hardieflax, HardieflaxError};
 
 extern "C" {
     fn stand_in_living() -> usize;
@@ -37,13 +38,13 @@ fn each_call_passes_what_it_is_given() {
 fn a_status_is_an_error() {
     let _one = one();
     let mut handle = Hardieflax::new();
-    let none = Error::NoMemory { answered: String::new() };
-    for error in [Error::NoSession, Error::BadDocument, none, Error::TooLarge, Error::Unknown(5)] {
+    let none = HardieflaxError::NoMemory { answered: String::new() };
+    for error in [HardieflaxError::NoSession, HardieflaxError::BadDocument, none, HardieflaxError::TooLarge, HardieflaxError::Unknown(5)] {
         let input = format!("status {}", error.status());
         assert_eq!(error.answered(), "");
         assert_eq!(handle.build(input.as_bytes()), Err(error));
     }
-    assert_eq!(handle.next(b"x"), Err(Error::NoSession));
+    assert_eq!(handle.next(b"x"), Err(HardieflaxError::NoSession));
     assert_eq!(handle.build(b"x"), Ok("build - x"));
 }
 
@@ -51,13 +52,13 @@ fn a_status_is_an_error() {
 fn an_error_has_the_lines_before() {
     let _one = one();
     let mut handle = Hardieflax::new();
-    let deep = |call: &str| Err(Error::NoMemory { answered: format!("{call} - deep") });
+    let deep = |call: &str| Err(HardieflaxError::NoMemory { answered: format!("{call} - deep") });
     assert_eq!(handle.build(b"deep"), deep("build"));
     assert_eq!(handle.open(b"deep"), deep("open"));
     assert_eq!(handle.next(b"deep"), deep("next"));
     assert_eq!(handle.next(b"y"), Ok("next - y"));
     assert_eq!(handle.next(b"status 6").map_err(|error| error.status()), Err(6));
-    assert_eq!(handle.next(b"y"), Err(Error::NoSession));
+    assert_eq!(handle.next(b"y"), Err(HardieflaxError::NoSession));
 }
 
 #[test]
@@ -75,14 +76,20 @@ fn a_dropped_handle_is_freed() {
 }
 
 #[test]
-fn the_program_ends_with_the_status() {
-    let folder = std::env::temp_dir().join(format!("hardieflax-stand-in-{}", std::process::id()));
-    std::fs::write(&folder, b"x").expect("a file is written");
-    let run = |words: &[&str]| Command::new(env!("CARGO_BIN_EXE_hardieflax")).arg(&folder).args(words).output().expect("it runs");
-    let good = run(&["y", "z"]);
-    assert_eq!((good.status.code(), good.stdout.as_slice()), (Some(0), b"open - xnext - ynext - z".as_slice()));
-    assert_eq!(run(&["status 7"]).status.code(), Some(7));
-    let deep = run(&["y", "deep", "z"]);
-    assert_eq!((deep.status.code(), deep.stdout.as_slice()), (Some(6), b"open - xnext - ynext - deep".as_slice()));
-    std::fs::remove_file(&folder).expect("a file is removed");
+fn a_handle_moves_to_another_thread() {
+    let _one = one();
+    let mut handle = Hardieflax::new();
+    assert_eq!(handle.open(b"x"), Ok("open - x"));
+    let mut handle = thread::spawn(move || {
+        assert_eq!(handle.next(b"y"), Ok("next - y"));
+        handle
+    })
+    .join()
+    .expect("the thread ends");
+    assert_eq!(handle.next(b"z"), Ok("next - z"));
+}
+
+#[test]
+fn the_version_is_a_text() {
+    assert_eq!(hardieflax::version(), "stand-in");
 }

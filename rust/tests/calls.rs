@@ -1,20 +1,21 @@
 //! The wrapper's calls, and what it answers where there is nothing to answer.
 
-use hardieflax::{Dialect, Error, Hardieflax};
+use std::sync::Mutex;
+use std::thread;
+
+use hardieflax::{Dialect, Hardieflax, HardieflaxError};
 
 const USERS: &str = r#"{"tables":[{"name":"users","columns":[{"name":"id","type":"Integer"},{"name":"name","type":"Text"}]}]}"#;
 const NONE: &str = r#"{"tables":[]}"#;
-const BY_ID: &str = r#"{"dialect":"Pg","query":{"from":{"table":"users"},"calls":[["filter",{"eq":[{"col":["users","id"]},{"bind":["Integer",7]}]}]]}}"#;
+const BY_ID: &str =
+    r#"{"dialect":"Pg","query":{"from":{"table":"users"},"calls":[["filter",{"eq":[{"col":["users","id"]},{"bind":["Integer",7]}]}]]}}"#;
 const NAMES: &str = r#"{"dialect":"Pg","query":{"from":{"table":"users"},"calls":[["select",[{"col":["users","name"]}]]]}}"#;
 const BY_ID_LINE: &str = concat!(
     r#"{"binds":[["Integer",7]],"columns":["Integer","Text"],"id":1,"safe":true,"sql":"#,
     r#""SELECT \"users\".\"id\", \"users\".\"name\" FROM \"users\" WHERE (\"users\".\"id\" = $1)"}"#,
     "\n"
 );
-const NAMES_LINE: &str = concat!(
-    r#"{"binds":[],"columns":["Text"],"id":2,"safe":true,"sql":"SELECT \"users\".\"name\" FROM \"users\""}"#,
-    "\n"
-);
+const NAMES_LINE: &str = concat!(r#"{"binds":[],"columns":["Text"],"id":2,"safe":true,"sql":"SELECT \"users\".\"name\" FROM \"users\""}"#, "\n");
 
 fn document(schema: &str, requests: &[&str]) -> Vec<u8> {
     format!(r#"{{"schema":{schema},"requests":[{}]}}"#, requests.join(",")).into_bytes()
@@ -43,7 +44,7 @@ fn a_session_outlives_other_calls() {
     let mut session = Hardieflax::new();
     assert_eq!(session.open(&document(USERS, &[BY_ID])), Ok(BY_ID_LINE));
     assert_eq!(session.build(&document(NONE, &[])), Ok(""));
-    assert_eq!(session.build(b"no document"), Err(Error::BadDocument));
+    assert_eq!(session.build(b"no document"), Err(HardieflaxError::BadDocument));
     assert_eq!(session.next(&document(NONE, &[NAMES])), Ok(NAMES_LINE));
 }
 
@@ -51,18 +52,18 @@ fn a_session_outlives_other_calls() {
 fn bad_requests_leave_the_session() {
     let large = vec![b' '; 16_777_217];
     let mut session = Hardieflax::new();
-    assert_eq!(session.next(&document(NONE, &[])), Err(Error::NoSession));
-    assert_eq!(session.open(b"{}"), Err(Error::BadDocument));
-    assert_eq!(session.next(&document(NONE, &[])), Err(Error::NoSession));
+    assert_eq!(session.next(&document(NONE, &[])), Err(HardieflaxError::NoSession));
+    assert_eq!(session.open(b"{}"), Err(HardieflaxError::BadDocument));
+    assert_eq!(session.next(&document(NONE, &[])), Err(HardieflaxError::NoSession));
     assert_eq!(session.open(&document(USERS, &[])), Ok(""));
-    assert_eq!(session.next(b""), Err(Error::BadDocument));
-    assert_eq!(session.next(&document(USERS, &[])), Err(Error::BadDocument));
+    assert_eq!(session.next(b""), Err(HardieflaxError::BadDocument));
+    assert_eq!(session.next(&document(USERS, &[])), Err(HardieflaxError::BadDocument));
     assert_eq!(session.next(&document(NONE, &[BY_ID])), Ok(BY_ID_LINE));
-    assert_eq!(session.next(&large), Err(Error::TooLarge));
-    assert_eq!(session.build(&large), Err(Error::TooLarge));
+    assert_eq!(session.next(&large), Err(HardieflaxError::TooLarge));
+    assert_eq!(session.build(&large), Err(HardieflaxError::TooLarge));
     assert_eq!(session.next(&document(NONE, &[NAMES])), Ok(NAMES_LINE));
-    assert_eq!(session.open(b"{}"), Err(Error::BadDocument));
-    assert_eq!(session.next(&document(NONE, &[])), Err(Error::NoSession));
+    assert_eq!(session.open(b"{}"), Err(HardieflaxError::BadDocument));
+    assert_eq!(session.next(&document(NONE, &[])), Err(HardieflaxError::NoSession));
 }
 
 /// A request whose statement nests deeper than 2,500 levels.
@@ -75,7 +76,7 @@ fn deep() -> String {
 fn a_session_outlives_a_deep_request() {
     let deep = deep();
     let mut session = Hardieflax::new();
-    let cut = |answered: &str| Err(Error::NoMemory { answered: answered.to_owned() });
+    let cut = |answered: &str| Err(HardieflaxError::NoMemory { answered: answered.to_owned() });
     assert_eq!(session.open(&document(USERS, &[BY_ID, &deep, NAMES])), cut(BY_ID_LINE));
     assert_eq!(session.next(&document(NONE, &[&deep])), cut(""));
     let both = format!("{NAMES_LINE}{BY_ID_LINE}");
@@ -88,6 +89,23 @@ fn a_session_outlives_a_deep_request() {
 fn texts_are_read_and_audited() {
     let mut handle = Hardieflax::new();
     assert_eq!(handle.read(Dialect::Pg, b"SELECT"), Ok("{\"refused\":\"NotInGrammar\"}\n"));
-    assert_eq!(handle.read(Dialect::Sqlite, b"\xff"), Err(Error::BadDocument));
-    assert_eq!(handle.audit(Dialect::Pg, b"[]"), Err(Error::BadDocument));
+    assert_eq!(handle.read(Dialect::Sqlite, b"\xff"), Err(HardieflaxError::BadDocument));
+    assert_eq!(handle.audit(Dialect::Pg, b"[]"), Err(HardieflaxError::BadDocument));
+}
+
+#[test]
+fn threads_have_handles_of_their_own_or_take_turns() {
+    let document = document(USERS, &[BY_ID]);
+    let shared = Mutex::new(Hardieflax::new());
+    thread::scope(|scope| {
+        for _ in 0..4 {
+            scope.spawn(|| {
+                let mut own = Hardieflax::new();
+                for _ in 0..20 {
+                    assert_eq!(own.build(&document), Ok(BY_ID_LINE));
+                    assert_eq!(shared.lock().expect("no thread panics").build(&document), Ok(BY_ID_LINE));
+                }
+            });
+        }
+    });
 }

@@ -1,0 +1,69 @@
+#!/bin/sh
+# Makes the library of the packages, libhardieflax, static and shared, in a folder: library.sh VERSION FOLDER ARCHIVE..
+# The archives are that of crates/hardieflax_c and the kit's liblibc_c.a, by which it allocates (docs/EMBEDDING.md). Beside what these have,
+# the library has its version. The shared one exports the calls of the header and nothing else. One set of archives gives the same bytes.
+set -e
+[ $# -ge 3 ] || {
+    echo 'usage: library.sh VERSION FOLDER ARCHIVE..' >&2
+    exit 2
+}
+top=$(cd "$(dirname "$0")/.." && pwd)
+header=$top/examples/c/hardieflax.h
+version=$1
+folder=$2
+shift 2
+c=$(command -v cc || command -v gcc || command -v clang) || {
+    echo 'library.sh: no C compiler' >&2
+    exit 1
+}
+work=$(mktemp -d)
+trap 'rm -rf "$work"' EXIT
+members=$work/members
+mkdir -p "$folder" "$members"
+
+# What may break its callers has another name: the major version, and while that is 0 the minor one too (CONTRIBUTING.md, "Versions").
+abi_of() {
+    case $1 in
+    0.*) echo "$1" | cut -d. -f1,2 ;;
+    *) echo "$1" | cut -d. -f1 ;;
+    esac
+}
+abi=$(abi_of "$version")
+
+"$c" -O2 -fPIC -I"$top/examples/c" -DHARDIEFLAX_VERSION="\"$version\"" -c -o "$members/version.o" "$top/packaging/version.c"
+number=0
+for archive in "$@"; do
+    number=$((number + 1))
+    # A path from here would be none from there.
+    archive=$(cd "$(dirname "$archive")" && pwd)/$(basename "$archive")
+    mkdir "$work/$number"
+    (cd "$work/$number" && ar x "$archive")
+    [ -z "$(ar t "$archive" | sort | uniq -d)" ] || {
+        echo "library.sh: two members of $archive have one name, so one would be lost" >&2
+        exit 1
+    }
+    for member in "$work/$number"/*; do
+        # Two archives may have members of one name.
+        [ ! -e "$member" ] || mv "$member" "$members/$number-${member##*/}"
+    done
+done
+rm -f "$folder/libhardieflax.a"
+ar rcsD "$folder/libhardieflax.a" "$members"/*
+
+# The calls, as the header declares them.
+calls=$(sed -n 's/^[a-z].*[ *]\(hardieflax_[a-z]*\)(.*;$/\1/p' "$header" | sort)
+{
+    echo '{ global:'
+    # shellcheck disable=SC2086 # a word for each call
+    printf '%s;\n' $calls
+    echo 'local: *; };'
+} >"$work/exports"
+"$c" -shared -o "$folder/libhardieflax.so.$version" -Wl,-soname,"libhardieflax.so.$abi" -Wl,--version-script="$work/exports" \
+    -Wl,--whole-archive "$folder/libhardieflax.a" -Wl,--no-whole-archive -Wl,-z,defs -Wl,-z,relro -Wl,-z,now -Wl,-s
+ln -sf "libhardieflax.so.$version" "$folder/libhardieflax.so.$abi"
+ln -sf "libhardieflax.so.$abi" "$folder/libhardieflax.so"
+exported=$(nm -D --defined-only "$folder/libhardieflax.so" | cut -d' ' -f3 | sort)
+[ "$exported" = "$calls" ] || {
+    printf 'library.sh: the header declares\n%s\nand the library exports\n%s\n' "$calls" "$exported" >&2
+    exit 1
+}
