@@ -7,7 +7,7 @@ kit=$work/kit
 
 # The copy: what ./release packs, crates without sources, tests that pass.
 make_copy() {
-    mkdir -p "$copy/crates/sql_low/src" "$copy/crates/sql_tool/src" "$copy/crates/hardieflax_c/src" "$copy/tests/servers"
+    mkdir -p "$copy/crates/sql_low/src" "$copy/crates/sql_tool/src" "$copy/crates/hardieflax_c/src" "$copy/tests"
     for it in .ci .gitignore CHANGELOG.md LICENSE-APACHE LICENSE-MIT README.md VERSION docs examples packaging release rust sql_tool; do
         cp -R "$top/$it" "$copy"
     done
@@ -16,8 +16,11 @@ make_copy() {
     touch "$copy/crates/sql_low/src/lib.rt" "$copy/crates/sql_tool/src/main.rt" "$copy/crates/hardieflax_c/src/lib.rt"
     printf '#!/bin/sh\n' >"$work/good"
     chmod +x "$work/good"
-    for it in calls_test.py calls.py facade.py tool.sh wrappers.sh packages.sh documents.sh schema.sh pages.sh servers/run.py; do
-        cp "$work/good" "$copy/tests/$it"
+    # Each script that .ci/run names passes.
+    # shellcheck disable=SC2013 # names
+    for it in $(grep -o 'tests/[a-z_/]*\.[a-z]*' "$top/.ci/run"); do
+        mkdir -p "$copy/$(dirname "$it")"
+        cp "$work/good" "$copy/$it"
     done
     # These two build what a release needs.
     printf '#!/bin/sh\n%s/sql_tool generate 0 >/dev/null\n' "$copy" >"$copy/tests/process.sh"
