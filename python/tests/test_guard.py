@@ -7,7 +7,7 @@ from typing import Any, List, Optional, Sequence
 
 import support
 from support import Comments, Odd, Posts, Users
-from hardieflax import (AsyncSession, BigInt, HardieflaxError, NotShared, NotYetGuarded, Refused, SchemaError, Session, Table, Column,
+from hardieflax import (AsyncSession, BigInt, HardieflaxError, NotShared, NotYetGuarded, Refused, Schema, SchemaError, Session, Table, Column,
                         alias, count,
                         nullable, query,
                         value)
@@ -141,6 +141,20 @@ class Guards(unittest.TestCase):
             Session(support.SCHEMA, dialect="Pg", shared=[Users], engine=support.engine())
         with self.assertRaises(NotShared):
             self.session(guards={}, shared=[]).build(query(Users))
+
+    def test_a_guarded_table_by_another_name(self) -> None:
+        def table(name: str, **options: str) -> Any:
+            return type(name, (Table,), {"id": Column(BigInt)}, name=name, **options)
+        guarded = table("posts", schema="main")
+        for other, is_one in ((table("p", sql_name="Posts"), True), (table("p", sql_name="posts", schema="MAIN"), True),
+                              (table("p", sql_name="posts", schema="other"), False), (table("p"), False)):
+            def made(other: Any = other) -> Session:
+                return Session(Schema(guarded, other), dialect="Pg", engine=support.engine(), guards={guarded: guarded.id == 1}, shared=[other])
+            if is_one:
+                with self.assertRaisesRegex(SchemaError, "by another name"):
+                    made()
+            else:
+                made()
 
     def test_values_of_the_guard_keep_their_places(self) -> None:
         for dialect in ("Pg", "Sqlite", "Mysql", "Bracket"):
