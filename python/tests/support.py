@@ -111,7 +111,8 @@ def fill(connection: Any, dialect: str) -> None:
 
 def blog() -> sqlite3.Connection:
     """The blog in SQLite."""
-    connection = sqlite3.connect(":memory:")
+    connection = sqlite3.connect(":memory:", check_same_thread=False)
+    atexit.register(connection.close)
     fill(connection, "Sqlite")
     return connection
 

@@ -98,7 +98,8 @@ class Commands(unittest.TestCase):
 
     def test_schema_and_check(self) -> None:
         database = str(self.path / "blog.db")
-        for words, name in ((["--python"], "tables.py"), ([], "tables.json")):
+        kinds: List[Tuple[List[str], str]] = [(["--python"], "tables.py"), ([], "tables.json")]
+        for words, name in kinds:
             status, text, error = self.run_command("schema", database, *words)
             self.assertEqual(status, 0)
             self.assertIn("dated.place: geometry has no counterpart, left out", error)

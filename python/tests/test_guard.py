@@ -3,14 +3,12 @@ from __future__ import annotations
 
 import inspect
 import unittest
-from typing import Any, List, Optional, Sequence
+from typing import Any, List, Sequence
 
 import support
 from support import Comments, Odd, Posts, Users
-from hardieflax import (AsyncSession, BigInt, HardieflaxError, NotShared, NotYetGuarded, Refused, SchemaError, Session, Table, Column,
-                        alias, count,
-                        nullable, query,
-                        value)
+from hardieflax import (AsyncSession, BigInt, Bool, HardieflaxError, NotShared, NotYetGuarded, Refused, Schema, SchemaError, Session, Table,
+                        Column, alias, count, nullable, query, value)
 
 
 class TenantEngine:
@@ -133,7 +131,7 @@ class Guards(unittest.TestCase):
         class Tags(Table, name="tags"):
             id = Column(BigInt)
 
-        wrong: Optional[Any]
+        wrong: Any
         for wrong in ({"guards": {Posts: True}}, {"guards": {Tags: Tags.id == 1}}, {"shared": [Tags]}, {"shared": [Posts]}):
             with self.assertRaises((HardieflaxError, TypeError)):
                 self.session(**wrong)
@@ -142,14 +140,28 @@ class Guards(unittest.TestCase):
         with self.assertRaises(NotShared):
             self.session(guards={}, shared=[]).build(query(Users))
 
+    def test_a_guarded_table_by_another_name(self) -> None:
+        def table(name: str, **options: str) -> Any:
+            return type(name, (Table,), {"id": Column(BigInt)}, name=name, **options)
+        guarded = table("posts", schema="main")
+        for other, is_one in ((table("p", sql_name="Posts"), True), (table("p", sql_name="posts", schema="MAIN"), True),
+                              (table("p", sql_name="posts", schema="other"), False), (table("p"), False)):
+            def made(other: Any = other) -> Session:
+                return Session(Schema(guarded, other), dialect="Pg", engine=support.engine(), guards={guarded: guarded.id == 1}, shared=[other])
+            if is_one:
+                with self.assertRaisesRegex(SchemaError, "by another name"):
+                    made()
+            else:
+                made()
+
     def test_values_of_the_guard_keep_their_places(self) -> None:
         for dialect in ("Pg", "Sqlite", "Mysql", "Bracket"):
-            guard = (Posts.author_id.in_([4, 5])) & (Posts.stars == 3) & value(True, support.Bool)
+            guard = (Posts.author_id.in_([4, 5])) & (Posts.stars == 3) & value(True, Bool)
             session = self.session(guards={Posts: guard}, dialect=dialect)
-            made = query(Users).left_join(Posts).filter(Users.active == False, Users.name.in_(["a"])).limit(9)  # noqa: E712
-            made = made.select(Users.id, nullable(Posts))
-            listed = [[4, 5]] if dialect == "Pg" else [4, 5]
-            names = [["a"]] if dialect == "Pg" else ["a"]
+            made = query(Users).left_join(Posts).select(Users.id, nullable(Posts))
+            made = made.filter(Users.active == False, Users.name.in_(["a"])).limit(9)  # noqa: E712
+            listed: List[Any] = [[4, 5]] if dialect == "Pg" else [4, 5]
+            names: List[Any] = [["a"]] if dialect == "Pg" else ["a"]
             self.assertEqual(session.build(made).values, [*listed, 3, True, False, *names, 9], dialect)
 
 

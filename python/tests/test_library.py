@@ -96,6 +96,7 @@ class Calls(unittest.TestCase):
             self.library.run(["tenant"], b"")
 
     def test_a_handle_is_neither_copied_nor_kept(self) -> None:
+        made: Any
         for made in (copy.copy, copy.deepcopy, pickle.dumps):
             with self.assertRaises(TypeError):
                 made(self.library)
@@ -194,6 +195,7 @@ class Finding(unittest.TestCase):
 
     def test_what_is_named_is_missing_or_another(self) -> None:
         another = ctypes.util.find_library("c") or "libc.so.6"
+        made: Any
         for made in (lambda: Library("./no/such.so"), lambda: Library(another), lambda: Program("no-such-program")):
             with self.assertRaises(EngineMissing):
                 made()

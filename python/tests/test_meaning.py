@@ -21,6 +21,8 @@ Row = Dict[str, Any]
 Condition = Tuple[Any, Callable[[Row], Optional[bool]]]
 COUNT = int(os.environ.get("HARDIEFLAX_QUERIES", "60"))
 
+COMPARED: Dict[str, Callable[[Any, Any], Any]] = {
+    "==": operator.eq, "!=": operator.ne, "<": operator.lt, "<=": operator.le, ">": operator.gt, ">=": operator.ge}
 VALUES: Dict[str, List[Any]] = {
     "BigInt": [0, 1, 2, 3, 2**40], "Text": ["", "Sean", "Tess", "Trees", "Birds", "s@x", "no", "%"], "Bool": [True, False],
     "Binary": [b"", b"\x00\xff", b"x"], "SmallInt": [3, 4, 5, -1]}
@@ -35,7 +37,7 @@ def compared(word: str, left: Any, right: Any) -> Optional[bool]:
     """A comparison as SQL has it."""
     if left is None or right is None:
         return None
-    return {"==": left == right, "!=": left != right, "<": left < right, "<=": left <= right, ">": left > right, ">=": left >= right}[word]
+    return bool(COMPARED[word](left, right))
 
 
 def negated(a: Optional[bool]) -> Optional[bool]:
@@ -84,8 +86,7 @@ class Maker:
 
     @staticmethod
     def by(word: str, left: Any, right: Any) -> Any:
-        return {"==": lambda: left == right, "!=": lambda: left != right, "<": lambda: left < right, "<=": lambda: left <= right,
-                ">": lambda: left > right, ">=": lambda: left >= right}[word]()
+        return COMPARED[word](left, right)
 
     def condition(self, tables: List[Any], depth: int = 3) -> Condition:
         kind = self.random.randrange(5) if depth else 4
@@ -111,7 +112,7 @@ class Maker:
         column, key = (Comments.user_id, Users.id) if Users in tables else (Comments.post_id, Posts.id)
         some = [row for row in rows_of(Comments)]
         if self.random.random() < 0.5:
-            asked = query(Comments).filter(made, column == key).exists()
+            asked: Any = query(Comments).filter(made, column == key).exists()
         else:
             asked = key.in_(query(Comments).filter(made).select(column))
         return asked, lambda row: any(means(each) is True and each[inner] == row[outer] for each in some)
@@ -147,7 +148,7 @@ class Maker:
             return made, [tuple(row[name] for _, name, _ in columns) for row in rows], False
         key = tables[0]
         descends = self.random.random() < 0.5
-        rows = sorted(rows, key=lambda row: row[f"{key.__table__}.id"], reverse=descends)
+        rows = sorted(rows, key=operator.itemgetter(f"{key.__table__}.id"), reverse=descends)
         made = made.order(key.id.desc() if descends else key.id)
         if self.random.random() < 0.5:
             count, skipped = self.random.randrange(4), self.random.randrange(3)

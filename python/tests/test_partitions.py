@@ -1,6 +1,7 @@
 """Many queries on many workers: a local cluster of dask.distributed, one worker of which is killed, and the program of a pipe."""
 from __future__ import annotations
 
+import importlib
 import json
 import os
 import pathlib
@@ -66,8 +67,8 @@ class Documents(unittest.TestCase):
 
     def test_a_cluster_that_loses_a_worker(self) -> None:
         try:
-            import dask
-            import distributed
+            dask: Any = importlib.import_module("dask")
+            distributed: Any = importlib.import_module("distributed")
         except ImportError as error:
             raise unittest.SkipTest(f"no dask.distributed: {error}")
         os.environ["PYTHONPATH"] = str(support.HERE.parent / "src")

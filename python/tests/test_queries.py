@@ -3,7 +3,7 @@ from __future__ import annotations
 
 import json
 import unittest
-from typing import Any
+from typing import Any, cast
 
 import support
 from support import Comments, Odd, Posts, Users
@@ -65,17 +65,18 @@ class Expressions(unittest.TestCase):
         self.assertLess(deepest, 15)
 
     def test_what_makes_no_sense_in_python(self) -> None:
+        users, ask, first = cast(Any, query(Users)), cast(Any, query), cast(Any, FIRST)
         wrong: Any = [
-            lambda: bool(FIRST), lambda: bool(query(Users)), lambda: query(Users).filter(True), lambda: query(Users).filter("id = 1"),
-            lambda: (~Users.active) == True, lambda: (~FIRST).is_null(), lambda: FIRST & True, lambda: query(5),  # noqa: E712
-            lambda: query(Users).select("id"), lambda: query(Users).order("id"), lambda: query(Users).join("posts"), lambda: Users(nam="x"),
+            lambda: bool(FIRST), lambda: bool(users), lambda: users.filter(True), lambda: users.filter("id = 1"),
+            lambda: (~Users.active) == True, lambda: (~FIRST).is_null(), lambda: first & True, lambda: ask(5),  # noqa: E712
+            lambda: users.select("id"), lambda: users.order("id"), lambda: users.join("posts"), lambda: Users(nam="x"),
         ]
         for each in wrong:
             with self.assertRaises(TypeError):
                 each()
         refused: Any = [
-            lambda: Users.id == "1", lambda: Users.id == True, lambda: query(Users).limit(-1), lambda: query(Users).limit("1"),  # noqa: E712
-            lambda: query(Users).find(1, 2), lambda: Users.id.in_("12"), lambda: Users.name == 5,
+            lambda: Users.id == "1", lambda: Users.id == True, lambda: users.limit(-1), lambda: users.limit("1"),  # noqa: E712
+            lambda: users.find(1, 2), lambda: cast(Any, Users.id).in_("12"), lambda: Users.name == 5,
         ]
         for each in refused:
             with self.assertRaises(ValueRefused):

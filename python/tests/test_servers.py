@@ -87,6 +87,7 @@ class OnAServer:
         self.assertEqual(self.session.one(query(Odd).filter(Odd.mark == "a")), Odd(id=1, mark="a"))
         self.assertEqual([odd.mark for odd in self.session.all(query(Odd).order(Odd.id))], ["a", None])
         built = self.session.build(query(Odd).filter(Odd.mark == "a", Odd.id == 1))
+        driver: Any
         for driver, numbers in ((Psycopg, ["$1", "$2"]), (Pymysql, ["?", "?"])):
             if driver.dialect == self.dialect:
                 changed = driver._percent(built.sql)

@@ -6,7 +6,7 @@ import pickle
 import sqlite3
 import threading
 import unittest
-from typing import Any, List
+from typing import Any, List, cast
 
 import support
 from support import Comments, Odd, Posts, Users
@@ -81,6 +81,7 @@ class Rows(unittest.TestCase):
         self.assertEqual((built.values, built.columns, built.safe), ([3], ("BigInt",), True))
         with self.assertRaises(HardieflaxError):
             session.all(query(Users))
+        wrong: Any
         for wrong in ({}, {"dialect": "Oracle"}, {"connection": self.connection, "dialect": "Pg"}, {"connection": "x"}):
             with self.assertRaises(HardieflaxError):
                 Session(support.SCHEMA, engine=support.engine(), **wrong)
@@ -112,7 +113,7 @@ class Refusals(unittest.TestCase):
         return caught.exception
 
     def test_each_rule_and_its_part(self) -> None:
-        users, u2 = query(Users), alias(Users, "u2")
+        users, u2, any_users = query(Users), alias(Users, "u2"), cast(Any, Users)
         cases: Any = [
             (users.distinct().for_update(), "Incompatible", ".for_update()"),
             (users.select(Users.id).order(), "EmptyList", ".order()"),
@@ -121,7 +122,7 @@ class Refusals(unittest.TestCase):
             (users.join(alias(Users, "users"), Users.active), "NameClash", ".join(alias(users, 'users'), users.active)"),
             (users.filter(Users.active, Posts.id == 1), "NotInScope", "(posts.id == <BigInt>), in filter"),
             (users.filter(Users.active & (Users.id == Posts.id)), "NotInScope", "(users.id == posts.id), in filter"),
-            (users.filter(Users.id == Users.email), "TypeMismatch", "(users.id == users.email), whose sides are BigInt and Text, in filter"),
+            (users.filter(any_users.id == Users.email), "TypeMismatch", "(users.id == users.email), whose sides are BigInt and Text, in filter"),
             (users.left_join(Posts).select(Users.id, Posts.title), "NeedsNullable", ".left_join(posts)"),
             (users.select(Users.id, count()), "Grouping", "users.id"),
             (users.for_update(), "Unsupported", ".for_update()"),
@@ -185,7 +186,7 @@ class Plans(unittest.TestCase):
         self.assertEqual(self.planner.asked, asked)
 
     def test_values_stand_in_the_order_of_the_text(self) -> None:
-        made = query(Users).limit(5).offset(6).filter(Users.active == True, Users.avatar == b"\7")  # noqa: E712
+        made: Any = query(Users).limit(5).offset(6).filter(Users.active == True, Users.avatar == b"\7")  # noqa: E712
         made = made.having(Users.name == "x").group_by(Users.id)
         made = made.filter(Users.id.in_([8, 9]), Users.active == False).select(Users.id)  # noqa: E712
         for dialect, wanted in (("Sqlite", [True, b"\7", 8, 9, False, "x", 5, 6]), ("Bracket", [True, b"\7", 8, 9, False, "x", 6, 5]),
@@ -222,9 +223,9 @@ class Plans(unittest.TestCase):
         self.assertEqual(caught.exception.status, 7)
 
     def test_many_tables(self) -> None:
-        made = [type(f"T{number}", (Table,), {"id": Column(Integer)}, name=f"t{number}") for number in range(400)]
+        made: List[Any] = [type(f"T{number}", (Table,), {"id": Column(Integer)}, name=f"t{number}") for number in range(400)]
         session = Session(Schema(*made), dialect="Pg", engine=support.engine())
-        built = session.build_all([query(each) for each in made])
+        built: List[Any] = session.build_all([query(each) for each in made])
         self.assertEqual([each.sql for each in built][399], 'SELECT "t399"."id" FROM "t399"')
 
     def test_no_more_than_the_capacity_is_kept(self) -> None:

@@ -8,7 +8,7 @@ import unittest
 import uuid
 from typing import Any
 
-import support
+import support  # noqa: F401, puts the package on the path
 from hardieflax import (BigInt, Binary, Bool, Date, Decimal, Enumeration, Float, Integer, Json, Nullable, RowError, SmallInt, SqlType, Text,
                         Time,
                         Timestamp, TimestampTz, Uuid, ValueRefused)
@@ -106,4 +106,4 @@ def _(kind: SqlType[Any]) -> None:
 
 
 if __name__ == "__main__":
-    support.unittest.main()
+    unittest.main()

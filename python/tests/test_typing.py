@@ -92,7 +92,7 @@ class Typing(unittest.TestCase):
         configuration = str(support.HERE.parent / "pyproject.toml")
         command = [sys.executable, "-m", "mypy", "--strict", "--config-file", configuration, "--cache-dir", f"{self.folder.name}/cache", *words]
         run = subprocess.run(command, stdout=subprocess.PIPE, stderr=subprocess.STDOUT, text=True, cwd=support.HERE.parent,
-                             env={**os.environ, "MYPYPATH": str(support.HERE.parent / "src")})
+                             env={**os.environ, "MYPYPATH": f"{support.HERE.parent / 'src'}:{support.TOP / 'tests/servers'}"})
         return run.stdout
 
     def lines_of(self, text: str) -> List[int]:
@@ -101,8 +101,8 @@ class Typing(unittest.TestCase):
         path.write_text(text)
         return [int(number) for number in re.findall(r"user\.py:(\d+): error", self.mypy(str(path)))]
 
-    def test_the_package(self) -> None:
-        self.assertIn("Success", self.mypy("src/hardieflax"))
+    def test_the_package_and_its_tests(self) -> None:
+        self.assertIn("Success", self.mypy("src/hardieflax", *map(str, support.HERE.glob("*.py"))))
 
     def test_what_a_user_writes(self) -> None:
         begin = BEGIN.count("\n") + 1

@@ -29,6 +29,10 @@ class Guard:
         both = sorted(self.shared & set(self._predicates))
         if both:
             raise SchemaError(f"{both[0]} is guarded, and shared too")
+        for name in self._predicates:
+            for other in self.shared:
+                if _may_be_one(schema[name], schema[other]):
+                    raise SchemaError(f"{other} is shared, and may be the guarded table {name} by another name: a server may take both for one")
         guarded = "".join(f"{name}\0{predicate.shape}\n" for name, predicate in self._predicates.items())
         self.key = f"{guarded}\n{sorted(self.shared)}"
         self.values: Values = tuple(value for predicate in self._predicates.values() for value in predicate.values)
@@ -64,6 +68,15 @@ class Guard:
             listed: List[Dict[str, Any]] = [{"table": name, "predicate": predicates[name]} for name in guarded]
             return {"tenant": listed + [{"table": name} for name in sorted(set(tables) & self.shared)]}
         return {}
+
+
+def _may_be_one(a: Type[Table], b: Type[Table]) -> bool:
+    """Whether a server may take two declarations for one table. Of names it may leave case aside, and what comes after 63 bytes."""
+    def seen(name: str) -> bytes:
+        return name.lower().encode("utf-8", "replace")[:63]
+    if a.__schema__ is not None and b.__schema__ is not None and seen(a.__schema__) != seen(b.__schema__):
+        return False
+    return seen(a.__sql_name__ or a.__table__) == seen(b.__sql_name__ or b.__table__)
 
 
 def _name_in(schema: Schema, table: Type[Table]) -> str:

@@ -156,7 +156,11 @@ def reflected(database: Any, *, only: Iterable[str] = (), schema: Optional[str] 
     names = frozenset(only)
     connection = _sqlite_connection(database)
     if connection is not None:
-        tables = _sqlite_tables(connection, names, trust_declared, notes)
+        try:
+            tables = _sqlite_tables(connection, names, trust_declared, notes)
+        finally:
+            if connection is not database:
+                connection.close()
     else:
         from .inspection import inspected_tables
         tables = inspected_tables(database, names, schema, trust_declared, notes)

@@ -16,6 +16,7 @@ from typing import Any, Callable, Generic, List, Optional, Tuple, Type, TypeVar,
 from .errors import RowError, ValueRefused
 
 T = TypeVar("T")
+T_co = TypeVar("T_co", covariant=True)
 E = TypeVar("E", bound=enum.Enum)
 
 # A value as a document has it. The values of a list are a tuple.
@@ -23,7 +24,7 @@ Wire = Union[None, int, str, bool]
 Decoder = Callable[[Any], Any]
 
 
-class SqlType(Generic[T]):
+class SqlType(Generic[T_co]):
     """A type of a column, whose values are of the type T in Python."""
 
     def __init__(self, base: str, python: Tuple[type, ...], nullable: bool = False) -> None:
@@ -46,15 +47,15 @@ class SqlType(Generic[T]):
         """Whether a document knows the type, and not only the server."""
         return True
 
-    def nullable_form(self) -> SqlType[Optional[T]]:
+    def nullable_form(self) -> SqlType[Optional[T_co]]:
         """The same type with NULL."""
         if self.nullable:
-            return cast("SqlType[Optional[T]]", self)
+            return cast("SqlType[Optional[T_co]]", self)
         made = type(self).__new__(type(self))
         made.__dict__.update(self.__dict__)
         made.nullable = True
         made.document_name = self.base + "?"
-        return cast("SqlType[Optional[T]]", made)
+        return cast("SqlType[Optional[T_co]]", made)
 
     def encoded(self, value: Any) -> Wire:
         """The value as a document has it. ValueRefused: it is none of this type."""
@@ -147,7 +148,7 @@ class _Bool(SqlType[bool]):
         return bool(self.looked_at(value))
 
 
-class OtherType(SqlType[T]):
+class OtherType(SqlType[T_co]):
     """A type that the server has and a document has not: declared as Text, sent as a text."""
 
     def __init__(self, name: str, python: Tuple[type, ...], to_text: Callable[[Any], str], from_text: Callable[[Any], Any]) -> None:
