@@ -28,32 +28,6 @@ GENERATOR = "packaging/wheel.py"
 # A zip file cannot name an earlier second.
 EARLIEST = 315532800
 
-# Where there is no python/, the package is the wrapper of examples/python.
-ALONE: dict[str, Any] = {
-    "description": "Builds SELECT statements over a schema that you declare",
-    "requires-python": ">=3.9",
-    "license": "MIT OR Apache-2.0",
-}
-ALONE_PACKAGE = '''\
-"""The commands of Hardieflax, over bytes in memory, by the library that this package brings."""
-
-import os
-import pathlib
-
-from ._library import Dialect, HardieflaxError, Status
-from ._library import Hardieflax as _Hardieflax
-
-__all__ = ["Dialect", "Hardieflax", "HardieflaxError", "Status"]
-
-
-class Hardieflax(_Hardieflax):
-    __doc__ = _Hardieflax.__doc__
-
-    def __init__(self, path: "str | os.PathLike[str]" = pathlib.Path(__file__).with_name("libhardieflax.so")) -> None:
-        super().__init__(path)
-'''
-
-
 class ProjectError(Exception):
     """What pyproject.toml says does not fit a wheel that is packed here."""
 
@@ -61,8 +35,6 @@ class ProjectError(Exception):
 def project(version: str) -> dict[str, Any]:
     """The table `project` of python/pyproject.toml. ProjectError: it is of another package or another version."""
     path = TOP / "python/pyproject.toml"
-    if not path.exists():
-        return ALONE
     table: dict[str, Any] = tomllib.loads(path.read_text(encoding="utf-8"))["project"]
     if (table["name"], table.get("version", version)) != (NAME, version):
         raise ProjectError(f"{path} is of {table['name']} {table['version']}, and not of {NAME} {version}")
@@ -72,11 +44,6 @@ def project(version: str) -> dict[str, Any]:
 def package() -> Iterator[tuple[str, bytes]]:
     """The files of the package, by their names in the wheel."""
     source = TOP / "python/src" / NAME
-    if not source.exists():
-        yield f"{NAME}/__init__.py", ALONE_PACKAGE.encode()
-        yield f"{NAME}/_library.py", (TOP / "examples/python/hardieflax.py").read_bytes()
-        yield f"{NAME}/py.typed", b""
-        return
     for path in source.rglob("*"):
         if path.is_file() and path.suffix not in (".pyc", ".so"):
             yield f"{NAME}/{path.relative_to(source).as_posix()}", path.read_bytes()
@@ -84,7 +51,7 @@ def package() -> Iterator[tuple[str, bytes]]:
 
 def license_of(table: dict[str, Any]) -> str:
     """The licence, which older files write as a table."""
-    given = table.get("license", ALONE["license"])
+    given = table["license"]
     return str(given["text"] if isinstance(given, dict) else given)
 
 
