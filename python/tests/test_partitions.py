@@ -65,6 +65,7 @@ class Documents(unittest.TestCase):
             self.assertEqual((told[10], "sql" in told[11], len(told)), ({"error": "the line is no JSON"}, True, 12))
             self.assertEqual(subprocess.run([*words, "Oracle"], stderr=subprocess.PIPE, env=environment).returncode, 2)
 
+    @unittest.skipUnless(os.environ.get("HARDIEFLAX_CLUSTER"), "HARDIEFLAX_CLUSTER=1 starts a cluster and kills a worker of it")
     def test_a_cluster_that_loses_a_worker(self) -> None:
         try:
             dask: Any = importlib.import_module("dask")
