@@ -1,23 +1,22 @@
--- The stack of the loop, when its top is taken.
-use Rattle.std.proofs.Common.{◌≡◌, ℕ, ◌<◌, ◌≤◌, List, [], ◌∷◌, ◌++◌, map, true, false, ltb, refl, ap, ◌∙◌, arith}
-use Rattle.std.proofs.lemmas.List.{reverse-append}
-use Rattle.sql_flat_back.specs.declared.stack.Done.{Done}
-use Rattle.sql_flat_back.specs.inside.Stacks.{done_of, part_of, stack, split}
-use borrow.Author.Tests.{lt-ltb, ltb-false}
+-- The stack of the loop, when a tree is taken.
+use Rattle.std.proofs.Common.{◌≡◌, ℕ, List, [], ◌∷◌}
+use Rattle.sql_flat_law.specs.declared.finished.Finished.{Finished}
+use Rattle.sql_flat_law.specs.Finished.{before, finished}
+use Rattle.sql_flat_law.proofs.Finishing.{finished-push, seen-left, seen-stays, seen-takes}
+use Rattle.sql_flat_back.specs.declared.part.Part.{Part}
+use Rattle.sql_flat_back.specs.inside.Stacks.{part_of, stack, split}
 
-pub stack-push : (ds : List Done) (d : Done) → stack (ds ++ d ∷ []) ≡ done_of d ∷ stack ds
-stack-push ds d = ap (map done_of) (reverse-append ds (d ∷ []))
+pub takes : (e : ℕ) (old new : List (Finished Part)) (p : Part)
+    → before e (finished old) ≡ (p ∷ (before e (finished new)).0, (before e (finished new)).1)
+    → split e old ≡ (part_of p ∷ (split e new).0, (split e new).1)
+takes e old new p h = seen-takes part_of e (finished old) (finished new) p h
 
-pub takes : (e : ℕ) (all ds : List Done) (d : Done) → all ≡ ds ++ d ∷ [] → d.start < e
-    → split e all ≡ (part_of d.part ∷ (split e ds).0, (split e ds).1)
-takes e all ds d is h =
-    let l : ltb d.start e ≡ true = lt-ltb d.start e h in
-    let s : stack all ≡ done_of d ∷ stack ds = ap stack is ∙ stack-push ds d in rw (s, l) refl
+pub stays : (e : ℕ) (old : List (Finished Part)) → before e (finished old) ≡ ([], finished old)
+    → split e old ≡ ([], stack old)
+stays e old h = seen-stays part_of e (finished old) h
 
-pub stays : (e : ℕ) (all ds : List Done) (d : Done) → all ≡ ds ++ d ∷ [] → e ≤ d.start
-    → split e all ≡ ([], stack all)
-stays e all ds d is h =
-    let l : ltb d.start e ≡ false = search (arith, ltb-false) in
-    let s : stack all ≡ done_of d ∷ stack ds = ap stack is ∙ stack-push ds d in rw (s, l) refl
+pub leaves : (e : ℕ) (old new : List (Finished Part)) → finished new ≡ (before e (finished old)).1
+    → stack new ≡ (split e old).1
+leaves e old new h = seen-left part_of e (finished old) (finished new) h
 
-pub ruleset stacking = (takes, stays, stack-push)
+pub ruleset stacking = (takes, stays, leaves, finished-push)

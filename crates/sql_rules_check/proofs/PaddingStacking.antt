@@ -1,27 +1,26 @@
--- The stack of the loop for padded rows, when its top is taken.
-use Rattle.std.proofs.Common.{◌≡◌, ℕ, ◌<◌, ◌≤◌, List, [], ◌∷◌, ◌++◌, map, true, false, ltb, refl, ap, ◌∙◌, arith}
-use Rattle.std.proofs.lemmas.List.{reverse-append}
+-- The stack of the loop for padded rows, when a tree is taken.
+use Rattle.std.proofs.Common.{◌≡◌, ℕ, List, [], ◌∷◌, ◌++◌, map, refl, ap}
+use Rattle.sql_flat_law.specs.declared.finished.Finished.{Finished}
+use Rattle.sql_flat_law.specs.Finished.{before, finished}
+use Rattle.sql_flat_law.proofs.Finishing.{finished-push, seen-left, seen-stays, seen-takes}
 use Rattle.sql_origin.specs.Borrowed.{origin_of}
+use Rattle.sql_rules_check.specs.declared.padding.Held as declared
 use Rattle.sql_rules_check.specs.declared.padding.Padded.{Padded}
-use Rattle.sql_rules_check.specs.declared.padding.Part.{Part}
 use Rattle.sql_rules_check.specs.inside.Padding.{Held, all_bare, all_leaves, first_held, other_held}
-use Rattle.sql_rules_check.specs.inside.PaddingStacks.{held_of, leaf_of, part_of, parted, parts_of}
-use borrow.Author.Tests.{lt-ltb, ltb-false}
+use Rattle.sql_rules_check.specs.inside.PaddingStacks.{held_of, leaf_of, parted, parts_of}
 
-pub parts-push : (ds : List Part) (d : Part) → parts_of (ds ++ d ∷ []) ≡ part_of d ∷ parts_of ds
-parts-push ds d = ap (map part_of) (reverse-append ds (d ∷ []))
+pub takes : (e : ℕ) (old new : List (Finished declared.Held)) (h : declared.Held)
+    → before e (finished old) ≡ (h ∷ (before e (finished new)).0, (before e (finished new)).1)
+    → parted e old ≡ (held_of h ∷ (parted e new).0, (parted e new).1)
+takes e old new h is = seen-takes held_of e (finished old) (finished new) h is
 
-pub takes : (e : ℕ) (all ds : List Part) (d : Part) → all ≡ ds ++ d ∷ [] → d.start < e
-    → parted e all ≡ (held_of d.held ∷ (parted e ds).0, (parted e ds).1)
-takes e all ds d is h =
-    let l : ltb d.start e ≡ true = lt-ltb d.start e h in
-    let s : parts_of all ≡ part_of d ∷ parts_of ds = ap parts_of is ∙ parts-push ds d in rw (s, l) refl
+pub stays : (e : ℕ) (old : List (Finished declared.Held)) → before e (finished old) ≡ ([], finished old)
+    → parted e old ≡ ([], parts_of old)
+stays e old is = seen-stays held_of e (finished old) is
 
-pub stays : (e : ℕ) (all ds : List Part) (d : Part) → all ≡ ds ++ d ∷ [] → e ≤ d.start
-    → parted e all ≡ ([], parts_of all)
-stays e all ds d is h =
-    let l : ltb d.start e ≡ false = search (arith, ltb-false) in
-    let s : parts_of all ≡ part_of d ∷ parts_of ds = ap parts_of is ∙ parts-push ds d in rw (s, l) refl
+pub leaves : (e : ℕ) (old new : List (Finished declared.Held)) → finished new ≡ (before e (finished old)).1
+    → parts_of new ≡ (parted e old).1
+leaves e old new is = seen-left held_of e (finished old) (finished new) is
 
 pub origins-of : (ls : List Padded) → map (λ l. l.origin) (map leaf_of ls) ≡ map (λ l. origin_of l.origin) ls
 origins-of [] = refl
@@ -38,4 +37,4 @@ pub first-bare : (hs gs : List Held) (h : Held) → h ≡ first_held hs → gs �
 first-bare [] gs h is others = λ i. (is i).bare ++ all_bare (others i)
 first-bare (x ∷ hs) gs h is others = λ i. (is i).bare ++ all_bare (others i)
 
-pub ruleset padding = (takes, stays, parts-push)
+pub ruleset padding = (takes, stays, leaves, finished-push)

@@ -1,13 +1,14 @@
 -- The words of a list of nodes are those of its trees.
 use Rattle.std.proofs.Common.{◌≡◌, ℕ, suc, ◌+◌, ◌<◌, ◌≤◌, Bool, cond, List, [], ◌∷◌, ◌++◌, refl, sym, ap, ◌∙◌, arith, append_assoc, append-nil, ltb}
 use Rattle.std.proofs.lemmas.Bool.{lt-ltb, le-ltb}
+use Rattle.sql_flat_law.specs.Opened.{still_open}
 use Rattle.sql_flat_law.specs.Rose.{Rose, node, Roses, none, more, size, sizes, flat, flats}
 use Rattle.sql_flat.specs.Flat.{flat_node}
 use Rattle.sql_flat.specs.declared.kind.FlatKind.{FlatKind}
 use Rattle.sql_flat.specs.declared.kind.FlatNode.{FlatNode}
 use Rattle.sql_rules_check.specs.declared.order.Standing.{Standing}
 use Rattle.sql_rules_check.specs.declared.order.Standing.TheVariants.{Over}
-use Rattle.sql_rules_check.specs.inside.Words.{Nest, below, clause_words, disordered, disordered_at, disordered_by, first_words, innermost, is_distinct_on, is_order_by, still_open, visited, word_at, words, words_behind, words_each, words_from}
+use Rattle.sql_rules_check.specs.inside.Words.{Nest, below, clause_words, disordered, disordered_at, disordered_by, first_words, standing_in, is_distinct_on, is_order_by, visited, word_at, words, words_behind, words_each, words_from}
 
 -- all end at e or later
 abbrev Covers : ℕ → Nest → Type 0
@@ -35,27 +36,27 @@ left e i s σ xs = same-open e i xs ((i, s) ∷ σ) σ (rw (le-ltb i i (omega ar
 mutual
   words-tree : (e m n : ℕ) (t : Rose FlatKind) (rest : List FlatNode) (σ : Nest) → Covers m σ → n + size t ≤ m
       → n + size t ≤ e
-      → words_from σ e n (flat flat_node n t rest) ≡ words (innermost σ) t ++ words_from σ e (n + size t) rest
+      → words_from σ e n (flat flat_node n t rest) ≡ words (standing_in σ) t ++ words_from σ e (n + size t) rest
   words-tree e m n (node k ts) rest σ c h g =
       let i = n + suc (sizes ts) in
-      let s = below (innermost σ) k in
+      let s = below (standing_in σ) k in
       rw (lt-ltb n e (omega arith), covers-open m n σ c (omega arith))
-      (ap (λ l. word_at (innermost σ) k ++ l)
+      (ap (λ l. word_at (standing_in σ) k ++ l)
       (words-trees e i (n + 1) ts rest ((i, s) ∷ σ) (omega arith, covers-less m i σ c h) (omega arith) (omega arith)
       ∙ ap (λ j. words_each s ts ++ words_from ((i, s) ∷ σ) e j rest) (omega arith)
       ∙ ap (λ l. words_each s ts ++ l) (left e i s σ rest))
-      ∙ sym (append_assoc (word_at (innermost σ) k) (words_each s ts) (words_from σ e i rest)))
+      ∙ sym (append_assoc (word_at (standing_in σ) k) (words_each s ts) (words_from σ e i rest)))
 
   words-trees : (e m n : ℕ) (ts : Roses FlatKind) (rest : List FlatNode) (σ : Nest) → Covers m σ → n + sizes ts ≤ m
       → n + sizes ts ≤ e
-      → words_from σ e n (flats flat_node n ts rest) ≡ words_each (innermost σ) ts ++ words_from σ e (n + sizes ts) rest
+      → words_from σ e n (flats flat_node n ts rest) ≡ words_each (standing_in σ) ts ++ words_from σ e (n + sizes ts) rest
   words-trees e m n none rest σ c h g = ap (λ j. words_from σ e j rest) (omega arith)
   words-trees e m n (more t ts) rest σ c h g =
       words-tree e m n t (flats flat_node (n + size t) ts rest) σ c (omega arith) (omega arith)
-      ∙ ap (λ l. words (innermost σ) t ++ l)
+      ∙ ap (λ l. words (standing_in σ) t ++ l)
       (words-trees e m (n + size t) ts rest σ c (omega arith) (omega arith)
-      ∙ ap (λ j. words_each (innermost σ) ts ++ words_from σ e j rest) (omega arith))
-      ∙ sym (append_assoc (words (innermost σ) t) (words_each (innermost σ) ts)
+      ∙ ap (λ j. words_each (standing_in σ) ts ++ words_from σ e j rest) (omega arith))
+      ∙ sym (append_assoc (words (standing_in σ) t) (words_each (standing_in σ) ts)
       (words_from σ e (n + (size t + sizes ts)) rest))
 
 pub words-stop : (σ : Nest) (e i : ℕ) (xs : List FlatNode) → e ≤ i → words_from σ e i xs ≡ []

@@ -1,64 +1,38 @@
 -- Turns of the loops for words.
 use Rattle.std.proofs.Common.{◌≡◌, ℕ, zero, suc, ◌+◌, ◌-◌, ◌<◌, ◌≤◌, ◌⊎◌, inl, inr, Bool, true, false, not, ◌||◌, cond, if◌then◌else◌, List, [], ◌∷◌, ◌++◌, Some, map, drop, take, get_or, length, slice_get, refl, sym, ap, ◌∙◌, arith, append_assoc, append-nil, ltb}
-use Rattle.std.specs.Option.{unwrap_or}
 use Rattle.std.proofs.lemmas.Bool.{lt-ltb, le-ltb, ltb-true, ltb-false}
-use Rattle.std.proofs.lemmas.List.{reverse-append, drop_more, drop_all, drop-drop, take-append-drop}
-use Rattle.std.proofs.lemmas.Option.{slice_get_within, slice_get-get_or}
+use Rattle.std.proofs.lemmas.List.{drop_more, drop_all, drop-drop}
+use Rattle.sql_flat_law.specs.declared.opened.Opened.{Opened}
+use Rattle.sql_flat_law.specs.Opened.{opens, still_open}
+use Rattle.sql_flat_law.proofs.Opening.{last-opens, opens-push}
 use Rattle.sql_flat.specs.declared.kind.FlatKind.{FlatKind}
 use Rattle.sql_flat.specs.declared.kind.FlatNode.{FlatNode}
-use Rattle.sql_rules_check.specs.declared.order.Open.{Open}
+use Rattle.sql_rules_check.specs.declared.order.Standing.{Standing}
 use Rattle.sql_rules_check.specs.declared.order.Token.{Token}
 use Rattle.sql_rules_check.specs.inside.Kids.{past}
-use Rattle.sql_rules_check.specs.inside.Words.{Nest, Word, begins_inner, clash, clause_words, entered, innermost, is_inner, nest_of, open_of, same_word, still_open, visited, word_at, word_of, words_from}
+use Rattle.sql_rules_check.specs.inside.Words.{Nest, Word, begins_inner, clash, clause_words, entered, is_inner, same_word, standing_in, visited, word_at, word_of, words_from}
 use Rattle.sql_rules_check.proofs.WordTrees.{clause-stops, words-stop}
 
--- ---- the stack of open nodes
-
-pub nest-push : (os : List Open) (o : Open) → nest_of (os ++ o ∷ []) ≡ open_of o ∷ nest_of os
-nest-push os o = ap (map open_of) (reverse-append os (o ∷ []))
-
-pub nest-stays : (p : ℕ) (all os : List Open) (o : Open) → all ≡ os ++ o ∷ [] → p < o.end
-    → still_open p (nest_of all) ≡ nest_of all
-nest-stays p all os o is h = rw (ap nest_of is ∙ nest-push os o, lt-ltb p o.end h) refl
-
-pub nest-ends : (p : ℕ) (all os : List Open) (o : Open) → all ≡ os ++ o ∷ [] → o.end ≤ p
-    → still_open p (nest_of all) ≡ still_open p (nest_of os)
-nest-ends p all os o is h = rw (ap nest_of is ∙ nest-push os o, le-ltb p o.end h) refl
-
-nest-innermost : (all os : List Open) (o : Open) → all ≡ os ++ o ∷ [] → innermost (nest_of all) ≡ o.standing
-nest-innermost all os o is = rw (ap nest_of is ∙ nest-push os o) refl
-
--- the last of a list, after the others
-last-is : {X : Type 0} (xs : List X) (x : X) → slice_get xs (length xs - 1) ≡ Some x
-    → xs ≡ take (length xs - 1) xs ++ x ∷ []
-last-is xs x h =
-    let i = length xs - 1 in
-    let l : i < length xs = slice_get_within xs i x h in
-    let g : get_or xs i x ≡ x = ap (λ o. unwrap_or o x) (sym (slice_get-get_or xs i x l) ∙ h) in
-    sym (take-append-drop i xs)
-    ∙ ap (λ ys. take i xs ++ ys)
-    (drop_more xs i x l ∙ (λ j. g j ∷ drop (i + 1) xs)
-    ∙ ap (λ ys. x ∷ ys) (drop_all (i + 1) xs (omega arith)))
-
-pub last-stands : (os : List Open) (o : Open) → slice_get os (length os - 1) ≡ Some o
-    → innermost (nest_of os) ≡ o.standing
-last-stands os o h = nest-innermost os (take (length os - 1) os) o (last-is os o h)
+-- the innermost open node
+pub last-stands : (os : List (Opened Standing)) (o : Opened Standing) → slice_get os (length os - 1) ≡ Some o
+    → standing_in (opens os) ≡ o.known
+last-stands os o h = ap standing_in (last-opens os o h)
 
 -- ---- words
 
 pub words-turn : (e p : ℕ) (nodes : List FlatNode) (x : FlatNode) (old σ new : Nest) (own more all : List Word)
     → p < e → p < length nodes → x ≡ get_or nodes p x → σ ≡ still_open p old → new ≡ entered x σ
-    → more ≡ own ++ word_at (innermost σ) x.kind → own ++ words_from old e p (drop p nodes) ≡ all
+    → more ≡ own ++ word_at (standing_in σ) x.kind → own ++ words_from old e p (drop p nodes) ≡ all
     → more ++ words_from new e (p + 1) (drop (p + 1) nodes) ≡ all
 words-turn e p nodes x old σ new own more all h g is closed opened added held =
     let behind = drop (p + 1) nodes in
     let one : words_from old e p (drop p nodes)
-    ≡ word_at (innermost σ) x.kind ++ words_from (entered x σ) e (p + 1) behind =
+    ≡ word_at (standing_in σ) x.kind ++ words_from (entered x σ) e (p + 1) behind =
     ap (words_from old e p) (drop_more nodes p x g ∙ ap (λ y. y ∷ behind) (sym is))
     ∙ ap (λ b. cond b (visited x (λ τ. words_from τ e (p + 1) behind) (still_open p old)) []) (lt-ltb p e h)
     ∙ ap (visited x (λ τ. words_from τ e (p + 1) behind)) (sym closed) in
     (λ i. added i ++ words_from (opened i) e (p + 1) behind)
-    ∙ append_assoc own (word_at (innermost σ) x.kind) (words_from (entered x σ) e (p + 1) behind)
+    ∙ append_assoc own (word_at (standing_in σ) x.kind) (words_from (entered x σ) e (p + 1) behind)
     ∙ ap (λ l. own ++ l) (sym one) ∙ held
 
 pub words-end : (σ : Nest) (e p : ℕ) (nodes : List FlatNode) (own all : List Word)
@@ -168,4 +142,4 @@ module _ (xs ys : List Token) (i : ℕ) where
       ap (λ l. begins_inner (left_words i) || begins_inner l) none ∙ sym (clash-right (left_words i))
       ∙ ap (λ l. clash (left_words i) l) (sym none)
 
-pub ruleset wording = (nest-push, nest-stays, nest-ends, last-stands)
+pub ruleset wording = (opens-push, last-stands)

@@ -17,9 +17,10 @@ ghost use Rattle.sql_rules_check.specs.declared.names.Names.TheVariants as name;
 
 use crate::kinds::{any_lacks_on, any_unknown_name};
 use crate::leaves::{any_ambiguous, any_apart, any_clash};
-use crate::scope::{Open, close, enter};
+use crate::scope::{Known, close, enter};
 use crate::tables::names_differ;
 use sql_flat::{Flat, FlatKind, FlatNode};
+use sql_flat_law::Opened;
 use sql_origin::Origin;
 use sql_schema::{Column, NoMemory, Schema, SqlText};
 use std::alloc::Global;
@@ -106,7 +107,7 @@ fn is_out(whole: bool, view: &[Origin<'_>], kind: &FlatKind) -> bool
 }
 
 /// The same, where these nodes are open.
-fn is_out_within(whole: bool, nest: &[Open<'_>], kind: &FlatKind) -> bool
+fn is_out_within(whole: bool, nest: &[Opened<Known<'_>>], kind: &FlatKind) -> bool
     ensures { result ≡ kind_is_out whole (around_of (opens nest.now)).clause kind.now }
 {
     match nest.last() {
@@ -158,7 +159,7 @@ fn meeting(alloc: Global, schema: &Schema, leaves: &[Origin<'_>]) -> Result<Pair
 fn meeting_within(
     alloc: Global,
     schema: &Schema,
-    nest: &[Open<'_>],
+    nest: &[Opened<Known<'_>>],
     kind: &FlatKind,
 ) -> Result<Pairs, NoMemory>
     ensures ambiguous { IfOk result (λ p. p.ambiguous

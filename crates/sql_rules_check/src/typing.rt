@@ -16,11 +16,12 @@ ghost use Rattle.sql_rules_check.specs.inside.Lists.{any_empty_from, any_ill_fro
 ghost use Rattle.sql_rules_check.specs.inside.Stacks.{split, stack};
 ghost use Rattle.sql_rules_check.specs.inside.Typing.{empty as is_empty, ill, typing};
 
-use crate::given::Judged;
+use crate::given::{Given, Judged};
 use crate::judging::judged_at;
-use crate::stack::{Done, leave, next, next_type};
+use crate::stack::{leave, next, next_type};
 use crate::types::is_condition;
 use sql_flat::{Flat, FlatNode};
+use sql_flat_law::Finished;
 use sql_schema::{NoMemory, SqlType};
 use std::alloc::Global;
 
@@ -35,7 +36,7 @@ pub(crate) struct Typed {
 /// What the loop knows of the nodes after it.
 #[derive(Debug, Drop)]
 struct Found {
-    done: Vec<Done>,
+    done: Vec<Finished<Given>>,
     mismatched: bool,
     empty: bool,
 }
@@ -56,9 +57,9 @@ fn put(alloc: Global, index: usize, node: &FlatNode, found: &mut Found) -> Resul
         empty,
     } = judged_at(alloc, &node.kind, &mut found.done, node.end)?;
     leave(&mut found.done, node.end);
-    found.done.push(Done {
+    found.done.push(Finished {
         start: index,
-        given,
+        value: given,
     })?;
     found.mismatched = mismatched || found.mismatched;
     found.empty = empty || found.empty;

@@ -1,6 +1,7 @@
 -- What is compared of the elements of DISTINCT ON and of an order: their nodes as words, in writing order.
-use Rattle.std.specs.Prelude.{ℕ, ◌+◌, ◌==◌, Bool, true, false, not, ◌&&◌, ◌||◌, cond, if◌then◌else◌, List, [], ◌∷◌, ◌++◌, map, reverse}
+use Rattle.std.specs.Prelude.{ℕ, ◌+◌, ◌==◌, Bool, true, false, not, ◌&&◌, ◌||◌, cond, if◌then◌else◌, List, [], ◌∷◌, ◌++◌, map}
 use Rattle.std.proofs.Common.{ltb}
+use Rattle.sql_flat_law.specs.Opened.{innermost, still_open}
 use Rattle.sql_flat_law.specs.Rose.{Rose, node, Roses, none, more}
 use Rattle.sql_flat.specs.declared.kind.FlatKind.{FlatKind}
 use Rattle.sql_flat.specs.declared.kind.FlatKind.TheVariants as K
@@ -15,7 +16,6 @@ use Rattle.sql_key.specs.inside.Swept.{is_element}
 use Rattle.sql_rules_check.specs.inside.Shapes.{same_kind}
 use Rattle.sql_rules_check.specs.declared.order.Clause.{Clause}
 use Rattle.sql_rules_check.specs.declared.order.Clause.TheVariants as clause
-use Rattle.sql_rules_check.specs.declared.order.Open.{Open}
 use Rattle.sql_rules_check.specs.declared.order.Standing.{Standing}
 use Rattle.sql_rules_check.specs.declared.order.Standing.TheVariants.{Over, Within}
 use Rattle.sql_rules_check.specs.declared.order.Token.{Token}
@@ -68,19 +68,14 @@ module _ (chosen : FlatKind → Bool) where
 abbrev pub Nest : Type 0
 Nest = List (ℕ × Standing)
 
-abbrev pub still_open : ℕ → Nest → Nest
-still_open i [] = []
-still_open i (p ∷ σ) = cond (ltb i p.0) (p ∷ σ) (still_open i σ)
-
-abbrev pub innermost : Nest → Standing
-innermost [] = Over 0
-innermost (p ∷ σ) = p.1
+abbrev pub standing_in : Nest → Standing
+standing_in = innermost (Over 0)
 
 abbrev pub entered : FlatNode → Nest → Nest
-entered x σ = (x.end, below (innermost σ) x.kind) ∷ σ
+entered x σ = (x.end, below (standing_in σ) x.kind) ∷ σ
 
 abbrev pub visited : FlatNode → (Nest → List Word) → Nest → List Word
-visited x behind σ = word_at (innermost σ) x.kind ++ behind (entered x σ)
+visited x behind σ = word_at (standing_in σ) x.kind ++ behind (entered x σ)
 
 -- from the index i to the end e
 abbrev pub words_from : Nest → ℕ → ℕ → List FlatNode → List Word
@@ -166,10 +161,3 @@ disordered_at i x xs = disordered_by x.kind (words_behind is_distinct_on i x xs)
 
 abbrev pub word_of : Token → Word
 word_of t = record { kind = blank_kind t.kind.now; standing = t.standing }
-
-abbrev pub open_of : Open → ℕ × Standing
-open_of o = (o.end, o.standing)
-
--- from the innermost on
-abbrev pub nest_of : List Open → Nest
-nest_of os = map open_of (reverse os)
