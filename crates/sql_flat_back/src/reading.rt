@@ -1,4 +1,16 @@
-//! The statement of a flat list, by one loop from the last node to the first.
+//! The statement of a flat list, by one loop from the last node to the first. Each node takes the parts that its children
+//! stand for from the stack (`sql_flat_law`), and puts its own. Of the list that `sql_flat` shows, from the top on:
+//!
+//! ```text
+//! 7  Value 1              $1
+//! 6  Column "users"."id"  "users"."id", $1
+//! 5  Compared =           ("users"."id" = $1)
+//! 4  Where                WHERE ("users"."id" = $1)
+//! 3  Table "users"        "users", WHERE ..
+//! 2  From                 FROM "users", WHERE ..
+//! 1  Column "users"."id"  "users"."id", FROM "users", WHERE ..
+//! 0  Select               the statement
+//! ```
 #![tactic(auto, using(crate::proofs::Stacking::stacking))]
 
 ghost use Rattle.std.specs.Prelude.{◌≡◌, IfOk, OnOk, option_map};

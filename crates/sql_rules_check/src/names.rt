@@ -1,4 +1,15 @@
-//! The rules on names and on what clauses see, by one loop from the first node to the last.
+//! The rules on names and on what clauses see, by one loop from the first node to the last, with a stack of the open nodes
+//! within which something else is known than around them: select statements, joins and conditions (`scope`).
+//!
+//! Of the list that `sql_flat` shows, what is known at each node, of its clauses and of its condition:
+//!
+//! ```text
+//! 0  Select                opened: its clauses see users, its condition too
+//! 1  Column "users"."id"   seen by users
+//! 2  From, 3  Table        as around
+//! 4  Where                 opened: sees what the condition sees
+//! 5  Compared, 6  Column   seen by users
+//! ```
 #![tactic(auto, using(crate::proofs::Opening::opening))]
 
 ghost use Rattle.std.specs.Prelude.{◌≡◌, IfOk, [], false, map};

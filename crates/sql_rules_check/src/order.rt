@@ -1,4 +1,16 @@
 //! Orders that do not begin as DISTINCT ON.
+//!
+//! Both clauses are read as lists of words, a word for each node of an element, with its standing: over elements, under so
+//! many nullables, or within one, at so many nodes from its top. Nullables, lists and items of an order are no words, and
+//! neither are the values of a list. Of `DISTINCT ON ("a", "b" = 1) .. ORDER BY "a", "b" = 2`:
+//!
+//! ```text
+//! DISTINCT ON   a over 0, = over 0, b within 1, value within 1
+//! ORDER BY      a over 0, = over 0, b within 1, value within 1
+//! ```
+//!
+//! The words are compared one by one, values left out, until a list ends. Where the longer list goes on within an element,
+//! that element is another one.
 #![tactic(auto, using(crate::proofs::Wording::wording))]
 
 ghost use Rattle.std.specs.Prelude.{◌≡◌, ◌+◌, ◌<◌, ◌++◌, [], IfOk, OnOk, drop, map, option_map};

@@ -1,4 +1,17 @@
 //! Selected columns of sources whose rows an outer join may lack, by one loop from the last node to the first.
+//!
+//! Of `SELECT "posts"."id" FROM ("users" LEFT OUTER JOIN "posts" ON ..)` the stack (`sql_flat_law`) from the top on, with
+//! `posts?` for a leaf whose rows may be lacking:
+//!
+//! ```text
+//! 6  On                   -
+//! 5  Table "posts"        posts, -
+//! 4  Table "users"        users, posts, -
+//! 3  Join left outer      users posts?
+//! 2  From                 users posts?
+//! 1  Column "posts"."id"  the column, users posts?
+//! 0  Select               finds that the column's row may be lacking
+//! ```
 #![tactic(auto, using(crate::proofs::PaddingStacking::padding))]
 
 ghost use Rattle.std.specs.Prelude.{◌≡◌, ◌<◌, ◌++◌, [], ◌∷◌, ◌&&◌, IfOk, OnOk, MatchOption, length, map};

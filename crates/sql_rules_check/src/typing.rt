@@ -1,5 +1,17 @@
 //! The types of a statement's columns, and whether it is ill-typed or holds an empty list, by one loop from the last
-//! node to the first.
+//! node to the first. Each node takes what its children have from the stack (`sql_flat_law`), and puts what it has.
+//! Of the list that `sql_flat` shows, with `-` for what has no type, the stack from the top on:
+//!
+//! ```text
+//! 7  Value 1              Integer
+//! 6  Column "users"."id"  Integer, Integer
+//! 5  Compared =           Bool
+//! 4  Where                -
+//! 3  Table "users"        -, -
+//! 2  From                 -, -
+//! 1  Column "users"."id"  Integer, -, -
+//! 0  Select               (Integer): the types of its columns
+//! ```
 #![tactic(auto, using(crate::proofs::Stacking::stacking))]
 
 ghost use Rattle.std.specs.Prelude.{◌≡◌, [], ◌∷◌, ◌||◌, IfOk, OnOk};
