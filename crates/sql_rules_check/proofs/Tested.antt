@@ -7,6 +7,7 @@ use Rattle.sql_flat_law.specs.Backward as loop
 use Rattle.sql_flat_law.specs.Finished.{before, first}
 use Rattle.sql_flat_law.specs.Folds.{folded, folded_each, sites, sites_of}
 use Rattle.sql_flat_law.proofs.Backward.{run-flat}
+use Rattle.sql_flat_law.proofs.Finishing.{seen-before}
 use Rattle.sql_flat.specs.declared.kind.FlatKind.{FlatKind}
 use Rattle.sql_rules_check.specs.inside.Known.{Known, known_below}
 use Rattle.sql_rules_check.specs.inside.Tested as tested
@@ -55,22 +56,8 @@ module _ {K A : Type 0} (over : K → List A → A) (test : K → List A → Boo
     flag p = p.1.1
 
     before-forget : (e : ℕ) (σ : Both)
-        → (map (λ p. p.0) (before e σ).0, map forget (before e σ).1)
-        ≡ before e (map forget σ)
-    before-forget e [] = refl
-    before-forget e (p ∷ σ) = by_test (ltb p.0 e) (before-forget e σ)
-      where
-        by_test : (b : Bool)
-            → (map (λ p. p.0) (before e σ).0, map forget (before e σ).1)
-            ≡ before e (map forget σ)
-            → (
-              map (λ p. p.0) (cond b (first p.1 (before e σ)) ([], p ∷ σ)).0,
-              map forget (cond b (first p.1 (before e σ)) ([], p ∷ σ)).1,
-            )
-            ≡ cond b (first p.1.0 (before e (map forget σ)))
-            ([], forget p ∷ map forget σ)
-        by_test true h = ap (first p.1.0) h
-        by_test false h = refl
+        → (map (λ p. p.0) (before e σ).0, map forget (before e σ).1) ≡ before e (map forget σ)
+    before-forget e σ = sym (seen-before (λ p. p.0) e σ)
 
     run-forget : (i : ℕ) (xs : List N)
         → map forget (loop.run kind end both i xs) ≡ loop.run kind end over i xs

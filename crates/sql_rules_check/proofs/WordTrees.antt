@@ -8,7 +8,8 @@ use Rattle.sql_flat.specs.declared.kind.FlatKind.{FlatKind}
 use Rattle.sql_flat.specs.declared.kind.FlatNode.{FlatNode}
 use Rattle.sql_rules_check.specs.declared.order.Standing.{Standing}
 use Rattle.sql_rules_check.specs.declared.order.Standing.TheVariants.{Over}
-use Rattle.sql_rules_check.specs.inside.Words.{Nest, below, clause_words, disordered, disordered_at, disordered_by, first_words, standing_in, is_distinct_on, is_order_by, visited, word_at, words, words_behind, words_each, words_from}
+use Rattle.sql_rules_check.specs.inside.Words.{Nest, below, chosen_words, clause_at, clause_of, disordered, disordered_at, disordered_by, is_distinct_on, is_order_by, standing_in, visited, word_at, words, words_each, words_from}
+use Rattle.sql_rules_check.proofs.Kids.{kids-below}
 
 -- all end at e or later
 abbrev Covers : ℕ → Nest → Type 0
@@ -72,48 +73,11 @@ words-kids n ts rest =
     ∙ ap (λ l. words_each (Over 0) ts ++ l) (words-stop [] e (n + 1 + sizes ts) rest (omega arith))
     ∙ append-nil (words_each (Over 0) ts)
 
--- ---- the first clause of a kind
-
-module _ (chosen : FlatKind → Bool) where
-  mutual
-    passes : (e u n : ℕ) (t : Rose FlatKind) (rest : List FlatNode) → n + size t ≤ u → u ≤ e
-        → clause_words chosen e u n (flat flat_node n t rest) ≡ clause_words chosen e u (n + size t) rest
-    passes e u n (node k ts) rest h g =
-        rw (lt-ltb n e (omega arith), lt-ltb n u (omega arith))
-        (passes-each e u (n + 1) ts rest (omega arith) g ∙ ap (λ m. clause_words chosen e u m rest) (omega arith))
-
-    passes-each : (e u n : ℕ) (ts : Roses FlatKind) (rest : List FlatNode) → n + sizes ts ≤ u → u ≤ e
-        → clause_words chosen e u n (flats flat_node n ts rest) ≡ clause_words chosen e u (n + sizes ts) rest
-    passes-each e u n none rest h g = ap (λ m. clause_words chosen e u m rest) (omega arith)
-    passes-each e u n (more t ts) rest h g =
-        passes e u n t (flats flat_node (n + size t) ts rest) (omega arith) g
-        ∙ passes-each e u (n + size t) ts rest (omega arith) g
-        ∙ ap (λ m. clause_words chosen e u m rest) (omega arith)
-
-  pub clause-stops : (e u i : ℕ) (xs : List FlatNode) → e ≤ i → clause_words chosen e u i xs ≡ []
-  clause-stops e u i [] h = refl
-  clause-stops e u i (x ∷ xs) h = rw (le-ltb i e h) refl
-
-  first-clause : (e u n : ℕ) (ts : Roses FlatKind) (rest : List FlatNode) → n + sizes ts ≡ e → u ≤ n
-      → clause_words chosen e u n (flats flat_node n ts rest) ≡ first_words chosen ts
-  first-clause e u n none rest h g = clause-stops e u n rest (omega arith)
-  first-clause e u n (more (node k us) ts) rest h g =
-      let i = n + suc (sizes us) in
-      let after = flats flat_node i ts rest in
-      let behind : clause_words chosen e i (n + 1) (flats flat_node (n + 1) us after) ≡ first_words chosen ts =
-      passes-each e i (n + 1) us after (omega arith) (omega arith)
-      ∙ ap (λ m. clause_words chosen e i m after) (omega arith)
-      ∙ first-clause e i i ts rest (omega arith) (omega arith) in
-      rw (lt-ltb n e (omega arith), le-ltb n u g) (λ j. cond (chosen k) (words-kids n us after j) (behind j))
-
-  -- after a select statement's node
-  kids-clause : (n : ℕ) (k : FlatKind) (ts : Roses FlatKind) (rest : List FlatNode)
-      → words_behind chosen n (flat_node k (n + suc (sizes ts))) (flats flat_node (n + 1) ts rest)
-      ≡ first_words chosen ts
-  kids-clause n k ts rest = first-clause (n + suc (sizes ts)) (n + 1) (n + 1) ts rest (omega arith) (omega arith)
+-- ---- the children of a select statement
 
 pub same-test : (n : ℕ) (k : FlatKind) (ts : Roses FlatKind) (rest : List FlatNode)
     → disordered_at n (flat_node k (n + suc (sizes ts))) (flats flat_node (n + 1) ts rest) ≡ disordered k ts
 same-test n k ts rest =
-    let p = kids-clause is_distinct_on n k ts rest in
-    let q = kids-clause is_order_by n k ts rest in λ i. disordered_by k (p i) (q i)
+    let same = λ m j us behind. (λ i. (j, words-kids m us behind i)) in
+    let ps = kids-below clause_at clause_of same n k ts rest in
+    λ i. disordered_by k (chosen_words is_distinct_on (ps i)) (chosen_words is_order_by (ps i))

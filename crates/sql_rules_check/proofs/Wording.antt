@@ -10,8 +10,9 @@ use Rattle.sql_flat.specs.declared.kind.FlatNode.{FlatNode}
 use Rattle.sql_rules_check.specs.declared.order.Standing.{Standing}
 use Rattle.sql_rules_check.specs.declared.order.Token.{Token}
 use Rattle.sql_rules_check.specs.inside.Kids.{past}
-use Rattle.sql_rules_check.specs.inside.Words.{Nest, Word, begins_inner, clash, clause_words, entered, is_inner, same_word, standing_in, visited, word_at, word_of, words_from}
-use Rattle.sql_rules_check.proofs.WordTrees.{clause-stops, words-stop}
+use Rattle.sql_rules_check.specs.inside.Words.{Nest, Word, begins_inner, chosen_words, clash, clause_at, clause_words, entered, is_inner, same_word, standing_in, visited, word_at, word_of, words_from}
+use Rattle.sql_rules_check.proofs.Kids.{kids-end, kids-turn}
+use Rattle.sql_rules_check.proofs.WordTrees.{words-stop}
 
 -- the innermost open node
 pub last-stands : (os : List (Opened Standing)) (o : Opened Standing) → slice_get os (length os - 1) ≡ Some o
@@ -46,62 +47,21 @@ words-end σ e p nodes own all h held =
 
 -- ---- the clause
 
-module _ (chosen : FlatKind → Bool) where
-  reached : (e u w i : ℕ) (xs : List FlatNode) → u ≤ i → w ≤ i
-      → clause_words chosen e u i xs ≡ clause_words chosen e w i xs
-  reached e u w i [] h g = refl
-  reached e u w i (x ∷ xs) h g = rw (le-ltb i u h, le-ltb i w g) refl
-
-  jumps : (k e u i : ℕ) (xs : List FlatNode) → i + k ≡ u
-      → clause_words chosen e u i xs ≡ clause_words chosen e u u (drop k xs)
-  jumps zero e u i xs h = ap (λ j. clause_words chosen e u j xs) (omega arith)
-  jumps (suc k) e u i [] h = ap (clause_words chosen e u u) (sym (drop_all (suc k) [] (omega arith)))
-  jumps (suc k) e u i (x ∷ xs) h =
-      rw (lt-ltb i u (omega arith)) (by_test (ltb i e) refl (jumps k e u (i + 1) xs (omega arith)))
-    where
-      by_test : (b : Bool) → ltb i e ≡ b → clause_words chosen e u (i + 1) xs ≡ clause_words chosen e u u (drop k xs)
-          → cond b (clause_words chosen e u (i + 1) xs) [] ≡ clause_words chosen e u u (drop k xs)
-      by_test true q g = g
-      by_test false q g = sym (clause-stops chosen e u u (drop k xs) (omega (arith, ltb-false i e q)))
-
-  module _ (e p : ℕ) (nodes : List FlatNode) (x : FlatNode) (h : p < e) (g : p < length nodes) (is : x ≡ get_or nodes p x) where
-    turn : clause_words chosen e p p (drop p nodes)
-        ≡ cond (chosen x.kind) (words_from [] x.end (p + 1) (drop (p + 1) nodes))
-        (clause_words chosen e x.end (p + 1) (drop (p + 1) nodes))
-    turn =
-        ap (clause_words chosen e p p) (drop_more nodes p x g ∙ ap (λ y. y ∷ drop (p + 1) nodes) (sym is))
-        ∙ rw (lt-ltb p e h, le-ltb p p (omega arith)) refl
+module _ (chosen : FlatKind → Bool) (e p : ℕ) (nodes : List FlatNode) where
+  module _ (x : FlatNode) (h : p < e) (g : p < length nodes) (is : x ≡ get_or nodes p x) where
+    turn : clause_words chosen e p nodes
+        ≡ cond (chosen x.kind) (words_from [] x.end (p + 1) (drop (p + 1) nodes)) (clause_words chosen e (past p x) nodes)
+    turn = ap (chosen_words chosen) (kids-turn clause_at e p nodes x h g is)
 
     pub clause-here : chosen x.kind ≡ true
-        → words_from [] x.end (p + 1) (drop (p + 1) nodes) ≡ clause_words chosen e p p (drop p nodes)
-    clause-here q =
-        sym (turn ∙ ap (λ b. cond b (words_from [] x.end (p + 1) (drop (p + 1) nodes))
-        (clause_words chosen e x.end (p + 1) (drop (p + 1) nodes))) q)
+        → words_from [] x.end (p + 1) (drop (p + 1) nodes) ≡ clause_words chosen e p nodes
+    clause-here q = sym (turn ∙ rw q refl)
 
-    jump : (b : Bool) → ltb p x.end ≡ b
-        → clause_words chosen e x.end (p + 1) (drop (p + 1) nodes)
-        ≡ clause_words chosen e (if b then x.end else p + 1) (if b then x.end else p + 1)
-        (drop (if b then x.end else p + 1) nodes)
-    jump true q =
-        let l : p < x.end = ltb-true p x.end q in
-        jumps (x.end - (p + 1)) e x.end (p + 1) (drop (p + 1) nodes) (omega arith)
-        ∙ ap (clause_words chosen e x.end x.end)
-        (drop-drop (x.end - (p + 1)) (p + 1) nodes ∙ ap (λ m. drop m nodes) (omega arith))
-    jump false q =
-        reached e x.end (p + 1) (p + 1) (drop (p + 1) nodes) (omega (arith, ltb-false p x.end q)) (omega arith)
+    pub clause-behind : chosen x.kind ≡ false → clause_words chosen e (past p x) nodes ≡ clause_words chosen e p nodes
+    clause-behind q = sym (turn ∙ rw q refl)
 
-    pub clause-behind : chosen x.kind ≡ false
-        → clause_words chosen e (past p x) (past p x) (drop (past p x) nodes)
-        ≡ clause_words chosen e p p (drop p nodes)
-    clause-behind q =
-        sym (turn ∙ ap (λ b. cond b (words_from [] x.end (p + 1) (drop (p + 1) nodes))
-        (clause_words chosen e x.end (p + 1) (drop (p + 1) nodes))) q
-        ∙ jump (ltb p x.end) refl)
-
-  pub no-clause-left : (e p : ℕ) (nodes : List FlatNode) → (e ≤ p) ⊎ (length nodes ≤ p)
-      → [] ≡ clause_words chosen e p p (drop p nodes)
-  no-clause-left e p nodes (inl h) = sym (clause-stops chosen e p p (drop p nodes) h)
-  no-clause-left e p nodes (inr h) = sym (ap (clause_words chosen e p p) (drop_all p nodes h))
+  pub no-clause-left : (e ≤ p) ⊎ (length nodes ≤ p) → [] ≡ clause_words chosen e p nodes
+  no-clause-left h = sym (ap (chosen_words chosen) (kids-end clause_at e p nodes h))
 
 -- ---- two lists of words
 

@@ -222,7 +222,7 @@ fn clause_words<'s>(
     end: usize,
 ) -> Result<Vec<Token<'s>>, NoMemory>
     ensures { IfOk result (λ v. map word_of v.items
-        ≡ words_of_clause (kind_is_clause clause) end from from (drop from nodes.now)) }
+        ≡ words_of_clause (kind_is_clause clause) end from nodes.now) }
 {
     let mut index = from;
     while index < end && index < nodes.len() {
