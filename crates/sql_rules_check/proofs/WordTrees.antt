@@ -75,9 +75,12 @@ words-kids n ts rest =
 
 -- ---- the children of a select statement
 
+same-clause : (n : ℕ) (k : FlatKind) (ts : Roses FlatKind) (rest : List FlatNode)
+    → clause_at n (flat_node k (n + suc (sizes ts))) (flats flat_node (n + 1) ts rest) ≡ clause_of k ts
+same-clause n k ts rest = λ i. (k, words-kids n ts rest i)
+
 pub same-test : (n : ℕ) (k : FlatKind) (ts : Roses FlatKind) (rest : List FlatNode)
     → disordered_at n (flat_node k (n + suc (sizes ts))) (flats flat_node (n + 1) ts rest) ≡ disordered k ts
 same-test n k ts rest =
-    let same = λ m j us behind. (λ i. (j, words-kids m us behind i)) in
-    let ps = kids-below clause_at clause_of same n k ts rest in
+    let ps = kids-below clause_at clause_of same-clause n k ts rest in
     λ i. disordered_by k (chosen_words is_distinct_on (ps i)) (chosen_words is_order_by (ps i))
