@@ -61,7 +61,11 @@ fn order_part(alloc: Global, end: usize, done: &mut Vec<Finished<Part>>) -> Resu
     Ok(Part::OrderBy(SqlList::from(items)))
 }
 
-fn positions_part(alloc: Global, end: usize, done: &mut Vec<Finished<Part>>) -> Result<Part, NoMemory>
+fn positions_part(
+    alloc: Global,
+    end: usize,
+    done: &mut Vec<Finished<Part>>,
+) -> Result<Part, NoMemory>
     ensures part { IfOk result (λ p. part_of p ≡ over K.Positions (split end done.old.items).0) }
     ensures left { OnOk result (stack done.new.items ≡ (split end done.old.items).1) }
 {
@@ -110,7 +114,12 @@ fn part_over(
     }
 }
 
-fn put(alloc: Global, index: usize, node: &FlatNode, done: &mut Vec<Finished<Part>>) -> Result<(), NoMemory>
+fn put(
+    alloc: Global,
+    index: usize,
+    node: &FlatNode,
+    done: &mut Vec<Finished<Part>>,
+) -> Result<(), NoMemory>
     ensures { OnOk result (stack done.new.items
         ≡ put_at index node.now.kind (split node.now.end done.old.items)) }
 {

@@ -114,7 +114,11 @@ pub(crate) fn take_positions(
 }
 
 /// Takes all, and gives the clauses.
-pub(crate) fn take_clauses(done: &mut Vec<Finished<Part>>, end: usize, unique: Uniqueness) -> Clauses
+pub(crate) fn take_clauses(
+    done: &mut Vec<Finished<Part>>,
+    end: usize,
+    unique: Uniqueness,
+) -> Clauses
     ensures clauses { clauses_of result
         ≡ put_clauses (no_clauses unique) (split end done.old.items).0 }
     ensures left { stack done.new.items ≡ (split end done.old.items).1 }

@@ -29,8 +29,10 @@ pub fn take<T>(trees: &mut Vec<Finished<T>>, end: usize) -> Option<T>
         × (before end (finished trees.old.items) ≡ ([], finished trees.old.items)))
         (λ v. (length trees.new.items < length trees.old.items)
         × (before end (finished trees.old.items)
-        ≡ (v ∷ (before end (finished trees.new.items)).0,
-        (before end (finished trees.new.items)).1))) }
+        ≡ (
+          v ∷ (before end (finished trees.new.items)).0,
+          (before end (finished trees.new.items)).1,
+        ))) }
 {
     let begins = match trees.last() {
         None => false,

@@ -96,7 +96,11 @@ fn add<'s>(held: &Held<'s>, all: &mut Held<'s>) -> Result<(), NoMemory>
 }
 
 /// Takes all, and gives what they hold together. What the first holds is not copied.
-fn gather<'s>(alloc: Global, parts: &mut Vec<Finished<Held<'s>>>, end: usize) -> Result<Held<'s>, NoMemory>
+fn gather<'s>(
+    alloc: Global,
+    parts: &mut Vec<Finished<Held<'s>>>,
+    end: usize,
+) -> Result<Held<'s>, NoMemory>
     ensures leaves { IfOk result (λ h. (held_of h).leaves
         ≡ all_leaves (parted end parts.old.items).0) }
     ensures bare { IfOk result (λ h. (held_of h).bare ≡ all_bare (parted end parts.old.items).0) }

@@ -78,7 +78,11 @@ pub(crate) fn list_types(
 }
 
 /// The type of a list of values, where each fits.
-pub(crate) fn values_type(ty: SqlType, done: &mut Vec<Finished<Given>>, end: usize) -> Option<SqlType>
+pub(crate) fn values_type(
+    ty: SqlType,
+    done: &mut Vec<Finished<Given>>,
+    end: usize,
+) -> Option<SqlType>
     ensures value { result ≡ where_all (Some ty) (split end done.old.items).0 }
     ensures left { (split end done.new.items).1 ≡ (split end done.old.items).1 }
 {
