@@ -11,7 +11,7 @@
 //! 1  Column "users"."id"  "users"."id", FROM "users", WHERE ..
 //! 0  Select               the statement
 //! ```
-#![tactic(auto, using(crate::proofs::Stacking::stacking))]
+#![tactic(auto, using(sql_flat_law::proofs::Finishing::finished_push))]
 
 ghost use Rattle.std.specs.Prelude.{◌≡◌, IfOk, OnOk, option_map};
 ghost use Rattle.sql_node.specs.View.{statement_tree};

@@ -1,5 +1,5 @@
 //! The stack of the loop from the last node to the first: what the trees stand for that begin behind.
-#![tactic(auto, using(crate::proofs::Stacking::stacking))]
+#![tactic(auto, using(sql_flat_law::proofs::Finishing::finished_push))]
 
 ghost use Rattle.std.specs.Prelude.{◌≡◌, ◌<◌, [], ◌∷◌, IfOk, OnOk, MatchOption, length, map};
 ghost use Rattle.sql_node.specs.View.{expr_tree, order_item_tree};

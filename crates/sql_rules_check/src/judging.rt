@@ -1,5 +1,5 @@
 //! The type of a node by the types of its children, and whether the node is ill-typed or a list without elements.
-#![tactic(auto, using(crate::proofs::Stacking::stacking))]
+#![tactic(auto, using(sql_flat_law::proofs::Finishing::finished_push))]
 
 ghost use Rattle.std.specs.Prelude.{◌≡◌, IfOk, OnOk};
 ghost use Rattle.sql_flat.specs.declared.kind.FlatKind.TheVariants as K;

@@ -12,7 +12,7 @@
 //! 1  Column "posts"."id"  the column, users posts?
 //! 0  Select               finds that the column's row may be lacking
 //! ```
-#![tactic(auto, using(crate::proofs::PaddingStacking::padding))]
+#![tactic(auto, using(sql_flat_law::proofs::Finishing::finished_push))]
 
 ghost use Rattle.std.specs.Prelude.{◌≡◌, ◌<◌, ◌++◌, [], ◌∷◌, ◌&&◌, IfOk, OnOk, MatchOption, length, map};
 ghost use Rattle.std.specs.Bool.{Decides};

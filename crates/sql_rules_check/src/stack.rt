@@ -1,6 +1,6 @@
 //! The stack of the loop over types, which goes from the last node to the first: what the trees have that begin further
 //! on.
-#![tactic(auto, using(crate::proofs::Stacking::stacking))]
+#![tactic(auto, using(sql_flat_law::proofs::Finishing::finished_push))]
 
 ghost use Rattle.std.specs.Prelude.{◌≡◌, ◌<◌, [], ◌∷◌, IfOk, OnOk, MatchOption, Some, length};
 ghost use Rattle.sql_rules.specs.Types.{only_type};

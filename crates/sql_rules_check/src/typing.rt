@@ -12,7 +12,7 @@
 //! 1  Column "users"."id"  Integer, -, -
 //! 0  Select               (Integer): the types of its columns
 //! ```
-#![tactic(auto, using(crate::proofs::Stacking::stacking))]
+#![tactic(auto, using(sql_flat_law::proofs::Finishing::finished_push))]
 
 ghost use Rattle.std.specs.Prelude.{◌≡◌, [], ◌∷◌, ◌||◌, IfOk, OnOk};
 ghost use Rattle.std.specs.Bool.{Decides};
@@ -126,7 +126,7 @@ pub(crate) fn types_of_flat(alloc: Global, flat: &Flat) -> Result<Typed, NoMemor
 
 /// Whether the expression whose nodes these are is a condition: whether its type is Bool, nullable or not. Of `("users"."id" = $1)` it
 /// is. One pass over the nodes. Fails only for memory.
-#[tactic(auto, using(crate::proofs::Stacking::stacking))]
+#[tactic(auto, using(sql_flat_law::proofs::Finishing::finished_push))]
 pub fn is_condition_of(alloc: Global, nodes: &[FlatNode]) -> Result<bool, NoMemory>
     ensures { (e : Expr) → nodes.now ≡ flat flat_node 0 (expr_rose e) []
         → IfOk result (λ b. Decides b (IsBool (type_of e))) }
