@@ -1,4 +1,18 @@
 //! Statements as flat lists of nodes; `sql_flat_back` reads them back.
+//!
+//! Each node stands before its children and shows the index after its last descendant. The list of
+//! `SELECT "users"."id" FROM "users" WHERE ("users"."id" = $1)`, which the loops above show their steps on:
+//!
+//! ```text
+//! 0  Select                    ends at 8
+//! 1    Column "users"."id"     ends at 2
+//! 2    From                    ends at 4
+//! 3      Table "users"         ends at 4
+//! 4    Where                   ends at 8
+//! 5      Compared =            ends at 8
+//! 6        Column "users"."id" ends at 7
+//! 7        Value 1             ends at 8
+//! ```
 #![tactic(auto)]
 
 mod building;

@@ -1,5 +1,17 @@
-//! The statement of a flat list, by one loop from the last node to the first.
-#![tactic(auto, using(crate::proofs::Stacking::stacking))]
+//! The statement of a flat list, by one loop from the last node to the first. Each node takes the parts that its children
+//! stand for from the stack (`sql_flat_law`), and puts its own. Of the list that `sql_flat` shows, from the top on:
+//!
+//! ```text
+//! 7  Value 1              $1
+//! 6  Column "users"."id"  "users"."id", $1
+//! 5  Compared =           ("users"."id" = $1)
+//! 4  Where                WHERE ("users"."id" = $1)
+//! 3  Table "users"        "users", WHERE ..
+//! 2  From                 FROM "users", WHERE ..
+//! 1  Column "users"."id"  "users"."id", FROM "users", WHERE ..
+//! 0  Select               the statement
+//! ```
+#![tactic(auto, using(sql_flat_law::proofs::Finishing::finished_push))]
 
 ghost use Rattle.std.specs.Prelude.{◌≡◌, IfOk, OnOk, option_map};
 ghost use Rattle.sql_node.specs.View.{statement_tree};
@@ -11,15 +23,16 @@ ghost use Rattle.sql_flat_back.specs.inside.Stacks.{part_of, put_at, split, stac
 use crate::over::part_over_few;
 use crate::part::Part;
 use crate::stack::{
-    Done, leave, next, take_clauses, take_exprs, take_items, take_positions, take_values,
+    leave, next, take_clauses, take_exprs, take_items, take_positions, take_values,
 };
 use sql_flat::{FlatKind, FlatNode};
+use sql_flat_law::Finished;
 use sql_node::{Expr, Statement};
 use sql_schema::{NoMemory, SqlList, SqlType};
 use std::alloc::Global;
 
 #[tactic(auto, using(sql_node::proofs::Trees::opens_expr))]
-fn list_part(alloc: Global, end: usize, done: &mut Vec<Done>) -> Result<Part, NoMemory>
+fn list_part(alloc: Global, end: usize, done: &mut Vec<Finished<Part>>) -> Result<Part, NoMemory>
     ensures part { IfOk result (λ p. part_of p ≡ over K.List (split end done.old.items).0) }
     ensures left { OnOk result (stack done.new.items ≡ (split end done.old.items).1) }
 {
@@ -31,7 +44,7 @@ fn values_part(
     alloc: Global,
     ty: SqlType,
     end: usize,
-    done: &mut Vec<Done>,
+    done: &mut Vec<Finished<Part>>,
 ) -> Result<Part, NoMemory>
     ensures part { IfOk result (λ p. part_of p ≡ over (K.Values ty) (split end done.old.items).0) }
     ensures left { OnOk result (stack done.new.items ≡ (split end done.old.items).1) }
@@ -40,7 +53,7 @@ fn values_part(
     Ok(Part::Values(ty, SqlList::from(values)))
 }
 
-fn order_part(alloc: Global, end: usize, done: &mut Vec<Done>) -> Result<Part, NoMemory>
+fn order_part(alloc: Global, end: usize, done: &mut Vec<Finished<Part>>) -> Result<Part, NoMemory>
     ensures part { IfOk result (λ p. part_of p ≡ over K.OrderBy (split end done.old.items).0) }
     ensures left { OnOk result (stack done.new.items ≡ (split end done.old.items).1) }
 {
@@ -48,7 +61,11 @@ fn order_part(alloc: Global, end: usize, done: &mut Vec<Done>) -> Result<Part, N
     Ok(Part::OrderBy(SqlList::from(items)))
 }
 
-fn positions_part(alloc: Global, end: usize, done: &mut Vec<Done>) -> Result<Part, NoMemory>
+fn positions_part(
+    alloc: Global,
+    end: usize,
+    done: &mut Vec<Finished<Part>>,
+) -> Result<Part, NoMemory>
     ensures part { IfOk result (λ p. part_of p ≡ over K.Positions (split end done.old.items).0) }
     ensures left { OnOk result (stack done.new.items ≡ (split end done.old.items).1) }
 {
@@ -61,7 +78,7 @@ fn few_part(
     alloc: Global,
     kind: &FlatKind,
     end: usize,
-    done: &mut Vec<Done>,
+    done: &mut Vec<Finished<Part>>,
 ) -> Result<Part, NoMemory>
     ensures part { IfOk result (λ p. part_of p
         ≡ over_three kind.now (split end done.old.items).0) }
@@ -79,7 +96,7 @@ fn part_over(
     alloc: Global,
     kind: &FlatKind,
     end: usize,
-    done: &mut Vec<Done>,
+    done: &mut Vec<Finished<Part>>,
 ) -> Result<Part, NoMemory>
     ensures part { IfOk result (λ p. part_of p ≡ over kind.now (split end done.old.items).0) }
     ensures left { OnOk result (stack done.new.items ≡ (split end done.old.items).1) }
@@ -97,16 +114,24 @@ fn part_over(
     }
 }
 
-fn put(alloc: Global, index: usize, node: &FlatNode, done: &mut Vec<Done>) -> Result<(), NoMemory>
+fn put(
+    alloc: Global,
+    index: usize,
+    node: &FlatNode,
+    done: &mut Vec<Finished<Part>>,
+) -> Result<(), NoMemory>
     ensures { OnOk result (stack done.new.items
         ≡ put_at index node.now.kind (split node.now.end done.old.items)) }
 {
     let part = part_over(alloc, &node.kind, node.end, done)?;
-    done.push(Done { start: index, part })?;
+    done.push(Finished {
+        start: index,
+        value: part,
+    })?;
     Ok(())
 }
 
-fn read(alloc: Global, nodes: &[FlatNode]) -> Result<Vec<Done>, NoMemory>
+fn read(alloc: Global, nodes: &[FlatNode]) -> Result<Vec<Finished<Part>>, NoMemory>
     ensures { IfOk result (λ v. stack v.items ≡ read_from 0 nodes.now) }
 {
     let mut done = Vec::new(alloc);

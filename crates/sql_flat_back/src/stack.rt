@@ -1,5 +1,5 @@
 //! The stack of the loop from the last node to the first: what the trees stand for that begin behind.
-#![tactic(auto, using(crate::proofs::Stacking::stacking))]
+#![tactic(auto, using(sql_flat_law::proofs::Finishing::finished_push))]
 
 ghost use Rattle.std.specs.Prelude.{◌≡◌, ◌<◌, [], ◌∷◌, IfOk, OnOk, MatchOption, length, map};
 ghost use Rattle.sql_node.specs.View.{expr_tree, order_item_tree};
@@ -9,21 +9,15 @@ ghost use Rattle.sql_flat_back.specs.inside.Stacks.{clauses_of, part_of, split, 
 use crate::clauses::Clauses;
 use crate::part::Part;
 use sql_flat::Uniqueness;
+use sql_flat_law::Finished;
 use sql_leaf::PositionalItem;
 use sql_node::{Expr, OrderItem};
 use sql_pass::Value;
 use sql_schema::NoMemory;
 use std::alloc::Global;
 
-/// What the tree stands for that begins there.
-#[derive(Drop)]
-pub(crate) struct Done {
-    pub(crate) start: usize,
-    pub(crate) part: Part,
-}
-
 /// Takes the next tree on the stack, where it begins before the end.
-fn take(done: &mut Vec<Done>, end: usize) -> Option<Part>
+fn take(done: &mut Vec<Finished<Part>>, end: usize) -> Option<Part>
     ensures { MatchOption result
         ((done.new.items ≡ done.old.items)
         × (split end done.old.items ≡ ([], stack done.old.items)))
@@ -31,24 +25,11 @@ fn take(done: &mut Vec<Done>, end: usize) -> Option<Part>
         × (split end done.old.items
         ≡ (part_of p ∷ (split end done.new.items).0, (split end done.new.items).1))) }
 {
-    let begins = match done.last() {
-        None => false,
-        Some(top) => top.start < end,
-    };
-    if !begins {
-        return None;
-    }
-    match done.pop() {
-        None => None,
-        Some(top) => {
-            let Done { start: _, part } = top;
-            Some(part)
-        }
-    }
+    sql_flat_law::take(done, end)
 }
 
 /// The next tree, where there is one.
-pub(crate) fn next(done: &mut Vec<Done>, end: usize) -> Part
+pub(crate) fn next(done: &mut Vec<Finished<Part>>, end: usize) -> Part
     ensures part { part_of result ≡ first (split end done.old.items).0 }
     ensures left { split end done.new.items
         ≡ (others (split end done.old.items).0, (split end done.old.items).1) }
@@ -60,16 +41,16 @@ pub(crate) fn next(done: &mut Vec<Done>, end: usize) -> Part
 }
 
 /// Takes all that begin before the end.
-pub(crate) fn leave(done: &mut Vec<Done>, end: usize)
+pub(crate) fn leave(done: &mut Vec<Finished<Part>>, end: usize)
     ensures { stack done.new.items ≡ (split end done.old.items).1 }
 {
-    while let Some(_part) = take(done, end) {}
+    sql_flat_law::leave(done, end);
 }
 
 /// Takes all, and gives the expressions.
 pub(crate) fn take_exprs(
     alloc: Global,
-    done: &mut Vec<Done>,
+    done: &mut Vec<Finished<Part>>,
     end: usize,
 ) -> Result<Vec<Expr>, NoMemory>
     ensures exprs { IfOk result (λ v. map expr_tree v.items
@@ -86,7 +67,7 @@ pub(crate) fn take_exprs(
 /// Takes all, and gives the items.
 pub(crate) fn take_items(
     alloc: Global,
-    done: &mut Vec<Done>,
+    done: &mut Vec<Finished<Part>>,
     end: usize,
 ) -> Result<Vec<OrderItem>, NoMemory>
     ensures items { IfOk result (λ v. map order_item_tree v.items
@@ -103,7 +84,7 @@ pub(crate) fn take_items(
 /// Takes all, and gives the values.
 pub(crate) fn take_values(
     alloc: Global,
-    done: &mut Vec<Done>,
+    done: &mut Vec<Finished<Part>>,
     end: usize,
 ) -> Result<Vec<Value>, NoMemory>
     ensures values { IfOk result (λ v. v.items ≡ values_in (split end done.old.items).0) }
@@ -119,7 +100,7 @@ pub(crate) fn take_values(
 /// Takes all, and gives the positions.
 pub(crate) fn take_positions(
     alloc: Global,
-    done: &mut Vec<Done>,
+    done: &mut Vec<Finished<Part>>,
     end: usize,
 ) -> Result<Vec<PositionalItem>, NoMemory>
     ensures positions { IfOk result (λ v. v.items ≡ positions_in (split end done.old.items).0) }
@@ -133,7 +114,11 @@ pub(crate) fn take_positions(
 }
 
 /// Takes all, and gives the clauses.
-pub(crate) fn take_clauses(done: &mut Vec<Done>, end: usize, unique: Uniqueness) -> Clauses
+pub(crate) fn take_clauses(
+    done: &mut Vec<Finished<Part>>,
+    end: usize,
+    unique: Uniqueness,
+) -> Clauses
     ensures clauses { clauses_of result
         ≡ put_clauses (no_clauses unique) (split end done.old.items).0 }
     ensures left { stack done.new.items ≡ (split end done.old.items).1 }

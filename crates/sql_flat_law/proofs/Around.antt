@@ -2,15 +2,13 @@
 use Rattle.std.proofs.Common.{◌≡◌, ℕ, suc, ◌+◌, ◌<◌, ◌≤◌, true, false, Bool, List, [], ◌∷◌, ◌++◌, refl, sym, ap, ◌∙◌, arith, append_assoc, append-nil}
 use Rattle.sql_flat_law.specs.Rose.{Rose, node, Roses, none, more, size, sizes, flat, flats}
 use Rattle.sql_flat_law.specs.Around as loop
+use Rattle.sql_flat_law.specs.Opened.{still_open}
 use Rattle.sql_flat_law.specs.Folds.{Site, sites, sites_of}
 use Rattle.std.proofs.lemmas.Bool.{lt-ltb, le-ltb}
 
 module _ {V K N : Type 0} (make : K → ℕ → N) (kind : N → K) (end : N → ℕ) (outer : V) (keeps : K → Bool) (reads : V → ℕ → N → List N → V) where
   abbrev Open : Type 0
   Open = loop.Open kind end outer keeps reads
-
-  abbrev opened : ℕ → Open → Open
-  opened = loop.opened kind end outer keeps reads
 
   abbrev top : Open → V
   top = loop.top kind end outer keeps reads
@@ -29,7 +27,7 @@ module _ {V K N : Type 0} (make : K → ℕ → N) (kind : N → K) (end : N →
   Covers e [] = Unit {0}
   Covers e (p ∷ σ) = e ≤ p.0 × Covers e σ
 
-  covers-opened : (e i : ℕ) (σ : Open) → Covers e σ → i < e → opened i σ ≡ σ
+  covers-opened : (e i : ℕ) (σ : Open) → Covers e σ → i < e → still_open i σ ≡ σ
   covers-opened e i [] c h = refl
   covers-opened e i (p ∷ σ) c h = rw (lt-ltb i p.0 (omega arith)) refl
 
@@ -37,7 +35,7 @@ module _ {V K N : Type 0} (make : K → ℕ → N) (kind : N → K) (end : N →
   covers-less e d [] c h = tt
   covers-less e d (p ∷ σ) c h = (omega arith, covers-less e d σ c.1 h)
 
-  same-opened : (i : ℕ) (xs : List N) (σ τ : Open) → opened i σ ≡ opened i τ → walk σ i xs ≡ walk τ i xs
+  same-opened : (i : ℕ) (xs : List N) (σ τ : Open) → still_open i σ ≡ still_open i τ → walk σ i xs ≡ walk τ i xs
   same-opened i [] σ τ h = refl
   same-opened i (x ∷ xs) σ τ h = ap (visit i x xs (λ τ. walk τ (i + 1) xs)) h
 

@@ -2,18 +2,13 @@
 use Rattle.std.proofs.Common.{◌≡◌, ℕ, ◌+◌, true, false, Bool, cond, List, [], ◌∷◌, map, refl, ap, ◌∙◌, ltb}
 use Rattle.sql_flat_law.specs.Rose.{Rose, none, flat}
 use Rattle.sql_flat_law.specs.Backward as loop
+use Rattle.sql_flat_law.specs.Finished.{before, first}
 use Rattle.sql_flat_law.specs.Folds.{folded, folded_each}
 use Rattle.sql_flat_law.proofs.Unflat.{Stack, with, until, fold, flat-law}
 
 module _ {K N A : Type 0} (make : K → ℕ → N) (kind : N → K) (end : N → ℕ) (over : K → List A → A) where
   abbrev Given : Type 0
   Given = loop.Given kind end over
-
-  abbrev first : A → List A × Given → List A × Given
-  first = loop.first kind end over
-
-  abbrev before : ℕ → Given → List A × Given
-  before = loop.before kind end over
 
   abbrev put : ℕ → K → List A × Given → Given
   put = loop.put kind end over

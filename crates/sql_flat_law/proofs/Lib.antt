@@ -5,3 +5,5 @@ pub mod Around
 pub mod Backward
 pub mod Forward
 pub mod Telling
+pub mod Finishing
+pub mod Opening

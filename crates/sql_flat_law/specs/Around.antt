@@ -1,7 +1,7 @@
 -- A loop over the nodes from the first to the last, with a stack of what is known within the nodes that are open.
-use Rattle.std.specs.Prelude.{ℕ, ◌+◌, true, false, Bool, cond, List, [], ◌∷◌}
-use Rattle.std.proofs.Common.{ltb}
+use Rattle.std.specs.Prelude.{ℕ, ◌+◌, true, false, Bool, List, [], ◌∷◌}
 use Rattle.sql_flat_law.specs.Folds.{Site}
+use Rattle.sql_flat_law.specs.Opened.{innermost, still_open}
 
 -- `outer` is known around the whole; `reads` finds in the list what is known within a node; a node that keeps what is known
 -- around it is not put on the stack
@@ -10,14 +10,8 @@ module _ {V K N : Type 0} (kind : N → K) (end : N → ℕ) (outer : V) (keeps 
   abbrev pub Open : Type 0
   Open = List (ℕ × V)
 
-  -- those that are open still at the index i
-  abbrev pub opened : ℕ → Open → Open
-  opened i [] = []
-  opened i (p ∷ σ) = cond (ltb i p.0) (p ∷ σ) (opened i σ)
-
   abbrev pub top : Open → V
-  top [] = outer
-  top (p ∷ σ) = p.1
+  top = innermost outer
 
   abbrev pub entered : Bool → ℕ → V → Open → Open
   entered true e v σ = σ
@@ -31,4 +25,4 @@ module _ {V K N : Type 0} (kind : N → K) (end : N → ℕ) (outer : V) (keeps 
   -- the sites of the nodes from the index i on
   abbrev pub walk : Open → ℕ → List N → List (Site V K)
   walk σ i [] = []
-  walk σ i (x ∷ xs) = visit i x xs (λ τ. walk τ (i + 1) xs) (opened i σ)
+  walk σ i (x ∷ xs) = visit i x xs (λ τ. walk τ (i + 1) xs) (still_open i σ)

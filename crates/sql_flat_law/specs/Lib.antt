@@ -6,6 +6,10 @@ pub mod Building
 pub mod Folds
 -- What is written of a tree.
 pub mod Told
+-- The stacks of loops.
+pub mod Finished
+pub mod Opened
+pub mod Seen
 -- What loops over the flat list of a tree do, turn by turn.
 pub mod Backward
 pub mod Around

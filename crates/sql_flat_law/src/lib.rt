@@ -4,9 +4,12 @@
 //! gives is said here, once for all trees: definitions and laws alone.
 #![tactic(auto)]
 
+mod finished;
 mod laws;
 mod loops;
+mod opened;
 
+pub use finished::{Finished, leave, take};
 pub use laws::{
     lists_of_maps_are_maps_of_lists, one_list_has_one_tree, tests_of_maps_are_tests_before,
 };
@@ -14,3 +17,4 @@ pub use loops::{
     backward_loops_fold, forward_loops_gather, loops_with_a_stack_know_what_is_around,
     writing_loops_tell,
 };
+pub use opened::{Opened, close};

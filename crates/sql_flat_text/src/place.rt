@@ -1,4 +1,18 @@
-//! Where the loop stands.
+//! Where the loop stands: at a node, with a stack of the open nodes, each with how many of its children were begun.
+//!
+//! Of the list that `sql_flat` shows, what is written at each step, and the open nodes, the innermost first:
+//!
+//! ```text
+//! 0  Select     SELECT                  Select
+//! 1  Column     "users"."id"            Select      written whole
+//! 2  From        FROM                   From Select
+//! 3  Table      "users"                 From Select written whole
+//! 4  Where      closes From;  WHERE     Where Select
+//! 5  Compared   (                       Compared Where Select
+//! 6  Column     "users"."id"            Compared Where Select
+//! 7  Value       = $1                   Compared Where Select
+//! 8  the end    closes all: )
+//! ```
 #![tactic(auto, using(crate::proofs::Pouring::pouring, crate::proofs::Framing::framing))]
 
 ghost use Rattle.std.specs.Prelude.{◌≡◌, [], ◌++◌, ◌+◌, ◌-◌, ◌*◌, ◌<◌, ◌≤◌, ◌^◌, None, true, false, IsTrue, OnOk, drop, is_some, length, map, take};

@@ -273,7 +273,11 @@ module _ (e : Expr) (f : From) (w : MaybeExpr) (o : Order) (g h : MaybeExpr) whe
   ordered-words : (d : Expr) → first_words is_order_by (select_roses e f (distinct_on d) w o g h)
       ≡ all (element_words 0) (ordered o)
   ordered-words d =
-      no-order-node e _ ∙ behind-from f _ ∙ behind-where w _ ∙ behind-group g _ ∙ behind-having h _ ∙ order-words o
+      let having = maybe_roses K.Having h (order_roses o) in
+      let groups = maybe_roses K.GroupBy g having in
+      let conditions = maybe_roses K.Where w groups in
+      no-order-node e (from_roses f conditions) ∙ behind-from f conditions ∙ behind-where w groups
+      ∙ behind-group g having ∙ behind-having h (order_roses o) ∙ order-words o
 
   abbrev clashes : Distinct → Bool
   clashes u =

@@ -35,7 +35,6 @@ pub mod Selected
 pub mod SelectedPlaces
 pub mod Selections
 pub mod SourceLeaves
-pub mod Stacking
 pub mod Tested
 pub mod TypesGiven
 pub mod UnknownNames

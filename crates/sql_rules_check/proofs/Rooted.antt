@@ -9,7 +9,8 @@ use Rattle.sql_rules.specs.Rules.{IsBool}
 use Rattle.sql_rules.specs.Types.{many, columns, given, only_type, type_of}
 use Rattle.sql_flat.specs.Flat.{expr_rose, flat_node, flat_of, rose}
 use Rattle.sql_flat.specs.declared.kind.FlatNode.{FlatNode}
-use Rattle.sql_rules_check.specs.declared.stack.Done.{Done}
+use Rattle.sql_flat_law.specs.declared.finished.Finished.{Finished}
+use Rattle.sql_rules_check.specs.declared.given.Given as g
 use Rattle.sql_rules_check.specs.inside.Lists.{kind_of, end_of, typed_from}
 use Rattle.sql_rules_check.specs.inside.Stacks.{split, stack}
 use Rattle.sql_rules_check.specs.inside.Typing.{first, is_condition, typing}
@@ -22,20 +23,20 @@ all-typed s =
     ∙ ap (λ g. (0, g) ∷ []) (statement-typed s)
 
 -- the one that is left on the stack
-pub root : (s : Statement) (nodes : List FlatNode) (ds : List Done) → nodes ≡ flat_of s → stack ds ≡ typed_from 0 nodes
+pub root : (s : Statement) (nodes : List FlatNode) (ds : List (Finished g.Given)) → nodes ≡ flat_of s → stack ds ≡ typed_from 0 nodes
     → first (split 1 ds).0 ≡ many (columns s)
 root s nodes ds h g = rw (g, h, all-typed s) refl
 
 -- ---- the same of an expression
 
-expr-root : (e : Expr) (nodes : List FlatNode) (ds : List Done) → nodes ≡ flat flat_node 0 (expr_rose e) []
+expr-root : (e : Expr) (nodes : List FlatNode) (ds : List (Finished g.Given)) → nodes ≡ flat flat_node 0 (expr_rose e) []
     → stack ds ≡ typed_from 0 nodes → first (split 1 ds).0 ≡ given e
 expr-root e nodes ds h g =
     let all : typed_from 0 (flat flat_node 0 (expr_rose e) []) ≡ (0, given e) ∷ [] =
     run-flat flat_node kind_of end_of typing (λ _ _. refl) (λ _ _. refl) (expr_rose e)
     ∙ ap (λ g. (0, g) ∷ []) (expr-typed e) in rw (g, h, all) refl
 
-pub condition-root : (e : Expr) (nodes : List FlatNode) (ds : List Done) (b : Bool)
+pub condition-root : (e : Expr) (nodes : List FlatNode) (ds : List (Finished g.Given)) (b : Bool)
     → nodes ≡ flat flat_node 0 (expr_rose e) [] → stack ds ≡ typed_from 0 nodes
     → b ≡ is_condition (only_type (first (split 1 ds).0)) → Decides b (IsBool (type_of e))
 condition-root e nodes ds b h g is =

@@ -4,8 +4,10 @@ use Rattle.std.specs.List.{list_any}
 use Rattle.std.proofs.lemmas.List.Folds.{list_any-append}
 use Rattle.sql_flat_law.specs.Rose.{Rose, node, Roses, none, more, flat}
 use Rattle.sql_flat_law.specs.Backward as loop
+use Rattle.sql_flat_law.specs.Finished.{before, first}
 use Rattle.sql_flat_law.specs.Folds.{folded, folded_each, sites, sites_of}
 use Rattle.sql_flat_law.proofs.Backward.{run-flat}
+use Rattle.sql_flat_law.proofs.Finishing.{seen-before}
 use Rattle.sql_flat.specs.declared.kind.FlatKind.{FlatKind}
 use Rattle.sql_rules_check.specs.inside.Known.{Known, known_below}
 use Rattle.sql_rules_check.specs.inside.Tested as tested
@@ -54,46 +56,32 @@ module _ {K A : Type 0} (over : K → List A → A) (test : K → List A → Boo
     flag p = p.1.1
 
     before-forget : (e : ℕ) (σ : Both)
-        → (map (λ p. p.0) (loop.before kind end both e σ).0, map forget (loop.before kind end both e σ).1)
-        ≡ loop.before kind end over e (map forget σ)
-    before-forget e [] = refl
-    before-forget e (p ∷ σ) = by_test (ltb p.0 e) (before-forget e σ)
-      where
-        by_test : (b : Bool)
-            → (map (λ p. p.0) (loop.before kind end both e σ).0, map forget (loop.before kind end both e σ).1)
-            ≡ loop.before kind end over e (map forget σ)
-            → (
-              map (λ p. p.0) (cond b (loop.first kind end both p.1 (loop.before kind end both e σ)) ([], p ∷ σ)).0,
-              map forget (cond b (loop.first kind end both p.1 (loop.before kind end both e σ)) ([], p ∷ σ)).1,
-            )
-            ≡ cond b (loop.first kind end over p.1.0 (loop.before kind end over e (map forget σ)))
-            ([], forget p ∷ map forget σ)
-        by_test true h = ap (loop.first kind end over p.1.0) h
-        by_test false h = refl
+        → (map (λ p. p.0) (before e σ).0, map forget (before e σ).1) ≡ before e (map forget σ)
+    before-forget e σ = sym (seen-before (λ p. p.0) e σ)
 
     run-forget : (i : ℕ) (xs : List N)
         → map forget (loop.run kind end both i xs) ≡ loop.run kind end over i xs
     run-forget i [] = refl
     run-forget i (x ∷ xs) =
         ap (loop.put kind end over i (kind x)) (before-forget (end x) (loop.run kind end both (i + 1) xs))
-        ∙ ap (λ σ. loop.put kind end over i (kind x) (loop.before kind end over (end x) σ)) (run-forget (i + 1) xs)
+        ∙ ap (λ σ. loop.put kind end over i (kind x) (before (end x) σ)) (run-forget (i + 1) xs)
 
     flags-split : (e : ℕ) (σ : Both)
         → list_any flag σ
-        ≡ (list_any (λ p. p.1) (loop.before kind end both e σ).0 || list_any flag (loop.before kind end both e σ).1)
+        ≡ (list_any (λ p. p.1) (before e σ).0 || list_any flag (before e σ).1)
     flags-split e [] = refl
     flags-split e (p ∷ σ) = by_test (ltb p.0 e) (flags-split e σ)
       where
         by_test : (b : Bool)
             → list_any flag σ
-            ≡ (list_any (λ p. p.1) (loop.before kind end both e σ).0 || list_any flag (loop.before kind end both e σ).1)
+            ≡ (list_any (λ p. p.1) (before e σ).0 || list_any flag (before e σ).1)
             → (flag p || list_any flag σ)
-            ≡ (list_any (λ p. p.1) (cond b (loop.first kind end both p.1 (loop.before kind end both e σ)) ([], p ∷ σ)).0
-            || list_any flag (cond b (loop.first kind end both p.1 (loop.before kind end both e σ)) ([], p ∷ σ)).1)
+            ≡ (list_any (λ p. p.1) (cond b (first p.1 (before e σ)) ([], p ∷ σ)).0
+            || list_any flag (cond b (first p.1 (before e σ)) ([], p ∷ σ)).1)
         by_test true h =
             ap (λ b. flag p || b) h
-            ∙ sym (or-assoc (flag p) (list_any (λ p. p.1) (loop.before kind end both e σ).0)
-            (list_any flag (loop.before kind end both e σ).1))
+            ∙ sym (or-assoc (flag p) (list_any (λ p. p.1) (before e σ).0)
+            (list_any flag (before e σ).1))
         by_test false h = refl
 
     run-flags : (i : ℕ) (xs : List N)
@@ -101,10 +89,10 @@ module _ {K A : Type 0} (over : K → List A → A) (test : K → List A → Boo
     run-flags i [] = refl
     run-flags i (x ∷ xs) =
         let σ = loop.run kind end both (i + 1) xs in
-        let inner = loop.before kind end both (end x) σ in
-        let outer = loop.before kind end over (end x) (loop.run kind end over (i + 1) xs) in
+        let inner = before (end x) σ in
+        let outer = before (end x) (loop.run kind end over (i + 1) xs) in
         let given : map (λ p. p.0) inner.0 ≡ outer.0 =
-        ap (λ p. p.0) (before-forget (end x) σ ∙ ap (loop.before kind end over (end x)) (run-forget (i + 1) xs)) in
+        ap (λ p. p.0) (before-forget (end x) σ ∙ ap (before (end x)) (run-forget (i + 1) xs)) in
         or-assoc (test (kind x) (map (λ p. p.0) inner.0)) (list_any (λ p. p.1) inner.0) (list_any flag inner.1)
         ∙ ap (λ b. test (kind x) (map (λ p. p.0) inner.0) || b) (sym (flags-split (end x) σ) ∙ run-flags (i + 1) xs)
         ∙ ap (λ gs. test (kind x) gs || tested.any_from over test kind end (i + 1) xs) given

@@ -2,7 +2,8 @@
 use Rattle.std.proofs.Common.{◌≡◌, ℕ, ◌+◌, List, [], ◌∷◌, ◌++◌, Bool, true, false, ◌&&◌, cond, ltb, map, refl}
 use Rattle.std.proofs.lemmas.Bool.{and_left, and_right, or_from, or_parts, true≢false}
 use Rattle.sql_leaf.specs.declared.table_source.JoinKind.TheVariants.{Inner, LeftOuter}
-use Rattle.sql_flat_law.specs.Backward.{before, first, run}
+use Rattle.sql_flat_law.specs.Backward.{run}
+use Rattle.sql_flat_law.specs.Finished.{before, first}
 use Rattle.sql_node.specs.Tree.{Origin}
 use Rattle.sql_origin.specs.Origins.{same_origin}
 use Rattle.sql_rules.specs.Lists.{Each}
@@ -76,14 +77,14 @@ abbrev WholeStack : Stack → Type 0
 WholeStack σ = Each (λ p. Whole p.1.leaves) σ
 
 whole-before : (e : ℕ) (σ : Stack) → WholeStack σ
-    → AllWhole (before kind_of end_of holding e σ).0 × WholeStack (before kind_of end_of holding e σ).1
+    → AllWhole (before e σ).0 × WholeStack (before e σ).1
 whole-before e [] h = (h, h)
 whole-before e (p ∷ σ) h = by_test (ltb p.0 e) (whole-before e σ h.1)
   where
     by_test : (b : Bool)
-        → AllWhole (before kind_of end_of holding e σ).0 × WholeStack (before kind_of end_of holding e σ).1
-        → AllWhole (cond b (first kind_of end_of holding p.1 (before kind_of end_of holding e σ)) ([], p ∷ σ)).0
-        × WholeStack (cond b (first kind_of end_of holding p.1 (before kind_of end_of holding e σ)) ([], p ∷ σ)).1
+        → AllWhole (before e σ).0 × WholeStack (before e σ).1
+        → AllWhole (cond b (first p.1 (before e σ)) ([], p ∷ σ)).0
+        × WholeStack (cond b (first p.1 (before e σ)) ([], p ∷ σ)).1
     by_test true g = ((h.0, g.0), g.1)
     by_test false g = (tt, h)
 
@@ -93,7 +94,7 @@ whole-run i (x ∷ xs) n =
     let ns = or_parts (is_left_join x.kind) (has_left_join xs) n in
     let σ = run kind_of end_of holding (i + 1) xs in
     let w = whole-before x.end σ (whole-run (i + 1) xs ns.1) in
-    (whole-held x.kind (before kind_of end_of holding x.end σ).0 ns.0 w.0, w.1)
+    (whole-held x.kind (before x.end σ).0 ns.0 w.0, w.1)
 
 pub none-from : (i : ℕ) (xs : List FlatNode) → has_left_join xs ≡ false → any_lacking_from i xs ≡ false
 none-from i [] n = refl
@@ -101,7 +102,7 @@ none-from i (x ∷ xs) n =
     let ns = or_parts (is_left_join x.kind) (has_left_join xs) n in
     let σ = run kind_of end_of holding (i + 1) xs in
     let w = whole-before x.end σ (whole-run (i + 1) xs ns.1) in
-    let kids = (before kind_of end_of holding x.end σ).0 in
+    let kids = (before x.end σ).0 in
     or_from (lacks_nullable x.kind kids) (any_lacking_from (i + 1) xs) (none-nullable x.kind kids w.0)
     (none-from (i + 1) xs ns.1)
 

@@ -1,13 +1,15 @@
 -- The words of a list of nodes are those of its trees.
 use Rattle.std.proofs.Common.{◌≡◌, ℕ, suc, ◌+◌, ◌<◌, ◌≤◌, Bool, cond, List, [], ◌∷◌, ◌++◌, refl, sym, ap, ◌∙◌, arith, append_assoc, append-nil, ltb}
 use Rattle.std.proofs.lemmas.Bool.{lt-ltb, le-ltb}
+use Rattle.sql_flat_law.specs.Opened.{still_open}
 use Rattle.sql_flat_law.specs.Rose.{Rose, node, Roses, none, more, size, sizes, flat, flats}
 use Rattle.sql_flat.specs.Flat.{flat_node}
 use Rattle.sql_flat.specs.declared.kind.FlatKind.{FlatKind}
 use Rattle.sql_flat.specs.declared.kind.FlatNode.{FlatNode}
 use Rattle.sql_rules_check.specs.declared.order.Standing.{Standing}
 use Rattle.sql_rules_check.specs.declared.order.Standing.TheVariants.{Over}
-use Rattle.sql_rules_check.specs.inside.Words.{Nest, below, clause_words, disordered, disordered_at, disordered_by, first_words, innermost, is_distinct_on, is_order_by, still_open, visited, word_at, words, words_behind, words_each, words_from}
+use Rattle.sql_rules_check.specs.inside.Words.{Nest, below, chosen_words, clause_at, clause_of, disordered, disordered_at, disordered_by, is_distinct_on, is_order_by, standing_in, visited, word_at, words, words_each, words_from}
+use Rattle.sql_rules_check.proofs.Kids.{kids-below}
 
 -- all end at e or later
 abbrev Covers : ℕ → Nest → Type 0
@@ -35,27 +37,27 @@ left e i s σ xs = same-open e i xs ((i, s) ∷ σ) σ (rw (le-ltb i i (omega ar
 mutual
   words-tree : (e m n : ℕ) (t : Rose FlatKind) (rest : List FlatNode) (σ : Nest) → Covers m σ → n + size t ≤ m
       → n + size t ≤ e
-      → words_from σ e n (flat flat_node n t rest) ≡ words (innermost σ) t ++ words_from σ e (n + size t) rest
+      → words_from σ e n (flat flat_node n t rest) ≡ words (standing_in σ) t ++ words_from σ e (n + size t) rest
   words-tree e m n (node k ts) rest σ c h g =
       let i = n + suc (sizes ts) in
-      let s = below (innermost σ) k in
+      let s = below (standing_in σ) k in
       rw (lt-ltb n e (omega arith), covers-open m n σ c (omega arith))
-      (ap (λ l. word_at (innermost σ) k ++ l)
+      (ap (λ l. word_at (standing_in σ) k ++ l)
       (words-trees e i (n + 1) ts rest ((i, s) ∷ σ) (omega arith, covers-less m i σ c h) (omega arith) (omega arith)
       ∙ ap (λ j. words_each s ts ++ words_from ((i, s) ∷ σ) e j rest) (omega arith)
       ∙ ap (λ l. words_each s ts ++ l) (left e i s σ rest))
-      ∙ sym (append_assoc (word_at (innermost σ) k) (words_each s ts) (words_from σ e i rest)))
+      ∙ sym (append_assoc (word_at (standing_in σ) k) (words_each s ts) (words_from σ e i rest)))
 
   words-trees : (e m n : ℕ) (ts : Roses FlatKind) (rest : List FlatNode) (σ : Nest) → Covers m σ → n + sizes ts ≤ m
       → n + sizes ts ≤ e
-      → words_from σ e n (flats flat_node n ts rest) ≡ words_each (innermost σ) ts ++ words_from σ e (n + sizes ts) rest
+      → words_from σ e n (flats flat_node n ts rest) ≡ words_each (standing_in σ) ts ++ words_from σ e (n + sizes ts) rest
   words-trees e m n none rest σ c h g = ap (λ j. words_from σ e j rest) (omega arith)
   words-trees e m n (more t ts) rest σ c h g =
       words-tree e m n t (flats flat_node (n + size t) ts rest) σ c (omega arith) (omega arith)
-      ∙ ap (λ l. words (innermost σ) t ++ l)
+      ∙ ap (λ l. words (standing_in σ) t ++ l)
       (words-trees e m (n + size t) ts rest σ c (omega arith) (omega arith)
-      ∙ ap (λ j. words_each (innermost σ) ts ++ words_from σ e j rest) (omega arith))
-      ∙ sym (append_assoc (words (innermost σ) t) (words_each (innermost σ) ts)
+      ∙ ap (λ j. words_each (standing_in σ) ts ++ words_from σ e j rest) (omega arith))
+      ∙ sym (append_assoc (words (standing_in σ) t) (words_each (standing_in σ) ts)
       (words_from σ e (n + (size t + sizes ts)) rest))
 
 pub words-stop : (σ : Nest) (e i : ℕ) (xs : List FlatNode) → e ≤ i → words_from σ e i xs ≡ []
@@ -71,48 +73,14 @@ words-kids n ts rest =
     ∙ ap (λ l. words_each (Over 0) ts ++ l) (words-stop [] e (n + 1 + sizes ts) rest (omega arith))
     ∙ append-nil (words_each (Over 0) ts)
 
--- ---- the first clause of a kind
+-- ---- the children of a select statement
 
-module _ (chosen : FlatKind → Bool) where
-  mutual
-    passes : (e u n : ℕ) (t : Rose FlatKind) (rest : List FlatNode) → n + size t ≤ u → u ≤ e
-        → clause_words chosen e u n (flat flat_node n t rest) ≡ clause_words chosen e u (n + size t) rest
-    passes e u n (node k ts) rest h g =
-        rw (lt-ltb n e (omega arith), lt-ltb n u (omega arith))
-        (passes-each e u (n + 1) ts rest (omega arith) g ∙ ap (λ m. clause_words chosen e u m rest) (omega arith))
-
-    passes-each : (e u n : ℕ) (ts : Roses FlatKind) (rest : List FlatNode) → n + sizes ts ≤ u → u ≤ e
-        → clause_words chosen e u n (flats flat_node n ts rest) ≡ clause_words chosen e u (n + sizes ts) rest
-    passes-each e u n none rest h g = ap (λ m. clause_words chosen e u m rest) (omega arith)
-    passes-each e u n (more t ts) rest h g =
-        passes e u n t (flats flat_node (n + size t) ts rest) (omega arith) g
-        ∙ passes-each e u (n + size t) ts rest (omega arith) g
-        ∙ ap (λ m. clause_words chosen e u m rest) (omega arith)
-
-  pub clause-stops : (e u i : ℕ) (xs : List FlatNode) → e ≤ i → clause_words chosen e u i xs ≡ []
-  clause-stops e u i [] h = refl
-  clause-stops e u i (x ∷ xs) h = rw (le-ltb i e h) refl
-
-  first-clause : (e u n : ℕ) (ts : Roses FlatKind) (rest : List FlatNode) → n + sizes ts ≡ e → u ≤ n
-      → clause_words chosen e u n (flats flat_node n ts rest) ≡ first_words chosen ts
-  first-clause e u n none rest h g = clause-stops e u n rest (omega arith)
-  first-clause e u n (more (node k us) ts) rest h g =
-      let i = n + suc (sizes us) in
-      let after = flats flat_node i ts rest in
-      let behind : clause_words chosen e i (n + 1) (flats flat_node (n + 1) us after) ≡ first_words chosen ts =
-      passes-each e i (n + 1) us after (omega arith) (omega arith)
-      ∙ ap (λ m. clause_words chosen e i m after) (omega arith)
-      ∙ first-clause e i i ts rest (omega arith) (omega arith) in
-      rw (lt-ltb n e (omega arith), le-ltb n u g) (λ j. cond (chosen k) (words-kids n us after j) (behind j))
-
-  -- after a select statement's node
-  kids-clause : (n : ℕ) (k : FlatKind) (ts : Roses FlatKind) (rest : List FlatNode)
-      → words_behind chosen n (flat_node k (n + suc (sizes ts))) (flats flat_node (n + 1) ts rest)
-      ≡ first_words chosen ts
-  kids-clause n k ts rest = first-clause (n + suc (sizes ts)) (n + 1) (n + 1) ts rest (omega arith) (omega arith)
+same-clause : (n : ℕ) (k : FlatKind) (ts : Roses FlatKind) (rest : List FlatNode)
+    → clause_at n (flat_node k (n + suc (sizes ts))) (flats flat_node (n + 1) ts rest) ≡ clause_of k ts
+same-clause n k ts rest = λ i. (k, words-kids n ts rest i)
 
 pub same-test : (n : ℕ) (k : FlatKind) (ts : Roses FlatKind) (rest : List FlatNode)
     → disordered_at n (flat_node k (n + suc (sizes ts))) (flats flat_node (n + 1) ts rest) ≡ disordered k ts
 same-test n k ts rest =
-    let p = kids-clause is_distinct_on n k ts rest in
-    let q = kids-clause is_order_by n k ts rest in λ i. disordered_by k (p i) (q i)
+    let ps = kids-below clause_at clause_of same-clause n k ts rest in
+    λ i. disordered_by k (chosen_words is_distinct_on (ps i)) (chosen_words is_order_by (ps i))

@@ -1,4 +1,5 @@
-//! Clauses that do not go together in one select statement, found by reading ahead from its node.
+//! Clauses that do not go together in one select statement, found by reading ahead from its node: from the first child, each
+//! time to the node's end, the next child. Of the list that `sql_flat` shows, at the select statement: 1, 2, 4.
 #![tactic(auto)]
 
 ghost use Rattle.std.specs.Prelude.{◌≡◌, ◌+◌, ◌<◌, ◌||◌, drop};

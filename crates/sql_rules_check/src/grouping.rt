@@ -1,4 +1,16 @@
 //! Aggregates and groups, by loops over the clauses of each select statement. They take no memory.
+//!
+//! At a select statement its children are looked at one by one, each from its node to its end, without the statements and
+//! lists of values below it. Of `SELECT "a", count(*) FROM "t" GROUP BY "a"`:
+//!
+//! ```text
+//! 0  Select       GROUP BY is at 6, and holds "a"
+//! 1    List       "a" is grouped: Yes; count(*): Yes; so the selection has one value in each group
+//! 2      Column "a"
+//! 3      CountStar
+//! 4    From       passed over
+//! 6    GroupBy    holds no aggregate
+//! ```
 #![tactic(auto)]
 
 ghost use Rattle.std.specs.Prelude.{◌≡◌, ◌+◌, ◌<◌, ◌&&◌, ◌||◌, drop};

@@ -1,5 +1,5 @@
 //! The type of a node by the types of its children, and whether the node is ill-typed or a list without elements.
-#![tactic(auto, using(crate::proofs::Stacking::stacking))]
+#![tactic(auto, using(sql_flat_law::proofs::Finishing::finished_push))]
 
 ghost use Rattle.std.specs.Prelude.{◌≡◌, IfOk, OnOk};
 ghost use Rattle.sql_flat.specs.declared.kind.FlatKind.TheVariants as K;
@@ -8,9 +8,10 @@ ghost use Rattle.sql_rules_check.specs.inside.Stacks.{judged_of, split};
 ghost use Rattle.sql_rules_check.specs.inside.Typing.{column_type, columns_as, first, judging, others};
 
 use crate::given::{Given, Judged, are_none, has_untyped, nullable_types};
-use crate::stack::{Done, has_none, list_types, next, next_type, selection, values_type};
+use crate::stack::{has_none, list_types, next, next_type, selection, values_type};
 use crate::types::{element_type, types_differ};
 use sql_flat::{Combining, FlatKind, Form, Selecting};
+use sql_flat_law::Finished;
 use sql_schema::{NoMemory, SqlType};
 use sql_types::{
     as_nullable, big_type, bool_type, compared_type, if_typed, joined_type, unary_type,
@@ -31,7 +32,7 @@ fn columns(
     }
 }
 
-fn list(alloc: Global, done: &mut Vec<Done>, end: usize) -> Result<Judged, NoMemory>
+fn list(alloc: Global, done: &mut Vec<Finished<Given>>, end: usize) -> Result<Judged, NoMemory>
     ensures judged { IfOk result (λ j. judged_of j ≡ judging K.List (split end done.old.items).0) }
     ensures left { OnOk result ((split end done.new.items).1 ≡ (split end done.old.items).1) }
 {
@@ -39,7 +40,7 @@ fn list(alloc: Global, done: &mut Vec<Done>, end: usize) -> Result<Judged, NoMem
     Ok(Judged::sound(Given::Many(types)))
 }
 
-fn nullable(alloc: Global, done: &mut Vec<Done>, end: usize) -> Result<Judged, NoMemory>
+fn nullable(alloc: Global, done: &mut Vec<Finished<Given>>, end: usize) -> Result<Judged, NoMemory>
     ensures judged { IfOk result (λ j. judged_of j
         ≡ judging K.Nullable (split end done.old.items).0) }
     ensures left { OnOk result ((split end done.new.items).1 ≡ (split end done.old.items).1) }
@@ -48,7 +49,7 @@ fn nullable(alloc: Global, done: &mut Vec<Done>, end: usize) -> Result<Judged, N
     Ok(Judged::sound(given))
 }
 
-fn order(alloc: Global, done: &mut Vec<Done>, end: usize) -> Result<Judged, NoMemory>
+fn order(alloc: Global, done: &mut Vec<Finished<Given>>, end: usize) -> Result<Judged, NoMemory>
     ensures judged { IfOk result (λ j. judged_of j
         ≡ judging K.OrderBy (split end done.old.items).0) }
     ensures left { OnOk result ((split end done.new.items).1 ≡ (split end done.old.items).1) }
@@ -60,7 +61,7 @@ fn order(alloc: Global, done: &mut Vec<Done>, end: usize) -> Result<Judged, NoMe
 fn select(
     alloc: Global,
     select: &Selecting,
-    done: &mut Vec<Done>,
+    done: &mut Vec<Finished<Given>>,
     end: usize,
 ) -> Result<Judged, NoMemory>
     ensures judged { IfOk result (λ j. judged_of j
@@ -81,7 +82,7 @@ fn select(
 fn combination(
     alloc: Global,
     both: &Combining,
-    done: &mut Vec<Done>,
+    done: &mut Vec<Finished<Given>>,
     end: usize,
 ) -> Result<Judged, NoMemory>
     ensures judged { IfOk result (λ j. judged_of j
@@ -98,7 +99,7 @@ fn combination(
     })
 }
 
-fn compared(done: &mut Vec<Done>, end: usize) -> Option<SqlType>
+fn compared(done: &mut Vec<Finished<Given>>, end: usize) -> Option<SqlType>
     ensures given { result
         ≡ compares (only_type (first (split end done.old.items).0))
         (only_type (first (others (split end done.old.items).0))) }
@@ -109,7 +110,7 @@ fn compared(done: &mut Vec<Done>, end: usize) -> Option<SqlType>
     compared_type(left, right)
 }
 
-fn joined(done: &mut Vec<Done>, end: usize) -> Option<SqlType>
+fn joined(done: &mut Vec<Finished<Given>>, end: usize) -> Option<SqlType>
     ensures given { result
         ≡ joins (only_type (first (split end done.old.items).0))
         (only_type (first (others (split end done.old.items).0))) }
@@ -120,7 +121,7 @@ fn joined(done: &mut Vec<Done>, end: usize) -> Option<SqlType>
     joined_type(left, right)
 }
 
-fn among(done: &mut Vec<Done>, end: usize) -> Option<SqlType>
+fn among(done: &mut Vec<Finished<Given>>, end: usize) -> Option<SqlType>
     ensures given { result
         ≡ compares (only_type (first (split end done.old.items).0))
         (column_type (first (others (split end done.old.items).0))) }
@@ -135,7 +136,7 @@ fn among(done: &mut Vec<Done>, end: usize) -> Option<SqlType>
 pub(crate) fn judged_at(
     alloc: Global,
     kind: &FlatKind,
-    done: &mut Vec<Done>,
+    done: &mut Vec<Finished<Given>>,
     end: usize,
 ) -> Result<Judged, NoMemory>
     ensures judged { IfOk result (λ j. judged_of j

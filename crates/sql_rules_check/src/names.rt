@@ -1,4 +1,15 @@
-//! The rules on names and on what clauses see, by one loop from the first node to the last.
+//! The rules on names and on what clauses see, by one loop from the first node to the last, with a stack of the open nodes
+//! within which something else is known than around them: select statements, joins and conditions (`scope`).
+//!
+//! Of the list that `sql_flat` shows, what is known at each node, of its clauses and of its condition:
+//!
+//! ```text
+//! 0  Select                opened: its clauses see users, its condition too
+//! 1  Column "users"."id"   seen by users
+//! 2  From, 3  Table        as around
+//! 4  Where                 opened: sees what the condition sees
+//! 5  Compared, 6  Column   seen by users
+//! ```
 #![tactic(auto, using(crate::proofs::Opening::opening))]
 
 ghost use Rattle.std.specs.Prelude.{◌≡◌, IfOk, [], false, map};
@@ -17,9 +28,10 @@ ghost use Rattle.sql_rules_check.specs.declared.names.Names.TheVariants as name;
 
 use crate::kinds::{any_lacks_on, any_unknown_name};
 use crate::leaves::{any_ambiguous, any_apart, any_clash};
-use crate::scope::{Open, close, enter};
+use crate::scope::{Known, close, enter};
 use crate::tables::names_differ;
 use sql_flat::{Flat, FlatKind, FlatNode};
+use sql_flat_law::Opened;
 use sql_origin::Origin;
 use sql_schema::{Column, NoMemory, Schema, SqlText};
 use std::alloc::Global;
@@ -106,7 +118,7 @@ fn is_out(whole: bool, view: &[Origin<'_>], kind: &FlatKind) -> bool
 }
 
 /// The same, where these nodes are open.
-fn is_out_within(whole: bool, nest: &[Open<'_>], kind: &FlatKind) -> bool
+fn is_out_within(whole: bool, nest: &[Opened<Known<'_>>], kind: &FlatKind) -> bool
     ensures { result ≡ kind_is_out whole (around_of (opens nest.now)).clause kind.now }
 {
     match nest.last() {
@@ -158,7 +170,7 @@ fn meeting(alloc: Global, schema: &Schema, leaves: &[Origin<'_>]) -> Result<Pair
 fn meeting_within(
     alloc: Global,
     schema: &Schema,
-    nest: &[Open<'_>],
+    nest: &[Opened<Known<'_>>],
     kind: &FlatKind,
 ) -> Result<Pairs, NoMemory>
     ensures ambiguous { IfOk result (λ p. p.ambiguous

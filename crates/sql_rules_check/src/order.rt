@@ -1,4 +1,16 @@
 //! Orders that do not begin as DISTINCT ON.
+//!
+//! Both clauses are read as lists of words, a word for each node of an element, with its standing: over elements, under so
+//! many nullables, or within one, at so many nodes from its top. Nullables, lists and items of an order are no words, and
+//! neither are the values of a list. Of `DISTINCT ON ("a", "b" = 1) .. ORDER BY "a", "b" = 2`:
+//!
+//! ```text
+//! DISTINCT ON   a over 0, = over 0, b within 1, value within 1
+//! ORDER BY      a over 0, = over 0, b within 1, value within 1
+//! ```
+//!
+//! The words are compared one by one, values left out, until a list ends. Where the longer list goes on within an element,
+//! that element is another one.
 #![tactic(auto, using(crate::proofs::Wording::wording))]
 
 ghost use Rattle.std.specs.Prelude.{◌≡◌, ◌+◌, ◌<◌, ◌++◌, [], IfOk, OnOk, drop, map, option_map};
@@ -8,15 +20,17 @@ ghost use Rattle.sql_dialect.specs.declared.backend.Dialect.{Dialect};
 ghost use Rattle.sql_node.specs.Tree.{Statement};
 ghost use Rattle.sql_rules.specs.Rules.{Broken};
 ghost use Rattle.sql_rules.specs.declared.rule.Rule.TheVariants as rule;
+ghost use Rattle.sql_flat_law.specs.Opened.{opens};
 ghost use Rattle.sql_flat.specs.Flat.{flat_of};
 ghost use Rattle.sql_key.specs.inside.Swept.{is_element as kind_is_element};
 ghost use Rattle.sql_rules_check.specs.inside.Ahead.{any_ahead};
 ghost use Rattle.sql_rules_check.specs.inside.Walks.{option_list};
-ghost use Rattle.sql_rules_check.specs.inside.Words.{begins_inner as begins, below as stands_below, clash, clause_words as words_of_clause, disordered_at, entered, innermost as innermost_of, is_clause as kind_is_clause, is_distinct_on as kind_is_distinct_on, is_group as kind_is_group, is_inner as stands_inner, is_nullable as kind_is_nullable, is_order_by as kind_is_order_by, is_ordered as selects_ordered, is_silent as kind_is_silent, nest_of, same_standing, same_word, still_open, word_at, word_of, words_from};
+ghost use Rattle.sql_rules_check.specs.inside.Words.{begins_inner as begins, below as stands_below, clash, clause_words as words_of_clause, disordered_at, entered, is_clause as kind_is_clause, is_distinct_on as kind_is_distinct_on, is_group as kind_is_group, is_inner as stands_inner, is_nullable as kind_is_nullable, is_order_by as kind_is_order_by, is_ordered as selects_ordered, is_silent as kind_is_silent, same_standing, same_word, standing_in as stands_in, word_at, word_of, words_from};
 
 use crate::jump::past;
 use crate::shapes::is_same_kind;
 use sql_flat::{Flat, FlatKind, FlatNode, Form, Selecting, Uniqueness};
+use sql_flat_law::{Opened, close};
 use sql_schema::NoMemory;
 use std::alloc::{AllocError, Global};
 
@@ -25,13 +39,6 @@ use std::alloc::{AllocError, Global};
 pub(crate) enum Standing {
     Over(usize),
     Within(usize),
-}
-
-/// An open node's end, and how its children stand.
-#[derive(Clone, Copy)]
-pub(crate) struct Open {
-    pub(crate) end: usize,
-    pub(crate) standing: Standing,
 }
 
 /// A node of an element.
@@ -117,34 +124,27 @@ fn is_silent(standing: Standing, kind: &FlatKind) -> bool
     }
 }
 
-/// Closes the nodes that end before the index.
-fn close(nest: &mut Vec<Open>, index: usize)
-    ensures { nest_of nest.new.items ≡ still_open index (nest_of nest.old.items) }
-{
-    while let Some(last) = nest.last() {
-        if index < last.end {
-            return;
-        }
-        nest.pop();
-    }
-}
-
-fn innermost(nest: &[Open]) -> Standing
-    ensures { result ≡ innermost_of (nest_of nest.now) }
+/// How the node stands that comes next.
+fn standing_in(nest: &[Opened<Standing>]) -> Standing
+    ensures { result ≡ stands_in (opens nest.now) }
 {
     match nest.last() {
         None => Standing::Over(0),
-        Some(open) => open.standing,
+        Some(innermost) => innermost.known,
     }
 }
 
-fn enter(node: &FlatNode, standing: Standing, nest: &mut Vec<Open>) -> Result<(), NoMemory>
-    ensures { standing ≡ innermost_of (nest_of nest.old.items)
-        → OnOk result (nest_of nest.new.items ≡ entered node.now (nest_of nest.old.items)) }
+fn enter(
+    node: &FlatNode,
+    standing: Standing,
+    nest: &mut Vec<Opened<Standing>>,
+) -> Result<(), NoMemory>
+    ensures { standing ≡ stands_in (opens nest.old.items)
+        → OnOk result (opens nest.new.items ≡ entered node.now (opens nest.old.items)) }
 {
-    let standing = below(standing, &node.kind)?;
+    let known = below(standing, &node.kind)?;
     let end = node.end;
-    nest.push(Open { end, standing })?;
+    nest.push(Opened { end, known })?;
     Ok(())
 }
 
@@ -178,7 +178,7 @@ fn words<'s>(
     while index < end && index < nodes.len() {
         let node = &nodes[index];
         close(&mut nest, index);
-        let standing = innermost(nest.as_slice());
+        let standing = standing_in(nest.as_slice());
         add_word(standing, &node.kind, &mut all)?;
         enter(node, standing, &mut nest)?;
         index += 1;
@@ -222,7 +222,7 @@ fn clause_words<'s>(
     end: usize,
 ) -> Result<Vec<Token<'s>>, NoMemory>
     ensures { IfOk result (λ v. map word_of v.items
-        ≡ words_of_clause (kind_is_clause clause) end from from (drop from nodes.now)) }
+        ≡ words_of_clause (kind_is_clause clause) end from nodes.now) }
 {
     let mut index = from;
     while index < end && index < nodes.len() {

@@ -1,5 +1,18 @@
 //! Selected columns of sources whose rows an outer join may lack, by one loop from the last node to the first.
-#![tactic(auto, using(crate::proofs::PaddingStacking::padding))]
+//!
+//! Of `SELECT "posts"."id" FROM ("users" LEFT OUTER JOIN "posts" ON ..)` the stack (`sql_flat_law`) from the top on, with
+//! `posts?` for a leaf whose rows may be lacking:
+//!
+//! ```text
+//! 6  On                   -
+//! 5  Table "posts"        posts, -
+//! 4  Table "users"        users, posts, -
+//! 3  Join left outer      users posts?
+//! 2  From                 users posts?
+//! 1  Column "posts"."id"  the column, users posts?
+//! 0  Select               finds that the column's row may be lacking
+//! ```
+#![tactic(auto, using(sql_flat_law::proofs::Finishing::finished_push))]
 
 ghost use Rattle.std.specs.Prelude.{◌≡◌, ◌<◌, ◌++◌, [], ◌∷◌, ◌&&◌, IfOk, OnOk, MatchOption, length, map};
 ghost use Rattle.std.specs.Bool.{Decides};
@@ -17,6 +30,7 @@ ghost use Rattle.sql_rules_check.specs.inside.PaddingStacks.{any_lacking_from, h
 
 use crate::names::origin_under;
 use sql_flat::{Flat, FlatKind, FlatNode};
+use sql_flat_law::Finished;
 use sql_leaf::JoinKind;
 use sql_origin::Origin;
 use sql_schema::NoMemory;
@@ -36,15 +50,8 @@ pub(crate) struct Held<'s> {
     pub(crate) bare: Vec<Origin<'s>>,
 }
 
-/// What the tree holds that begins there.
-#[derive(Drop)]
-pub(crate) struct Part<'s> {
-    pub(crate) start: usize,
-    pub(crate) held: Held<'s>,
-}
-
 /// Takes what the next tree on the stack holds, where it begins before the end.
-fn take<'s>(parts: &mut Vec<Part<'s>>, end: usize) -> Option<Held<'s>>
+fn take<'s>(parts: &mut Vec<Finished<Held<'s>>>, end: usize) -> Option<Held<'s>>
     ensures { MatchOption result
         ((parts.new.items ≡ parts.old.items)
         × (parted end parts.old.items ≡ ([], parts_of parts.old.items)))
@@ -52,24 +59,11 @@ fn take<'s>(parts: &mut Vec<Part<'s>>, end: usize) -> Option<Held<'s>>
         × (parted end parts.old.items
         ≡ (held_of h ∷ (parted end parts.new.items).0, (parted end parts.new.items).1))) }
 {
-    let begins = match parts.last() {
-        None => false,
-        Some(top) => top.start < end,
-    };
-    if !begins {
-        return None;
-    }
-    match parts.pop() {
-        None => None,
-        Some(top) => {
-            let Part { start: _, held } = top;
-            Some(held)
-        }
-    }
+    sql_flat_law::take(parts, end)
 }
 
 /// The same, and nothing where there is no tree.
-fn next<'s>(alloc: Global, parts: &mut Vec<Part<'s>>, end: usize) -> Held<'s>
+fn next<'s>(alloc: Global, parts: &mut Vec<Finished<Held<'s>>>, end: usize) -> Held<'s>
     ensures held { held_of result ≡ first_held (parted end parts.old.items).0 }
     ensures left { parted end parts.new.items
         ≡ (other_held (parted end parts.old.items).0, (parted end parts.old.items).1) }
@@ -84,10 +78,10 @@ fn next<'s>(alloc: Global, parts: &mut Vec<Part<'s>>, end: usize) -> Held<'s>
 }
 
 /// Takes all that begin before the end.
-fn leave(parts: &mut Vec<Part<'_>>, end: usize)
+fn leave(parts: &mut Vec<Finished<Held<'_>>>, end: usize)
     ensures { parts_of parts.new.items ≡ (parted end parts.old.items).1 }
 {
-    while let Some(_held) = take(parts, end) {}
+    sql_flat_law::leave(parts, end);
 }
 
 fn add<'s>(held: &Held<'s>, all: &mut Held<'s>) -> Result<(), NoMemory>
@@ -102,7 +96,11 @@ fn add<'s>(held: &Held<'s>, all: &mut Held<'s>) -> Result<(), NoMemory>
 }
 
 /// Takes all, and gives what they hold together. What the first holds is not copied.
-fn gather<'s>(alloc: Global, parts: &mut Vec<Part<'s>>, end: usize) -> Result<Held<'s>, NoMemory>
+fn gather<'s>(
+    alloc: Global,
+    parts: &mut Vec<Finished<Held<'s>>>,
+    end: usize,
+) -> Result<Held<'s>, NoMemory>
     ensures leaves { IfOk result (λ h. (held_of h).leaves
         ≡ all_leaves (parted end parts.old.items).0) }
     ensures bare { IfOk result (λ h. (held_of h).bare ≡ all_bare (parted end parts.old.items).0) }
@@ -171,7 +169,7 @@ fn one_bare<'s>(alloc: Global, origin: Origin<'s>) -> Result<Held<'s>, NoMemory>
 
 fn all_held_bare<'s>(
     alloc: Global,
-    parts: &mut Vec<Part<'s>>,
+    parts: &mut Vec<Finished<Held<'s>>>,
     end: usize,
 ) -> Result<Held<'s>, NoMemory>
     ensures held { IfOk result (λ h. held_of h ≡ bare_held (parted end parts.old.items).0) }
@@ -187,7 +185,7 @@ fn all_held_bare<'s>(
 fn joined<'s>(
     alloc: Global,
     kind: JoinKind,
-    parts: &mut Vec<Part<'s>>,
+    parts: &mut Vec<Finished<Held<'s>>>,
     end: usize,
 ) -> Result<Held<'s>, NoMemory>
     ensures held { IfOk result (λ h. held_of h ≡ record {
@@ -209,7 +207,7 @@ fn joined<'s>(
     Ok(Held { leaves, bare })
 }
 
-fn from<'s>(alloc: Global, parts: &mut Vec<Part<'s>>, end: usize) -> Held<'s>
+fn from<'s>(alloc: Global, parts: &mut Vec<Finished<Held<'s>>>, end: usize) -> Held<'s>
     ensures held { held_of result ≡ record {
       leaves = (first_held (parted end parts.old.items).0).leaves;
       bare = [];
@@ -225,7 +223,7 @@ fn from<'s>(alloc: Global, parts: &mut Vec<Part<'s>>, end: usize) -> Held<'s>
 fn held_at<'s>(
     alloc: Global,
     kind: &'s FlatKind,
-    parts: &mut Vec<Part<'s>>,
+    parts: &mut Vec<Finished<Held<'s>>>,
     end: usize,
 ) -> Result<Held<'s>, NoMemory>
     ensures held { IfOk result (λ h. held_of h
@@ -310,7 +308,7 @@ fn any_lacking(leaves: &[Padded<'_>], bare: &[Origin<'_>]) -> bool
 fn judged_at<'s>(
     alloc: Global,
     kind: &'s FlatKind,
-    parts: &mut Vec<Part<'s>>,
+    parts: &mut Vec<Finished<Held<'s>>>,
     end: usize,
 ) -> Result<(Held<'s>, bool), NoMemory>
     ensures held { IfOk result (λ f. held_of f.0
@@ -335,7 +333,7 @@ fn put<'s>(
     alloc: Global,
     index: usize,
     node: &'s FlatNode,
-    parts: &mut Vec<Part<'s>>,
+    parts: &mut Vec<Finished<Held<'s>>>,
 ) -> Result<bool, NoMemory>
     ensures parts { OnOk result (parts_of parts.new.items
         ≡ (index, holding node.now.kind (parted node.now.end parts.old.items).0)
@@ -345,7 +343,10 @@ fn put<'s>(
 {
     let (held, lacks) = judged_at(alloc, &node.kind, parts, node.end)?;
     leave(parts, node.end);
-    parts.push(Part { start: index, held })?;
+    parts.push(Finished {
+        start: index,
+        value: held,
+    })?;
     Ok(lacks)
 }
 

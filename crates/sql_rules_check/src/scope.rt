@@ -2,11 +2,13 @@
 #![tactic(auto, using(crate::proofs::Opening::opening))]
 
 ghost use Rattle.std.specs.Prelude.{◌≡◌, ◌<◌, ◌+◌, ◌++◌, IfOk, OnOk, map, option_map};
+ghost use Rattle.sql_flat_law.specs.Opened.{still_open};
 ghost use Rattle.sql_origin.specs.Borrowed.{origin_of};
 ghost use Rattle.sql_rules_check.specs.inside.Views.{is_passed as kind_is_passed, keeps as kind_keeps, leaf_at, widened as widened_view, within as views_within};
-ghost use Rattle.sql_rules_check.specs.inside.Walks.{after_node, around as around_of, entered_at, leaves_from, opened_at, opens, option_list, views_of};
+ghost use Rattle.sql_rules_check.specs.inside.Walks.{after_node, around as around_of, entered_at, leaves_from, opens, option_list, views_of};
 
 use sql_flat::{FlatKind, FlatNode, Form};
+use sql_flat_law::Opened;
 use sql_origin::Origin;
 use sql_schema::NoMemory;
 use std::alloc::Global;
@@ -16,13 +18,6 @@ use std::alloc::Global;
 pub(crate) struct Known<'s> {
     pub(crate) clause: Vec<Origin<'s>>,
     pub(crate) condition: Vec<Origin<'s>>,
-}
-
-/// An open node's end, and what is known within it.
-#[derive(Drop)]
-pub(crate) struct Open<'s> {
-    pub(crate) end: usize,
-    pub(crate) known: Known<'s>,
 }
 
 fn leaf(kind: &FlatKind) -> Option<Origin<'_>>
@@ -189,15 +184,10 @@ fn keeps(kind: &FlatKind) -> bool
 }
 
 /// Closes the nodes that end before the index.
-pub(crate) fn close(nest: &mut Vec<Open<'_>>, index: usize)
-    ensures { opens nest.new.items ≡ opened_at index (opens nest.old.items) }
+pub(crate) fn close(nest: &mut Vec<Opened<Known<'_>>>, index: usize)
+    ensures { opens nest.new.items ≡ still_open index (opens nest.old.items) }
 {
-    while let Some(last) = nest.last() {
-        if index < last.end {
-            return;
-        }
-        nest.pop();
-    }
+    sql_flat_law::close(nest, index);
 }
 
 /// What is known within the node at that index, where these nodes are open.
@@ -206,7 +196,7 @@ fn known_at<'s>(
     nodes: &'s [FlatNode],
     index: usize,
     node: &'s FlatNode,
-    nest: &[Open<'s>],
+    nest: &[Opened<Known<'s>>],
 ) -> Result<Known<'s>, NoMemory>
     requires { index < 18446744073709551615 }
     ensures { IfOk result (λ k. views_of k
@@ -231,7 +221,7 @@ pub(crate) fn enter<'s>(
     nodes: &'s [FlatNode],
     index: usize,
     node: &'s FlatNode,
-    nest: &mut Vec<Open<'s>>,
+    nest: &mut Vec<Opened<Known<'s>>>,
 ) -> Result<(), NoMemory>
     requires { index < 18446744073709551615 }
     ensures { OnOk result (opens nest.new.items
@@ -244,7 +234,7 @@ pub(crate) fn enter<'s>(
         return Ok(());
     }
     let known = known_at(alloc, nodes, index, node, nest.as_slice())?;
-    nest.push(Open {
+    nest.push(Opened {
         end: node.end,
         known,
     })?;

@@ -1,6 +1,6 @@
 //! The stack of the loop over types, which goes from the last node to the first: what the trees have that begin further
 //! on.
-#![tactic(auto, using(crate::proofs::Stacking::stacking))]
+#![tactic(auto, using(sql_flat_law::proofs::Finishing::finished_push))]
 
 ghost use Rattle.std.specs.Prelude.{◌≡◌, ◌<◌, [], ◌∷◌, IfOk, OnOk, MatchOption, Some, length};
 ghost use Rattle.sql_rules.specs.Types.{only_type};
@@ -10,18 +10,12 @@ ghost use Rattle.sql_rules_check.specs.inside.Typing.{first, is_nil, others, sel
 use crate::given::Given;
 use crate::types::both;
 use sql_flat::Uniqueness;
+use sql_flat_law::Finished;
 use sql_schema::{NoMemory, SqlType};
 use std::alloc::Global;
 
-/// What the tree has that begins there.
-#[derive(Debug, Drop)]
-pub(crate) struct Done {
-    pub(crate) start: usize,
-    pub(crate) given: Given,
-}
-
 /// Takes what the next tree on the stack has, where it begins before the end.
-fn take(done: &mut Vec<Done>, end: usize) -> Option<Given>
+fn take(done: &mut Vec<Finished<Given>>, end: usize) -> Option<Given>
     ensures { MatchOption result
         ((done.new.items ≡ done.old.items)
         × (split end done.old.items ≡ ([], stack done.old.items)))
@@ -29,24 +23,11 @@ fn take(done: &mut Vec<Done>, end: usize) -> Option<Given>
         × (split end done.old.items
         ≡ (given_of g ∷ (split end done.new.items).0, (split end done.new.items).1))) }
 {
-    let begins = match done.last() {
-        None => false,
-        Some(top) => top.start < end,
-    };
-    if !begins {
-        return None;
-    }
-    match done.pop() {
-        None => None,
-        Some(top) => {
-            let Done { start: _, given } = top;
-            Some(given)
-        }
-    }
+    sql_flat_law::take(done, end)
 }
 
 /// The same, and no type where there is no tree.
-pub(crate) fn next(done: &mut Vec<Done>, end: usize) -> Given
+pub(crate) fn next(done: &mut Vec<Finished<Given>>, end: usize) -> Given
     ensures given { given_of result ≡ first (split end done.old.items).0 }
     ensures left { split end done.new.items
         ≡ (others (split end done.old.items).0, (split end done.old.items).1) }
@@ -57,7 +38,7 @@ pub(crate) fn next(done: &mut Vec<Done>, end: usize) -> Given
     }
 }
 
-pub(crate) fn next_type(done: &mut Vec<Done>, end: usize) -> Option<SqlType>
+pub(crate) fn next_type(done: &mut Vec<Finished<Given>>, end: usize) -> Option<SqlType>
     ensures given { result ≡ only_type (first (split end done.old.items).0) }
     ensures left { split end done.new.items
         ≡ (others (split end done.old.items).0, (split end done.old.items).1) }
@@ -66,14 +47,14 @@ pub(crate) fn next_type(done: &mut Vec<Done>, end: usize) -> Option<SqlType>
 }
 
 /// Takes all that begin before the end.
-pub(crate) fn leave(done: &mut Vec<Done>, end: usize)
+pub(crate) fn leave(done: &mut Vec<Finished<Given>>, end: usize)
     ensures { stack done.new.items ≡ (split end done.old.items).1 }
 {
-    while let Some(_given) = take(done, end) {}
+    sql_flat_law::leave(done, end);
 }
 
 /// Whether no tree begins before the end.
-pub(crate) fn has_none(done: &mut Vec<Done>, end: usize) -> bool
+pub(crate) fn has_none(done: &mut Vec<Finished<Given>>, end: usize) -> bool
     ensures none { result ≡ is_nil (split end done.old.items).0 }
     ensures left { (split end done.new.items).1 ≡ (split end done.old.items).1 }
 {
@@ -83,7 +64,7 @@ pub(crate) fn has_none(done: &mut Vec<Done>, end: usize) -> bool
 /// Takes all, and gives the types of the elements.
 pub(crate) fn list_types(
     alloc: Global,
-    done: &mut Vec<Done>,
+    done: &mut Vec<Finished<Given>>,
     end: usize,
 ) -> Result<Vec<Option<SqlType>>, NoMemory>
     ensures types { IfOk result (λ v. v.items ≡ types_of_each (split end done.old.items).0) }
@@ -97,7 +78,11 @@ pub(crate) fn list_types(
 }
 
 /// The type of a list of values, where each fits.
-pub(crate) fn values_type(ty: SqlType, done: &mut Vec<Done>, end: usize) -> Option<SqlType>
+pub(crate) fn values_type(
+    ty: SqlType,
+    done: &mut Vec<Finished<Given>>,
+    end: usize,
+) -> Option<SqlType>
     ensures value { result ≡ where_all (Some ty) (split end done.old.items).0 }
     ensures left { (split end done.new.items).1 ≡ (split end done.old.items).1 }
 {
@@ -109,7 +94,7 @@ pub(crate) fn values_type(ty: SqlType, done: &mut Vec<Done>, end: usize) -> Opti
 }
 
 /// What the selection of a select statement has, which comes after DISTINCT ON.
-pub(crate) fn selection(unique: Uniqueness, done: &mut Vec<Done>, end: usize) -> Given
+pub(crate) fn selection(unique: Uniqueness, done: &mut Vec<Finished<Given>>, end: usize) -> Given
     ensures given { given_of result ≡ selected unique (split end done.old.items).0 }
     ensures left { (split end done.new.items).1 ≡ (split end done.old.items).1 }
 {

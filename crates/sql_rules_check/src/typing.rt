@@ -1,6 +1,18 @@
 //! The types of a statement's columns, and whether it is ill-typed or holds an empty list, by one loop from the last
-//! node to the first.
-#![tactic(auto, using(crate::proofs::Stacking::stacking))]
+//! node to the first. Each node takes what its children have from the stack (`sql_flat_law`), and puts what it has.
+//! Of the list that `sql_flat` shows, with `-` for what has no type, the stack from the top on:
+//!
+//! ```text
+//! 7  Value 1              Integer
+//! 6  Column "users"."id"  Integer, Integer
+//! 5  Compared =           Bool
+//! 4  Where                -
+//! 3  Table "users"        -, -
+//! 2  From                 -, -
+//! 1  Column "users"."id"  Integer, -, -
+//! 0  Select               (Integer): the types of its columns
+//! ```
+#![tactic(auto, using(sql_flat_law::proofs::Finishing::finished_push))]
 
 ghost use Rattle.std.specs.Prelude.{◌≡◌, [], ◌∷◌, ◌||◌, IfOk, OnOk};
 ghost use Rattle.std.specs.Bool.{Decides};
@@ -16,11 +28,12 @@ ghost use Rattle.sql_rules_check.specs.inside.Lists.{any_empty_from, any_ill_fro
 ghost use Rattle.sql_rules_check.specs.inside.Stacks.{split, stack};
 ghost use Rattle.sql_rules_check.specs.inside.Typing.{empty as is_empty, ill, typing};
 
-use crate::given::Judged;
+use crate::given::{Given, Judged};
 use crate::judging::judged_at;
-use crate::stack::{Done, leave, next, next_type};
+use crate::stack::{leave, next, next_type};
 use crate::types::is_condition;
 use sql_flat::{Flat, FlatNode};
+use sql_flat_law::Finished;
 use sql_schema::{NoMemory, SqlType};
 use std::alloc::Global;
 
@@ -35,7 +48,7 @@ pub(crate) struct Typed {
 /// What the loop knows of the nodes after it.
 #[derive(Debug, Drop)]
 struct Found {
-    done: Vec<Done>,
+    done: Vec<Finished<Given>>,
     mismatched: bool,
     empty: bool,
 }
@@ -56,9 +69,9 @@ fn put(alloc: Global, index: usize, node: &FlatNode, found: &mut Found) -> Resul
         empty,
     } = judged_at(alloc, &node.kind, &mut found.done, node.end)?;
     leave(&mut found.done, node.end);
-    found.done.push(Done {
+    found.done.push(Finished {
         start: index,
-        given,
+        value: given,
     })?;
     found.mismatched = mismatched || found.mismatched;
     found.empty = empty || found.empty;
@@ -113,7 +126,7 @@ pub(crate) fn types_of_flat(alloc: Global, flat: &Flat) -> Result<Typed, NoMemor
 
 /// Whether the expression whose nodes these are is a condition: whether its type is Bool, nullable or not. Of `("users"."id" = $1)` it
 /// is. One pass over the nodes. Fails only for memory.
-#[tactic(auto, using(crate::proofs::Stacking::stacking))]
+#[tactic(auto, using(sql_flat_law::proofs::Finishing::finished_push))]
 pub fn is_condition_of(alloc: Global, nodes: &[FlatNode]) -> Result<bool, NoMemory>
     ensures { (e : Expr) → nodes.now ≡ flat flat_node 0 (expr_rose e) []
         → IfOk result (λ b. Decides b (IsBool (type_of e))) }

@@ -1,6 +1,7 @@
 -- What the loop from the last node to the first has on its stack: what the trees stand for that begin behind.
 use Rattle.std.specs.Prelude.{ℕ, Option, List}
-use Rattle.sql_flat_law.specs.Backward.{before, run}
+use Rattle.sql_flat_law.specs.Backward.{run}
+use Rattle.sql_flat_law.specs.Finished.{before}
 use Rattle.sql_node.specs.Tree.{Statement}
 use Rattle.sql_flat.specs.declared.kind.FlatKind.{FlatKind}
 use Rattle.sql_flat.specs.declared.kind.FlatNode.{FlatNode}
@@ -18,4 +19,4 @@ read_from = run kind_of end_of over
 
 -- the statement that the first tree on a stack stands for, where it begins before 1
 abbrev pub root_of : List (ℕ × Part) → Option Statement
-root_of σ = statement_of (first (before kind_of end_of over 1 σ).0)
+root_of σ = statement_of (first (before 1 σ).0)

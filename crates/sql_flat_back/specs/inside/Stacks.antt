@@ -1,12 +1,14 @@
 -- What the loop from the last node to the first has on its stack: what the trees stand for that begin behind.
-use Rattle.std.specs.Prelude.{ℕ, List, map, option_map, reverse}
-use Rattle.sql_flat_law.specs.Backward.{before, put}
+use Rattle.std.specs.Prelude.{ℕ, List, map, option_map}
+use Rattle.sql_flat_law.specs.Backward.{put}
+use Rattle.sql_flat_law.specs.Finished.{before, finished}
+use Rattle.sql_flat_law.specs.Seen.{seen}
+use Rattle.sql_flat_law.specs.declared.finished.Finished.{Finished}
 use Rattle.sql_node.specs.View.{distinct_clause_tree, expr_tree, from_clause_tree, group_by_clause_tree, having_clause_tree, items_of, order_clause_tree, order_item_tree, source_tree, statement_tree, where_clause_tree}
 use Rattle.sql_flat_back.specs.declared.clauses.Clauses as declared_clauses
 use Rattle.sql_flat.specs.declared.kind.FlatKind.{FlatKind}
 use Rattle.sql_flat_back.specs.declared.part.Part as declared_part
 use Rattle.sql_flat_back.specs.declared.part.Part.TheVariants as P
-use Rattle.sql_flat_back.specs.declared.stack.Done.{Done}
 use Rattle.sql_flat.specs.inside.Parts.{Clauses, Part, expr_part, element_part, values_part, source_part, on_part, from_part, distinct_on_part, where_part, group_by_part, having_part, item_part, order_part, statement_part, position_part, positions_part, unfit, over}
 use Rattle.sql_flat.specs.inside.Reading.{end_of, kind_of}
 
@@ -42,16 +44,13 @@ clauses_of c = record {
   order = order_clause_tree c.order;
 }
 
-abbrev pub done_of : Done → ℕ × Part
-done_of d = (d.start, part_of d.part)
-
 -- from the first tree on
-abbrev pub stack : List Done → List (ℕ × Part)
-stack ds = map done_of (reverse ds)
+abbrev pub stack : List (Finished declared_part.Part) → List (ℕ × Part)
+stack ts = seen part_of (finished ts)
 
 -- what those stand for that begin before e, and the others
-abbrev pub split : ℕ → List Done → List Part × List (ℕ × Part)
-split e ds = before kind_of end_of over e (stack ds)
+abbrev pub split : ℕ → List (Finished declared_part.Part) → List Part × List (ℕ × Part)
+split e ts = before e (stack ts)
 
 -- the stack with the tree of a node of a kind at an index, over those that were split off
 abbrev pub put_at : ℕ → FlatKind → List Part × List (ℕ × Part) → List (ℕ × Part)

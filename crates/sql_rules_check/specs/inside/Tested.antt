@@ -1,7 +1,8 @@
 -- A test of nodes by what their children give, over all nodes of a list and of a tree.
 use Rattle.std.specs.Prelude.{ℕ, ◌+◌, Bool, false, ◌||◌, List, [], ◌∷◌}
 use Rattle.sql_flat_law.specs.Rose.{Rose, node, Roses, none, more}
-use Rattle.sql_flat_law.specs.Backward.{before, run}
+use Rattle.sql_flat_law.specs.Backward.{run}
+use Rattle.sql_flat_law.specs.Finished.{before}
 use Rattle.sql_flat_law.specs.Folds.{folded_each}
 
 module _ {K A : Type 0} (over : K → List A → A) (test : K → List A → Bool) where
@@ -18,4 +19,4 @@ module _ {K A : Type 0} (over : K → List A → A) (test : K → List A → Boo
     abbrev pub any_from : ℕ → List N → Bool
     any_from i [] = false
     any_from i (x ∷ xs) =
-        test (kind x) (before kind end over (end x) (run kind end over (i + 1) xs)).0 || any_from (i + 1) xs
+        test (kind x) (before (end x) (run kind end over (i + 1) xs)).0 || any_from (i + 1) xs

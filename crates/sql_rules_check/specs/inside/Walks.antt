@@ -1,8 +1,11 @@
 -- The loop from the first node to the last.
-use Rattle.std.specs.Prelude.{Bool, ℕ, ◌+◌, List, [], ◌∷◌, Option, None, Some, map, reverse, drop}
-use Rattle.sql_flat_law.specs.Around.{entered, opened, top, walk}
+use Rattle.std.specs.Prelude.{Bool, ℕ, ◌+◌, List, [], ◌∷◌, Option, None, Some, map, drop}
+use Rattle.sql_flat_law.specs.Around.{entered, top, walk}
 use Rattle.sql_flat_law.specs.Folds.{Site}
 use Rattle.sql_flat_law.specs.Forward.{after, gather}
+use Rattle.sql_flat_law.specs.Opened as stack
+use Rattle.sql_flat_law.specs.Seen.{seen}
+use Rattle.sql_flat_law.specs.declared.opened.Opened.{Opened}
 use Rattle.sql_origin.specs.Borrowed.{origin_of}
 use Rattle.sql_rules.specs.Scope.{View}
 use Rattle.sql_flat.specs.declared.kind.FlatKind.{FlatKind}
@@ -10,17 +13,13 @@ use Rattle.sql_flat.specs.declared.kind.FlatNode.{FlatNode}
 use Rattle.sql_rules_check.specs.inside.Lists.{kind_of, end_of}
 use Rattle.sql_rules_check.specs.inside.Views.{Views, nothing, leaf_at, is_passed, within, keeps}
 use Rattle.sql_rules_check.specs.declared.scope.Known.{Known}
-use Rattle.sql_rules_check.specs.declared.scope.Open as declared
 
 abbrev pub views_of : Known → Views
 views_of k = record { clause = map origin_of k.clause.items; condition = map origin_of k.condition.items }
 
-abbrev pub open_of : declared.Open → ℕ × Views
-open_of o = (o.end, views_of o.known)
-
 -- from the innermost on
-abbrev pub opens : List declared.Open → List (ℕ × Views)
-opens os = map open_of (reverse os)
+abbrev pub opens : List (Opened Known) → List (ℕ × Views)
+opens os = seen views_of (stack.opens os)
 
 abbrev pub option_list : {X : Type 0} → Option X → List X
 option_list None = []
@@ -35,9 +34,6 @@ leaves_from e i nodes = gather kind_of end_of leaf_at is_passed e i i (drop i no
 
 abbrev pub reads : Views → ℕ → FlatNode → List FlatNode → Views
 reads v i x xs = within v x.kind (gather kind_of end_of leaf_at is_passed x.end (i + 1) (i + 1) xs)
-
-abbrev pub opened_at : ℕ → List (ℕ × Views) → List (ℕ × Views)
-opened_at = opened kind_of end_of nothing keeps reads
 
 abbrev pub around : List (ℕ × Views) → Views
 around = top kind_of end_of nothing keeps reads

@@ -1,6 +1,7 @@
 -- What is compared of the elements of DISTINCT ON and of an order: their nodes as words, in writing order.
-use Rattle.std.specs.Prelude.{ℕ, ◌+◌, ◌==◌, Bool, true, false, not, ◌&&◌, ◌||◌, cond, if◌then◌else◌, List, [], ◌∷◌, ◌++◌, map, reverse}
+use Rattle.std.specs.Prelude.{ℕ, ◌+◌, ◌==◌, Bool, true, false, not, ◌&&◌, ◌||◌, cond, if◌then◌else◌, List, [], ◌∷◌, ◌++◌, map}
 use Rattle.std.proofs.Common.{ltb}
+use Rattle.sql_flat_law.specs.Opened.{innermost, still_open}
 use Rattle.sql_flat_law.specs.Rose.{Rose, node, Roses, none, more}
 use Rattle.sql_flat.specs.declared.kind.FlatKind.{FlatKind}
 use Rattle.sql_flat.specs.declared.kind.FlatKind.TheVariants as K
@@ -12,10 +13,10 @@ use Rattle.sql_flat.specs.declared.kind.Uniqueness.{Uniqueness}
 use Rattle.sql_flat.specs.declared.kind.Uniqueness.TheVariants as unique
 use Rattle.sql_key.specs.Blank.{blank_kind}
 use Rattle.sql_key.specs.inside.Swept.{is_element}
+use Rattle.sql_rules_check.specs.inside.Kids.{kids_behind, kids_from, kids_of}
 use Rattle.sql_rules_check.specs.inside.Shapes.{same_kind}
 use Rattle.sql_rules_check.specs.declared.order.Clause.{Clause}
 use Rattle.sql_rules_check.specs.declared.order.Clause.TheVariants as clause
-use Rattle.sql_rules_check.specs.declared.order.Open.{Open}
 use Rattle.sql_rules_check.specs.declared.order.Standing.{Standing}
 use Rattle.sql_rules_check.specs.declared.order.Standing.TheVariants.{Over, Within}
 use Rattle.sql_rules_check.specs.declared.order.Token.{Token}
@@ -57,45 +58,43 @@ abbrev mutual
   words_each s none = []
   words_each s (more t ts) = words s t ++ words_each s ts
 
--- of the children of the first node of the kind
-module _ (chosen : FlatKind → Bool) where
-  abbrev pub first_words : Roses FlatKind → List Word
-  first_words none = []
-  first_words (more (node k us) ts) = cond (chosen k) (words_each (Over 0) us) (first_words ts)
+-- a child of a select statement, with the words of its elements
+abbrev pub clause_of : FlatKind → Roses FlatKind → FlatKind × List Word
+clause_of k ts = (k, words_each (Over 0) ts)
+
+-- the words of the first child of the kind
+abbrev pub chosen_words : (FlatKind → Bool) → List (FlatKind × List Word) → List Word
+chosen_words chosen [] = []
+chosen_words chosen (p ∷ ps) = cond (chosen p.0) p.1 (chosen_words chosen ps)
+
+abbrev pub first_words : (FlatKind → Bool) → Roses FlatKind → List Word
+first_words chosen ts = chosen_words chosen (kids_of clause_of ts)
 
 -- ---- the same of a list of nodes, turn by turn, with a stack of open nodes' ends and how their children stand
 
 abbrev pub Nest : Type 0
 Nest = List (ℕ × Standing)
 
-abbrev pub still_open : ℕ → Nest → Nest
-still_open i [] = []
-still_open i (p ∷ σ) = cond (ltb i p.0) (p ∷ σ) (still_open i σ)
-
-abbrev pub innermost : Nest → Standing
-innermost [] = Over 0
-innermost (p ∷ σ) = p.1
+abbrev pub standing_in : Nest → Standing
+standing_in = innermost (Over 0)
 
 abbrev pub entered : FlatNode → Nest → Nest
-entered x σ = (x.end, below (innermost σ) x.kind) ∷ σ
+entered x σ = (x.end, below (standing_in σ) x.kind) ∷ σ
 
 abbrev pub visited : FlatNode → (Nest → List Word) → Nest → List Word
-visited x behind σ = word_at (innermost σ) x.kind ++ behind (entered x σ)
+visited x behind σ = word_at (standing_in σ) x.kind ++ behind (entered x σ)
 
 -- from the index i to the end e
 abbrev pub words_from : Nest → ℕ → ℕ → List FlatNode → List Word
 words_from σ e i [] = []
 words_from σ e i (x ∷ xs) = cond (ltb i e) (visited x (λ τ. words_from τ e (i + 1) xs) (still_open i σ)) []
 
--- where nothing is looked at before the index u
-module _ (chosen : FlatKind → Bool) where
-  abbrev pub clause_words : ℕ → ℕ → ℕ → List FlatNode → List Word
-  clause_words e u i [] = []
-  clause_words e u i (x ∷ xs) =
-      cond (ltb i e)
-      (cond (ltb i u) (clause_words e u (i + 1) xs)
-      (cond (chosen x.kind) (words_from [] x.end (i + 1) xs) (clause_words e x.end (i + 1) xs)))
-      []
+abbrev pub clause_at : ℕ → FlatNode → List FlatNode → FlatKind × List Word
+clause_at i x xs = (x.kind, words_from [] x.end (i + 1) xs)
+
+-- of the children that stand from the index i to the end e
+abbrev pub clause_words : (FlatKind → Bool) → ℕ → ℕ → List FlatNode → List Word
+clause_words chosen e i nodes = chosen_words chosen (kids_from clause_at e i nodes)
 
 -- ---- two lists of words
 
@@ -157,7 +156,7 @@ abbrev pub disordered : FlatKind → Roses FlatKind → Bool
 disordered k ts = disordered_by k (first_words is_distinct_on ts) (first_words is_order_by ts)
 
 abbrev pub words_behind : (FlatKind → Bool) → ℕ → FlatNode → List FlatNode → List Word
-words_behind chosen i x xs = clause_words chosen x.end (i + 1) (i + 1) xs
+words_behind chosen i x xs = chosen_words chosen (kids_behind clause_at i x xs)
 
 abbrev pub disordered_at : ℕ → FlatNode → List FlatNode → Bool
 disordered_at i x xs = disordered_by x.kind (words_behind is_distinct_on i x xs) (words_behind is_order_by i x xs)
@@ -166,10 +165,3 @@ disordered_at i x xs = disordered_by x.kind (words_behind is_distinct_on i x xs)
 
 abbrev pub word_of : Token → Word
 word_of t = record { kind = blank_kind t.kind.now; standing = t.standing }
-
-abbrev pub open_of : Open → ℕ × Standing
-open_of o = (o.end, o.standing)
-
--- from the innermost on
-abbrev pub nest_of : List Open → Nest
-nest_of os = map open_of (reverse os)

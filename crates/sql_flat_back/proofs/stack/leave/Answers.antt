@@ -1,0 +1,7 @@
+use Rattle.sql_flat_law.specs.Finished.{finished}
+use Rattle.sql_flat_law.proofs.Finishing.{seen-left}
+use Rattle.sql_flat_back.specs.inside.Stacks.{part_of}
+use Rattle.sql_flat_back.proofs.stack.leave.Goals as goal
+
+pub returns : goal.returns
+returns c = seen-left part_of c.args.end (finished c.args.done.now.items) (finished c.leave.new.trees.items) c.leave.ensures
