@@ -1,18 +1,16 @@
 -- A statement has an id exactly where each node of its flat list leaves it one.
-use Rattle.std.proofs.Common.{◌≡◌, ℕ, ◌+◌, map, Bool, true, false, ◌&&◌, List, [], ◌∷◌, Option, None, Some, if◌then◌else◌, refl, ap, sym, ◌∙◌}
+use Rattle.std.proofs.Common.{◌≡◌, ℕ, ◌+◌, map, Bool, true, false, ◌&&◌, List, [], ◌∷◌, Option, None, Some, refl, ap, sym, ◌∙◌}
 use Rattle.std.specs.List.{list_all}
-use Rattle.sql_schema.specs.declared.types.SqlType.{SqlType}
-use Rattle.sql_pass.specs.declared.value.Value.{Value}
 use Rattle.sql_leaf.specs.declared.position.PositionalItem.{PositionalItem}
 use Rattle.sql_node.specs.Tree.{Form, unboxed, boxed, Expr, column, value, list, count_star, nullable, unary, count, compared, joined, exists, single, among_values, among_rows, Exprs, no_exprs, more_exprs, Items, no_items, more_items, MaybeExpr, no_expr, an_expr, Source, of_table, of_alias, join, From, no_source, from, Distinct, every, distinct, distinct_on, Order, no_order, order_by, Statement, select, combination}
-use Rattle.sql_flat_law.specs.Rose.{Rose, node, Roses, none, more, leaf, roses_of, flat, flats, rose_all, roses_all, size}
+use Rattle.sql_flat_law.specs.Rose.{Rose, node, Roses, none, more, flat, flats, rose_all, roses_all, size}
 use Rattle.sql_flat.specs.Flat.{expr_rose, exprs_roses, items_roses, maybe_roses, source_rose, from_roses, distinct_roses, order_roses, positions_roses, rose, flat_node, flat_of, form_of}
 use Rattle.sql_flat.specs.declared.kind.FlatKind.{FlatKind}
 use Rattle.sql_flat.specs.declared.kind.FlatKind.TheVariants as K
 use Rattle.sql_flat.specs.declared.kind.FlatNode.{FlatNode}
 use Rattle.sql_shape.specs.Nodes.{is_unboxed as is_plain_form, all_expr, all_exprs, all_items, all_maybe, all_source, all_from, all_distinct, all_order}
 use Rattle.sql_shape.specs.Ids.{lacks_sample, lacks_places, id_tests, has_id}
-use Rattle.sql_key.specs.Keys.{id_of, key}
+use Rattle.sql_key.specs.Keys.{id_of}
 use Rattle.sql_key.specs.Blank.{blank_node}
 use Rattle.sql_key.specs.inside.Kept.{is_unboxed, keeps_id, node_keeps_id}
 use Rattle.sql_key.proofs.Mapping.{key-blank}
@@ -95,9 +93,14 @@ mutual
 
   statement-kept : (s : Statement) → rose_all keeps_id (rose s) ≡ has_id s
   statement-kept (select default e f u w o rows g h form marks) =
-      let groups = maybe-kept K.GroupBy refl g _ _ (maybe-kept K.Having refl h _ _ (order-kept o)) in
-      let sources = from-kept f _ _ (maybe-kept K.Where refl w _ _ groups) in
-      λ i. form-kept form i && distinct-kept u _ _ (λ j. expr-kept e j && sources j) i
+      let havings : Roses FlatKind = maybe_roses K.Having h (order_roses o) in
+      let groups : Roses FlatKind = maybe_roses K.GroupBy g havings in
+      let wheres : Roses FlatKind = maybe_roses K.Where w groups in
+      let having-kept = maybe-kept K.Having refl h (order_roses o) _ (order-kept o) in
+      let where-kept = maybe-kept K.Where refl w groups _ (maybe-kept K.GroupBy refl g havings _ having-kept) in
+      λ i. form-kept form i
+      && distinct-kept u (more (expr_rose e) (from_roses f wheres)) _
+      (λ j. expr-kept e j && from-kept f wheres _ where-kept j) i
   statement-kept (combination by all a b o rows) =
       λ i. (and-true (rose_all keeps_id (rose a)) ∙ statement-kept a) i
       && ((and-true (rose_all keeps_id (rose b)) ∙ statement-kept b) i && positional-kept o i)

@@ -1,17 +1,15 @@
 -- The nodes of a shape are the statement's without their values.
-use Rattle.std.proofs.Common.{◌≡◌, Bool, true, false, List, [], ◌∷◌, Option, None, Some, refl, ap, sym, ◌∙◌}
+use Rattle.std.proofs.Common.{◌≡◌, Bool, true, false, List, [], ◌∷◌, Option, None, Some, refl, ap, sym}
 use Rattle.sql_schema.specs.declared.types.SqlType.{SqlType}
 use Rattle.sql_pass.specs.declared.value.Value.{Value}
 use Rattle.sql_pass.specs.declared.value.Value.TheVariants.{Null}
 use Rattle.sql_leaf.specs.declared.position.PositionalItem.{PositionalItem}
 use Rattle.sql_node.specs.Tree.{Expr, column, value, list, count_star, nullable, unary, count, compared, joined as logical, exists, single, among_values, among_rows, Exprs, no_exprs, more_exprs, Items, no_items, more_items, MaybeExpr, no_expr, an_expr, Source, of_table, of_alias, join, From, no_source, from, Distinct, every, distinct, distinct_on, Order, no_order, order_by, Statement, select, combination}
-use Rattle.sql_flat_law.specs.Rose.{Rose, node, Roses, none, more, leaf, one, two, joined, roses_of}
-use Rattle.sql_flat.specs.Flat.{expr_rose, exprs_roses, items_roses, maybe_roses, source_rose, from_roses, distinct_roses, order_roses, positions_roses, rose, selecting_of, uniqueness, has_on, form_of}
+use Rattle.sql_flat_law.specs.Rose.{node, Roses, none, more, leaf, one, joined, roses_of}
+use Rattle.sql_flat.specs.Flat.{expr_rose, exprs_roses, items_roses, maybe_roses, source_rose, from_roses, distinct_roses, order_roses, positions_roses, rose, uniqueness, has_on, form_of}
 use Rattle.sql_flat.specs.declared.kind.FlatKind.{FlatKind}
 use Rattle.sql_flat.specs.declared.kind.FlatKind.TheVariants as K
-use Rattle.sql_flat.specs.declared.kind.Uniqueness.{Uniqueness}
 use Rattle.sql_shape.specs.Shape.{blank_rows, change_expr, change_exprs, change_items, change_maybe, change_source, change_from, change_distinct, change_order, change, null}
-use Rattle.sql_key.specs.Blank.{blank_kind}
 use Rattle.sql_key.specs.inside.Swept.{many, swept, swept_each}
 
 elements-swept : (lists : Bool) (t : SqlType) (vs : List Value)
