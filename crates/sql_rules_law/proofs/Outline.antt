@@ -1,6 +1,6 @@
 -- The outline of a statement: a plain value for each that fits, and the empty list for each list that fits; what does not fit
 -- stays. Bound numbers become 0.
-use Rattle.std.proofs.Common.{◌≡◌, ℤ, Bool, true, false, cond, if◌then◌else◌, List, [], refl, ap, ◌∙◌, sym}
+use Rattle.std.proofs.Common.{◌≡◌, ℤ, Bool, true, false, ◌&&◌, cond, if◌then◌else◌, List, [], refl, ap, ◌∙◌, sym}
 use Rattle.std.specs.Cmp.{first_so, second_so}
 use Rattle.sql_schema.specs.declared.types.Base.{Base}
 use Rattle.sql_schema.specs.declared.types.Base.TheVariants as base
@@ -70,54 +70,45 @@ outline-shape = expr-twice outline_value null outline_values no_values
 
 -- ## Where values fit, the outline has plain values alone
 
+-- two parts are what they are made where what holds of both holds of each
+two : {X Y Z : Type 0} (f : X → Y → Z) {x x' : X} {y y' : Y} (b c : Bool) → (b && c) ≡ true → (b ≡ true → x ≡ x')
+    → (c ≡ true → y ≡ y') → f x y ≡ f x' y'
+two f b c k p q =
+    let h = p (first_so b c k) in
+    let g = q (second_so b c k) in
+    λ i. f (h i) (g i)
+
 mutual
   expr-outline : (e : Expr) → all_expr fit_tests e ≡ true → outline_expr e ≡ change_expr good no_values e
   expr-outline (column o c) k = refl
   expr-outline (value t x) k = λ i. value t (cond (k i) (good t x) x)
-  expr-outline (list es) k = let p = exprs-outline es k in λ i. list (p i)
+  expr-outline (list es) k = ap list (exprs-outline es k)
   expr-outline count_star k = refl
-  expr-outline (nullable e) k = let p = expr-outline e k in λ i. nullable (p i)
-  expr-outline (unary n e) k = let p = expr-outline e k in λ i. unary n (p i)
-  expr-outline (count e) k = let p = expr-outline e k in λ i. count (p i)
-  expr-outline (compared by a b) k =
-      let p = expr-outline a (first_so (all_expr fit_tests a) (all_expr fit_tests b) k) in
-      let q = expr-outline b (second_so (all_expr fit_tests a) (all_expr fit_tests b) k) in
-      λ i. compared by (p i) (q i)
-  expr-outline (joined by a b) k =
-      let p = expr-outline a (first_so (all_expr fit_tests a) (all_expr fit_tests b) k) in
-      let q = expr-outline b (second_so (all_expr fit_tests a) (all_expr fit_tests b) k) in
-      λ i. joined by (p i) (q i)
-  expr-outline (exists q) k = let p = statement-outline q k in λ i. exists (p i)
-  expr-outline (single q) k = let p = statement-outline q k in λ i. single (p i)
+  expr-outline (nullable e) k = ap nullable (expr-outline e k)
+  expr-outline (unary n e) k = ap (unary n) (expr-outline e k)
+  expr-outline (count e) k = ap count (expr-outline e k)
+  expr-outline (compared by a b) k = two (compared by) _ _ k (expr-outline a) (expr-outline b)
+  expr-outline (joined by a b) k = two (joined by) _ _ k (expr-outline a) (expr-outline b)
+  expr-outline (exists q) k = ap exists (statement-outline q k)
+  expr-outline (single q) k = ap single (statement-outline q k)
   expr-outline (among_values n e t xs) k =
-      let p = expr-outline e (first_so (all_expr fit_tests e) (all_fit t xs) k) in
-      let q = second_so (all_expr fit_tests e) (all_fit t xs) k in
-      λ i. among_values n (p i) t (cond (q i) [] xs)
-  expr-outline (among_rows n e q) k =
-      let p = expr-outline e (first_so (all_expr fit_tests e) (values_fit q) k) in
-      let r = statement-outline q (second_so (all_expr fit_tests e) (values_fit q) k) in
-      λ i. among_rows n (p i) (r i)
+      two (λ e xs. among_values n e t xs) _ (all_fit t xs) k (expr-outline e) (λ h i. cond (h i) [] xs)
+  expr-outline (among_rows n e q) k = two (among_rows n) _ _ k (expr-outline e) (statement-outline q)
 
   exprs-outline : (es : Exprs) → all_exprs fit_tests es ≡ true
       → change_exprs outline_value outline_values es ≡ change_exprs good no_values es
   exprs-outline no_exprs k = refl
-  exprs-outline (more_exprs e es) k =
-      let p = expr-outline e (first_so (all_expr fit_tests e) (all_exprs fit_tests es) k) in
-      let q = exprs-outline es (second_so (all_expr fit_tests e) (all_exprs fit_tests es) k) in
-      λ i. more_exprs (p i) (q i)
+  exprs-outline (more_exprs e es) k = two more_exprs _ _ k (expr-outline e) (exprs-outline es)
 
   items-outline : (is : Items) → all_items fit_tests is ≡ true
       → change_items outline_value outline_values is ≡ change_items good no_values is
   items-outline no_items k = refl
-  items-outline (more_items e by is) k =
-      let p = expr-outline e (first_so (all_expr fit_tests e) (all_items fit_tests is) k) in
-      let q = items-outline is (second_so (all_expr fit_tests e) (all_items fit_tests is) k) in
-      λ i. more_items (p i) by (q i)
+  items-outline (more_items e by is) k = two (λ e is. more_items e by is) _ _ k (expr-outline e) (items-outline is)
 
   maybe-outline : (e : MaybeExpr) → all_maybe fit_tests e ≡ true
       → change_maybe outline_value outline_values e ≡ change_maybe good no_values e
   maybe-outline no_expr k = refl
-  maybe-outline (an_expr e) k = let p = expr-outline e k in λ i. an_expr (p i)
+  maybe-outline (an_expr e) k = ap an_expr (expr-outline e k)
 
   source-outline : (s : Source) → all_source fit_tests s ≡ true
       → change_source outline_value outline_values s ≡ change_source good no_values s
@@ -133,18 +124,18 @@ mutual
   from-outline : (f : From) → all_from fit_tests f ≡ true
       → change_from outline_value outline_values f ≡ change_from good no_values f
   from-outline no_source k = refl
-  from-outline (from s) k = let p = source-outline s k in λ i. from (p i)
+  from-outline (from s) k = ap from (source-outline s k)
 
   distinct-outline : (u : Distinct) → all_distinct fit_tests u ≡ true
       → change_distinct outline_value outline_values u ≡ change_distinct good no_values u
   distinct-outline every k = refl
   distinct-outline distinct k = refl
-  distinct-outline (distinct_on e) k = let p = expr-outline e k in λ i. distinct_on (p i)
+  distinct-outline (distinct_on e) k = ap distinct_on (expr-outline e k)
 
   order-outline : (o : Order) → all_order fit_tests o ≡ true
       → change_order outline_value outline_values o ≡ change_order good no_values o
   order-outline no_order k = refl
-  order-outline (order_by is) k = let p = items-outline is k in λ i. order_by (p i)
+  order-outline (order_by is) k = ap order_by (items-outline is k)
 
   statement-outline : (s : Statement) → values_fit s ≡ true → outline s ≡ change good no_values s
   statement-outline (select default e f u w o rows g h form marks) k =
@@ -162,9 +153,8 @@ mutual
       let po = order-outline o (second_so (all_maybe fit_tests h) (all_order fit_tests o) k5) in
       λ i. select default (pe i) (pf i) (pu i) (pw i) (po i) (blank_rows rows) (pg i) (ph i) form marks
   statement-outline (combination by all a b o rows) k =
-      let p = statement-outline a (first_so (values_fit a) _ k) in
-      let q = statement-outline b (first_so (values_fit b) true (second_so (values_fit a) _ k)) in
-      λ i. combination by all (p i) (q i) o (blank_rows rows)
+      two (λ a b. combination by all a b o (blank_rows rows)) _ _ k (statement-outline a)
+      (λ h. statement-outline b (first_so (values_fit b) true h))
 
 -- statements that are one but for values that fit, and for the lengths of lists, have one outline
 pub one-outline : (a b : Statement) → shape_without_lengths a ≡ shape_without_lengths b → values_fit a ≡ true
