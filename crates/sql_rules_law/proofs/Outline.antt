@@ -70,10 +70,10 @@ outline-shape = expr-twice outline_value null outline_values no_values
 
 -- ## Where values fit, the outline has plain values alone
 
--- two parts are what they are made where what holds of both holds of each
-two : {X Y Z : Type 0} (f : X → Y → Z) {x x' : X} {y y' : Y} (b c : Bool) → (b && c) ≡ true → (b ≡ true → x ≡ x')
-    → (c ≡ true → y ≡ y') → f x y ≡ f x' y'
-two f b c k p q =
+-- two parts are what they are made, where what holds of both holds of each
+two : {X Y Z : Type 0} (f : X → Y → Z) {x x' : X} {y y' : Y} {b c : Bool} → (b ≡ true → x ≡ x') → (c ≡ true → y ≡ y')
+    → (b && c) ≡ true → f x y ≡ f x' y'
+two f {x} {x'} {y} {y'} {b} {c} p q k =
     let h = p (first_so b c k) in
     let g = q (second_so b c k) in
     λ i. f (h i) (g i)
@@ -87,23 +87,23 @@ mutual
   expr-outline (nullable e) k = ap nullable (expr-outline e k)
   expr-outline (unary n e) k = ap (unary n) (expr-outline e k)
   expr-outline (count e) k = ap count (expr-outline e k)
-  expr-outline (compared by a b) k = two (compared by) _ _ k (expr-outline a) (expr-outline b)
-  expr-outline (joined by a b) k = two (joined by) _ _ k (expr-outline a) (expr-outline b)
+  expr-outline (compared by a b) k = two (compared by) (expr-outline a) (expr-outline b) k
+  expr-outline (joined by a b) k = two (joined by) (expr-outline a) (expr-outline b) k
   expr-outline (exists q) k = ap exists (statement-outline q k)
   expr-outline (single q) k = ap single (statement-outline q k)
   expr-outline (among_values n e t xs) k =
-      two (λ e xs. among_values n e t xs) _ (all_fit t xs) k (expr-outline e) (λ h i. cond (h i) [] xs)
-  expr-outline (among_rows n e q) k = two (among_rows n) _ _ k (expr-outline e) (statement-outline q)
+      two (λ e xs. among_values n e t xs) (expr-outline e) (λ h i. cond (h i) [] xs) k
+  expr-outline (among_rows n e q) k = two (among_rows n) (expr-outline e) (statement-outline q) k
 
   exprs-outline : (es : Exprs) → all_exprs fit_tests es ≡ true
       → change_exprs outline_value outline_values es ≡ change_exprs good no_values es
   exprs-outline no_exprs k = refl
-  exprs-outline (more_exprs e es) k = two more_exprs _ _ k (expr-outline e) (exprs-outline es)
+  exprs-outline (more_exprs e es) k = two more_exprs (expr-outline e) (exprs-outline es) k
 
   items-outline : (is : Items) → all_items fit_tests is ≡ true
       → change_items outline_value outline_values is ≡ change_items good no_values is
   items-outline no_items k = refl
-  items-outline (more_items e by is) k = two (λ e is. more_items e by is) _ _ k (expr-outline e) (items-outline is)
+  items-outline (more_items e by is) k = two (λ e is. more_items e by is) (expr-outline e) (items-outline is) k
 
   maybe-outline : (e : MaybeExpr) → all_maybe fit_tests e ≡ true
       → change_maybe outline_value outline_values e ≡ change_maybe good no_values e
@@ -115,11 +115,8 @@ mutual
   source-outline (of_table t only sample) k = refl
   source-outline (of_alias a t) k = refl
   source-outline (join by a b on) k =
-      let p = source-outline a (first_so (all_source fit_tests a) _ k) in
-      let l = second_so (all_source fit_tests a) _ k in
-      let q = source-outline b (first_so (all_source fit_tests b) (all_maybe fit_tests on) l) in
-      let r = maybe-outline on (second_so (all_source fit_tests b) (all_maybe fit_tests on) l) in
-      λ i. join by (p i) (q i) (r i)
+      two (λ a (r : Source × MaybeExpr). join by a r.0 r.1) (source-outline a)
+      (two (λ b on. (b, on)) (source-outline b) (maybe-outline on)) k
 
   from-outline : (f : From) → all_from fit_tests f ≡ true
       → change_from outline_value outline_values f ≡ change_from good no_values f
@@ -153,8 +150,8 @@ mutual
       let po = order-outline o (second_so (all_maybe fit_tests h) (all_order fit_tests o) k5) in
       λ i. select default (pe i) (pf i) (pu i) (pw i) (po i) (blank_rows rows) (pg i) (ph i) form marks
   statement-outline (combination by all a b o rows) k =
-      two (λ a b. combination by all a b o (blank_rows rows)) _ _ k (statement-outline a)
-      (λ h. statement-outline b (first_so (values_fit b) true h))
+      two (λ a b. combination by all a b o (blank_rows rows)) (statement-outline a)
+      (λ h. statement-outline b (first_so (values_fit b) true h)) k
 
 -- statements that are one but for values that fit, and for the lengths of lists, have one outline
 pub one-outline : (a b : Statement) → shape_without_lengths a ≡ shape_without_lengths b → values_fit a ≡ true

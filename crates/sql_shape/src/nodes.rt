@@ -15,27 +15,29 @@ use sql_node::{
 use sql_pass::Value;
 use sql_schema::{SqlList, SqlType};
 
-/// What passes of that which nodes hold.
+/// Tests of what the nodes of a statement hold, which `all_nodes` makes at any depth.
+///
+/// Those of an id let each value pass and no list of values: `WHERE id = $1`, but not `WHERE id IN ($1, $2)`.
 pub trait NodeTest {
     ghost tests: { NodeTests };
 
-    /// Whether a boxed statement passes, if what it holds does: one of `into_boxed`.
+    /// Whether a boxed statement passes, one of `into_boxed`, if all that it holds does.
     fn boxed() -> bool
         ensures { result ≡ tests.boxed };
 
-    /// Whether a value passes that is bound as of the type: the 1 of `id = 1`.
+    /// Whether a value that is bound as of the type passes: the 1 of `id = 1`.
     fn value(ty: SqlType, value: &Value) -> bool
         ensures { result ≡ tests.value ty value.now };
 
-    /// Whether a list of values passes: that of `id IN (1, 2)`.
+    /// Whether a list of values of the type passes: that of `id IN (1, 2)`.
     fn values(ty: SqlType, values: &[Value]) -> bool
         ensures { result ≡ tests.values ty values.now };
 
-    /// Whether a table passes by its sample: `TABLESAMPLE BERNOULLI(10)`, or none.
+    /// Whether a table passes by its sample, as `users TABLESAMPLE BERNOULLI (10)`, or without one.
     fn sample(sample: &Option<Tablesample>) -> bool
         ensures { result ≡ tests.sample sample.now };
 
-    /// Whether a combination passes by the places that it is ordered by: `ORDER BY 1`, or none.
+    /// Whether a combination passes by the places that it is ordered by, as `ORDER BY 1`, or without an order.
     fn places(order: &Option<SqlList<PositionalItem>>) -> bool
         ensures { result ≡ tests.places order.now };
 }
@@ -256,7 +258,8 @@ fn combination_passes<T: NodeTest>(both: &CombinationClause) -> bool
     all_nodes::<T>(&both.source) && all_nodes::<T>(&both.rhs) && T::places(&both.order)
 }
 
-/// Whether all that the nodes of the statement hold passes the tests, at any depth. It takes no memory.
+/// Whether all that the nodes of the statement hold passes the tests, at any depth: of `SELECT .. WHERE EXISTS (SELECT ..)` in
+/// both. It takes no memory.
 #[tactic(auto, using(sql_node::proofs::Trees::opens_statement))]
 #[cycle(nodes)]
 pub fn all_nodes<T: NodeTest>(statement: &Statement) -> bool
