@@ -14,6 +14,7 @@ pub mod SafeLaws
 pub mod TypeLaws
 pub mod FlatLaws
 pub mod FitLaws
+pub mod Agreeing
 pub mod Outline
 pub mod Blind
 pub mod RulesLaws
