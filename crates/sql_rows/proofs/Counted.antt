@@ -3,7 +3,7 @@ use Rattle.std.proofs.Common.{◌≡◌, Bool, true, false, ◌&&◌, List, [], 
 use Rattle.std.specs.Cmp.{first_so, second_so}
 use Rattle.sql_leaf.specs.declared.position.PositionalItem.{PositionalItem}
 use Rattle.sql_node.specs.Tree.{Expr, column, value, list, count_star, nullable, unary, count, compared, joined, exists, single, among_values, among_rows, Exprs, no_exprs, more_exprs, Items, no_items, more_items, MaybeExpr, no_expr, an_expr, Source, of_table, of_alias, join, From, no_source, from, Distinct, every, distinct, distinct_on, Order, no_order, order_by, Statement, select, combination}
-use Rattle.sql_shape.specs.Nodes.{is_unboxed, all_expr, all_exprs, all_items, all_maybe, all_source, all_from, all_distinct, all_order}
+use Rattle.sql_shape.specs.Nodes.{all_expr, all_exprs, all_items, all_maybe, all_source, all_from, all_distinct, all_order}
 use Rattle.sql_shape.specs.Ids.{lacks_places, id_tests, has_id}
 use Rattle.sql_key.specs.Keys.{key, id_of}
 use Rattle.sql_flat.specs.declared.kind.FlatNode.{FlatNode}
@@ -80,7 +80,7 @@ mutual
       let ends = both (maybe-counted g v) (both (maybe-counted x v) (order-counted o v)) in
       let wheres = both (maybe-counted w (widest form f outer)) ends in
       let all = both (distinct-counted u v) (both (expr-counted e v) (both (from-counted f) wheres)) in
-      record { counted = (tt, (all (second_so (is_unboxed form) _ h)).counted) }
+      record { counted = (tt, (both (λ k. none) all h).counted) }
   statement-counted (combination by all a b o rows) outer h =
       let g = second_so (has_id a) _ h in
       record {
