@@ -43,7 +43,7 @@ INNER: dict[str, set[str]] = {
     },
     # parts of sources and of shapes
     "sql_origin": {"same_table"},
-    "sql_shape": {"statement_leaves_id"},
+    "sql_shape": {"NodeTest", "all_nodes", "statement_leaves_id"},
     # lists of nodes, and loops over them
     "sql_flat_law": {"*"},
     "sql_flat_law": {"*"},

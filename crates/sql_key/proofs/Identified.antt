@@ -1,17 +1,16 @@
 -- A statement has an id exactly where each node of its flat list leaves it one.
-use Rattle.std.proofs.Common.{◌≡◌, ℕ, ◌+◌, map, Bool, true, false, ◌&&◌, List, [], ◌∷◌, Option, None, Some, if◌then◌else◌, refl, ap, sym, ◌∙◌}
+use Rattle.std.proofs.Common.{◌≡◌, ℕ, ◌+◌, map, Bool, true, false, ◌&&◌, List, [], ◌∷◌, Option, None, Some, refl, ap, sym, ◌∙◌}
 use Rattle.std.specs.List.{list_all}
-use Rattle.sql_schema.specs.declared.types.SqlType.{SqlType}
-use Rattle.sql_pass.specs.declared.value.Value.{Value}
 use Rattle.sql_leaf.specs.declared.position.PositionalItem.{PositionalItem}
 use Rattle.sql_node.specs.Tree.{Form, unboxed, boxed, Expr, column, value, list, count_star, nullable, unary, count, compared, joined, exists, single, among_values, among_rows, Exprs, no_exprs, more_exprs, Items, no_items, more_items, MaybeExpr, no_expr, an_expr, Source, of_table, of_alias, join, From, no_source, from, Distinct, every, distinct, distinct_on, Order, no_order, order_by, Statement, select, combination}
-use Rattle.sql_flat_law.specs.Rose.{Rose, node, Roses, none, more, leaf, roses_of, flat, flats, rose_all, roses_all, size}
+use Rattle.sql_flat_law.specs.Rose.{Rose, node, Roses, none, more, flat, flats, rose_all, roses_all, size}
 use Rattle.sql_flat.specs.Flat.{expr_rose, exprs_roses, items_roses, maybe_roses, source_rose, from_roses, distinct_roses, order_roses, positions_roses, rose, flat_node, flat_of, form_of}
 use Rattle.sql_flat.specs.declared.kind.FlatKind.{FlatKind}
 use Rattle.sql_flat.specs.declared.kind.FlatKind.TheVariants as K
 use Rattle.sql_flat.specs.declared.kind.FlatNode.{FlatNode}
-use Rattle.sql_shape.specs.Ids.{lacks_sample, lacks_places, is_plain_form, expr_keeps_id, exprs_keep_id, items_keep_id, maybe_keeps_id, source_keeps_id, from_keeps_id, distinct_keeps_id, order_keeps_id, has_id}
-use Rattle.sql_key.specs.Keys.{id_of, key}
+use Rattle.sql_shape.specs.Nodes.{is_unboxed as is_plain_form, all_expr, all_exprs, all_items, all_maybe, all_source, all_from, all_distinct, all_order}
+use Rattle.sql_shape.specs.Ids.{lacks_sample, lacks_places, id_tests, has_id}
+use Rattle.sql_key.specs.Keys.{id_of}
 use Rattle.sql_key.specs.Blank.{blank_node}
 use Rattle.sql_key.specs.inside.Kept.{is_unboxed, keeps_id, node_keeps_id}
 use Rattle.sql_key.proofs.Mapping.{key-blank}
@@ -21,10 +20,6 @@ use Rattle.sql_key.proofs.Mapping.{key-blank}
 and-true : (b : Bool) → (b && true) ≡ b
 and-true true = refl
 and-true false = refl
-
-and-false : (b : Bool) → (b && false) ≡ false
-and-false true = refl
-and-false false = refl
 
 and-assoc : (a b c : Bool) → ((a && b) && c) ≡ (a && (b && c))
 and-assoc true b c = refl
@@ -41,28 +36,8 @@ positional-kept None = refl
 positional-kept (Some []) = refl
 positional-kept (Some (p ∷ ps)) = refl
 
-moved : (u e f r : Bool) → (u && (e && (f && r))) ≡ (e && (f && (u && r)))
-moved true e f r = refl
-moved false true true r = refl
-moved false true false r = refl
-moved false false f r = refl
-
-and-comm : (a b : Bool) → (a && b) ≡ (b && a)
-and-comm true b = sym (and-true b)
-and-comm false b = sym (and-false b)
-
-turned : (g h o : Bool) → (g && (h && o)) ≡ (o && (g && h))
-turned true h o = and-comm h o
-turned false h o = sym (and-false o)
-
--- the clauses in the order in which they are written, and in that of the statement
-ordered : (u e f w g h o : Bool)
-    → (u && (e && (f && (w && (g && (h && o)))))) ≡ (e && (f && (u && (w && (o && (g && h))))))
-ordered u e f w g h o =
-    moved u e f (w && (g && (h && o))) ∙ ap (λ b. e && (f && (u && (w && b)))) (turned g h o)
-
 mutual
-  expr-kept : (e : Expr) → rose_all keeps_id (expr_rose e) ≡ expr_keeps_id e
+  expr-kept : (e : Expr) → rose_all keeps_id (expr_rose e) ≡ all_expr id_tests e
   expr-kept (column o c) = refl
   expr-kept (value t v) = refl
   expr-kept (list es) = exprs-kept es
@@ -74,69 +49,58 @@ mutual
   expr-kept (joined by a b) = λ i. expr-kept a i && (and-true (rose_all keeps_id (expr_rose b)) ∙ expr-kept b) i
   expr-kept (exists q) = and-true (rose_all keeps_id (rose q)) ∙ statement-kept q
   expr-kept (single q) = and-true (rose_all keeps_id (rose q)) ∙ statement-kept q
-  expr-kept (among_values n e t vs) = and-false (rose_all keeps_id (expr_rose e))
+  expr-kept (among_values n e t vs) = λ i. expr-kept e i && false
   expr-kept (among_rows n e q) =
       λ i. expr-kept e i && (and-true (rose_all keeps_id (rose q)) ∙ statement-kept q) i
 
-  exprs-kept : (es : Exprs) → roses_all keeps_id (exprs_roses es) ≡ exprs_keep_id es
+  exprs-kept : (es : Exprs) → roses_all keeps_id (exprs_roses es) ≡ all_exprs id_tests es
   exprs-kept no_exprs = refl
   exprs-kept (more_exprs e es) = λ i. expr-kept e i && exprs-kept es i
 
-  items-kept : (is : Items) → roses_all keeps_id (items_roses is) ≡ items_keep_id is
+  items-kept : (is : Items) → roses_all keeps_id (items_roses is) ≡ all_items id_tests is
   items-kept no_items = refl
   items-kept (more_items e by is) =
       λ i. (and-true (rose_all keeps_id (expr_rose e)) ∙ expr-kept e) i && items-kept is i
 
-  -- a clause of a kind that leaves an id, before the others
-  maybe-kept : (k : FlatKind) → keeps_id k ≡ true → (e : MaybeExpr) (ts : Roses FlatKind)
-      → roses_all keeps_id (maybe_roses k e ts) ≡ (maybe_keeps_id e && roses_all keeps_id ts)
-  maybe-kept k h no_expr ts = refl
-  maybe-kept k h (an_expr e) ts =
-      λ i. (h i && (and-true (rose_all keeps_id (expr_rose e)) ∙ expr-kept e) i) && roses_all keeps_id ts
+  -- a clause of a kind that leaves an id, before others
+  maybe-kept : (k : FlatKind) → keeps_id k ≡ true → (e : MaybeExpr) (ts : Roses FlatKind) (r : Bool)
+      → roses_all keeps_id ts ≡ r → roses_all keeps_id (maybe_roses k e ts) ≡ (all_maybe id_tests e && r)
+  maybe-kept k h no_expr ts r p = p
+  maybe-kept k h (an_expr e) ts r p =
+      λ i. (h i && (and-true (rose_all keeps_id (expr_rose e)) ∙ expr-kept e) i) && p i
 
-  source-kept : (s : Source) → rose_all keeps_id (source_rose s) ≡ source_keeps_id s
+  source-kept : (s : Source) → rose_all keeps_id (source_rose s) ≡ all_source id_tests s
   source-kept (of_table t only sample) = and-true (lacks_sample sample)
   source-kept (of_alias a t) = refl
   source-kept (join k l r on) =
       λ i. source-kept l i
-      && (source-kept r i && (maybe-kept K.On refl on none ∙ and-true (maybe_keeps_id on)) i)
+      && (source-kept r i && (maybe-kept K.On refl on none true refl ∙ and-true (all_maybe id_tests on)) i)
 
-  from-kept : (f : From) (ts : Roses FlatKind)
-      → roses_all keeps_id (from_roses f ts) ≡ (from_keeps_id f && roses_all keeps_id ts)
-  from-kept no_source ts = refl
-  from-kept (from s) ts =
-      λ i. (and-true (rose_all keeps_id (source_rose s)) ∙ source-kept s) i && roses_all keeps_id ts
+  from-kept : (f : From) (ts : Roses FlatKind) (r : Bool) → roses_all keeps_id ts ≡ r
+      → roses_all keeps_id (from_roses f ts) ≡ (all_from id_tests f && r)
+  from-kept no_source ts r p = p
+  from-kept (from s) ts r p = λ i. (and-true (rose_all keeps_id (source_rose s)) ∙ source-kept s) i && p i
 
-  distinct-kept : (u : Distinct) (ts : Roses FlatKind)
-      → roses_all keeps_id (distinct_roses u ts) ≡ (distinct_keeps_id u && roses_all keeps_id ts)
-  distinct-kept every ts = refl
-  distinct-kept distinct ts = refl
-  distinct-kept (distinct_on e) ts =
-      λ i. (and-true (rose_all keeps_id (expr_rose e)) ∙ expr-kept e) i && roses_all keeps_id ts
+  distinct-kept : (u : Distinct) (ts : Roses FlatKind) (r : Bool) → roses_all keeps_id ts ≡ r
+      → roses_all keeps_id (distinct_roses u ts) ≡ (all_distinct id_tests u && r)
+  distinct-kept every ts r p = p
+  distinct-kept distinct ts r p = p
+  distinct-kept (distinct_on e) ts r p = λ i. (and-true (rose_all keeps_id (expr_rose e)) ∙ expr-kept e) i && p i
 
-  order-kept : (o : Order) → roses_all keeps_id (order_roses o) ≡ order_keeps_id o
+  order-kept : (o : Order) → roses_all keeps_id (order_roses o) ≡ all_order id_tests o
   order-kept no_order = refl
   order-kept (order_by is) = and-true (roses_all keeps_id (items_roses is)) ∙ items-kept is
 
   statement-kept : (s : Statement) → rose_all keeps_id (rose s) ≡ has_id s
   statement-kept (select default e f u w o rows g h form marks) =
-      let where_on : Roses FlatKind = maybe_roses K.Where w (maybe_roses K.GroupBy g (maybe_roses K.Having h (order_roses o))) in
-      let clauses : roses_all keeps_id where_on
-      ≡ (maybe_keeps_id w && (maybe_keeps_id g && (maybe_keeps_id h && order_keeps_id o))) =
-      maybe-kept K.Where refl w _
-      ∙ ap (λ b. maybe_keeps_id w && b)
-      (maybe-kept K.GroupBy refl g _
-      ∙ ap (λ b. maybe_keeps_id g && b)
-      (maybe-kept K.Having refl h _ ∙ ap (λ b. maybe_keeps_id h && b) (order-kept o))) in
-      let selection : roses_all keeps_id (more (expr_rose e) (from_roses f where_on))
-      ≡ (expr_keeps_id e && (from_keeps_id f && roses_all keeps_id where_on)) =
-      λ i. expr-kept e i && from-kept f where_on i in
-      (λ i. form-kept form i && distinct-kept u (more (expr_rose e) (from_roses f where_on)) i)
-      ∙ ap (λ b. is_plain_form form && (distinct_keeps_id u && b)) selection
-      ∙ ap (λ b. is_plain_form form && (distinct_keeps_id u && (expr_keeps_id e && (from_keeps_id f && b)))) clauses
-      ∙ ap (λ b. is_plain_form form && b)
-      (ordered (distinct_keeps_id u) (expr_keeps_id e) (from_keeps_id f) (maybe_keeps_id w) (maybe_keeps_id g)
-      (maybe_keeps_id h) (order_keeps_id o))
+      let havings : Roses FlatKind = maybe_roses K.Having h (order_roses o) in
+      let groups : Roses FlatKind = maybe_roses K.GroupBy g havings in
+      let wheres : Roses FlatKind = maybe_roses K.Where w groups in
+      let having-kept = maybe-kept K.Having refl h (order_roses o) _ (order-kept o) in
+      let where-kept = maybe-kept K.Where refl w groups _ (maybe-kept K.GroupBy refl g havings _ having-kept) in
+      λ i. form-kept form i
+      && distinct-kept u (more (expr_rose e) (from_roses f wheres)) _
+      (λ j. expr-kept e j && from-kept f wheres _ where-kept j) i
   statement-kept (combination by all a b o rows) =
       λ i. (and-true (rose_all keeps_id (rose a)) ∙ statement-kept a) i
       && ((and-true (rose_all keeps_id (rose b)) ∙ statement-kept b) i && positional-kept o i)

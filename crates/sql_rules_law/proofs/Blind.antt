@@ -1,6 +1,6 @@
 -- Statements with other values: what clauses see, the statements inside, clauses, expressions, verdicts and types are
 -- those of the statement, as long as what fits goes on to fit and what does not goes on not to.
-use Rattle.std.proofs.Common.{◌≡◌, Bool, false, ◌||◌, if◌then◌else◌, List, [], ◌∷◌, ◌++◌, map, Some, None, refl, sym, ap, ◌∙◌}
+use Rattle.std.proofs.Common.{◌≡◌, Bool, ◌||◌, if◌then◌else◌, List, [], ◌∷◌, ◌++◌, map, Some, None, refl, sym, ap, ◌∙◌}
 use Rattle.std.specs.List.{list_any}
 use Rattle.std.proofs.lemmas.List.{map-append}
 use Rattle.sql_schema.specs.declared.declaration.ColumnDecl.{ColumnDecl}
@@ -8,12 +8,11 @@ use Rattle.sql_schema.specs.declared.types.SqlType.{SqlType}
 use Rattle.sql_pass.specs.declared.value.Value.{Value}
 use Rattle.sql_node.specs.Tree.{Origin, Form, unboxed, boxed, Expr, column, list, count_star, nullable, unary, count, compared, joined, exists, single, among_values, among_rows, Exprs, no_exprs, more_exprs, Items, no_items, more_items, MaybeExpr, no_expr, an_expr, Source, of_table, of_alias, join, From, no_source, from, Distinct, distinct_on, Order, no_order, order_by, Statement, select, combination}
 use Rattle.sql_origin.specs.Leaves.{leaves, in_right_side}
-use Rattle.sql_shape.specs.Shape.{blank_rows}
+use Rattle.sql_shape.specs.Shape.{blank_rows, change_expr, change_exprs, change_items, change_maybe, change_source, change_from, change_distinct, change_order, change}
 use Rattle.sql_rules.specs.Rules.{bare, bare_of}
 use Rattle.sql_rules.specs.Scope.{View, origins, leaves_of, origins_of, widest, Select, Combination, Part, a_select, a_combination, parts, in_expr, in_exprs, in_items, in_maybe, in_source, in_from, in_distinct, in_order, Place, in_selection, in_order_by, in_on, in_where, in_group_by, in_having, Clause, clauses, clauses_by, maybe_clause, ons, ons_of, distinct_clause, item_clauses, order_clauses, own, nodes, nodes_of, flat, flat_of, flat_items}
 use Rattle.sql_rules.specs.Types.{all_fit, one, many, given, given_each, columns, only_type, element_types, all_nullable, as_nullable, single_type, unary_type, if_typed, big_type, compared_type, joined_type, form_columns}
 use Rattle.sql_rules.specs.Verdicts.{NoVerdict, Yes, mix, is_aggregate, holds_aggregate, fields, fields_of, holds_column, holds_key, column_verdict, verdict, verdict_of}
-use Rattle.sql_rules_law.proofs.Change.{change_expr, change_exprs, change_items, change_maybe, change_source, change_from, change_distinct, change_order, change}
 
 -- ## Lists
 

@@ -15,12 +15,11 @@ use Rattle.sql_rules.specs.Scope.{View, Part, a_select, a_combination, parts, Pl
 use Rattle.sql_rules.specs.Types.{fits, all_fit, type_of, compared_type, columns}
 use Rattle.sql_rules.specs.declared.rule.Rule.{Rule}
 use Rattle.sql_rules.specs.declared.rule.Rule.TheVariants as R
-use Rattle.sql_rules_law.specs.Fitting.{Fits, ValuesFit}
+use Rattle.sql_rules_law.specs.Fitting.{Fits, ValuesFit, values_fit}
 use Rattle.sql_rules_law.specs.Lengths.{shape_without_lengths}
-use Rattle.sql_rules_law.specs.inside.Fits.{fit_statement}
 use Rattle.sql_rules_law.proofs.Blind.{columns-same}
-use Rattle.sql_rules_law.proofs.Change.{outline_value, outline_values, outline-fits, outline-all-fit, outline-shape, outline, one-outline}
-use Rattle.sql_rules_law.proofs.FitLaws.{along, test}
+use Rattle.sql_rules_law.proofs.Outline.{outline_value, outline_values, outline-fits, outline-all-fit, outline-shape, outline, one-outline}
+use Rattle.sql_rules_law.proofs.FitLaws.{test}
 use Rattle.sql_rules_law.proofs.Lists.{each_not, each_map, each_append, each_front, each_back, each_under}
 use Rattle.sql_rules_law.proofs.OneText.{as_many, as_many-loosely, text-loosely, safe-loosely}
 use Rattle.sql_rules_law.proofs.RulesLaws.{parts-iff}
@@ -33,7 +32,7 @@ outline-inside : (r : Rule) (schema : Declarations) (d : Dialect) (s : Statement
 outline-inside = parts-iff outline_value outline_values outline-fits outline-all-fit outline-shape
 
 inside : (r : Rule) (schema : Declarations) (d : Dialect) (a b : Statement)
-    → shape_without_lengths a ≡ shape_without_lengths b → fit_statement a ≡ true → fit_statement b ≡ true
+    → shape_without_lengths a ≡ shape_without_lengths b → values_fit a ≡ true → values_fit b ≡ true
     → AnyOf (PartBreaks r schema d) (parts [] a) → AnyOf (PartBreaks r schema d) (parts [] b)
 inside r schema d a b h f g k =
     (outline-inside r schema d b).0
@@ -41,14 +40,14 @@ inside r schema d a b h f g k =
     ((outline-inside r schema d a).1 k))
 
 breaks : (r : Rule) (schema : Declarations) (d : Dialect) (a b : Statement)
-    → shape_without_lengths a ≡ shape_without_lengths b → fit_statement a ≡ true → fit_statement b ≡ true
+    → shape_without_lengths a ≡ shape_without_lengths b → values_fit a ≡ true → values_fit b ≡ true
     → length (values_of (pieces d a)) ≡ length (values_of (pieces d b))
     → Broken r schema d a → Broken r schema d b
 breaks R.TooManyBinds schema d a b h f g n k = (k.0, subst (λ m. MAX_BINDS < m) n k.1)
 breaks r schema d a b h f g n k = inside r schema d a b h f g k
 
-fit : (s : Statement) → ValuesFit s → fit_statement s ≡ true
-fit s h = along s ∙ (test s).1 h
+fit : (s : Statement) → ValuesFit s → values_fit s ≡ true
+fit s = (test s).1
 
 -- of one shape are statements of one shape without lengths
 pub loosely : (a b : Statement) → shape a ≡ shape b → shape_without_lengths a ≡ shape_without_lengths b

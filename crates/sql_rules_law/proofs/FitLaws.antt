@@ -1,53 +1,42 @@
--- Whether values fit: the relation, the test along lists of parts, and the test along the tree are one.
-use Rattle.std.proofs.Common.{◌≡◌, ◌↔◌, Bool, true, false, ◌&&◌, List, [], ◌∷◌, ◌++◌, IsTrue, refl, sym, ap, ◌∙◌}
+-- Whether values fit: the test along the tree, a test along lists of parts, and the relation are one.
+use Rattle.std.proofs.Common.{◌≡◌, ◌↔◌, Bool, true, false, ◌&&◌, List, [], ◌∷◌, ◌++◌, IsTrue, refl, sym, ap, ◌∙◌, subst}
 use Rattle.std.specs.List.{list_all}
 use Rattle.std.specs.Cmp.{first_so, second_so}
 use Rattle.std.proofs.lemmas.List.Folds.{list_all-append}
 use Rattle.sql_node.specs.Tree.{Expr, column, value, list, count_star, nullable, unary, count, compared, joined, exists, single, among_values, among_rows, Exprs, no_exprs, more_exprs, Items, no_items, more_items, MaybeExpr, no_expr, an_expr, Source, of_table, of_alias, join, From, no_source, from, Distinct, every, distinct, distinct_on, Order, no_order, order_by, Statement, select, combination}
-use Rattle.sql_node.specs.View.{Among, among_list, among_query, among_of}
+use Rattle.sql_shape.specs.Nodes.{all_expr, all_exprs, all_items, all_maybe, all_source, all_from, all_distinct, all_order}
 use Rattle.sql_rules.specs.Lists.{Each}
 use Rattle.sql_rules.specs.Scope.{View, origins, origins_of, widest, Part, a_select, a_combination, parts, in_expr, in_exprs, in_items, in_maybe, in_source, in_from, in_distinct, in_order, Place, in_selection, in_distinct_on, in_on, in_where, in_group_by, in_having, in_order_by, Clause, clauses, maybe_clause, ons, ons_of, distinct_clause, item_clauses, order_clauses, nodes, nodes_of, EachExprIn}
 use Rattle.sql_rules.specs.Types.{fits, all_fit}
-use Rattle.sql_rules_law.specs.Fitting.{Fits, ValuesFit, expr_fits, clause_fits, part_fits, values_fit}
-use Rattle.sql_rules_law.specs.inside.Fits.{fit_expr, fit_exprs, fit_items, fit_maybe, fit_source, fit_from, fit_distinct, fit_order, fit_statement, fit_among}
+use Rattle.sql_rules_law.specs.Fitting.{Fits, ValuesFit, fit_tests, values_fit}
 
--- ## Tests over two lists
+-- ## The test along lists of parts
+
+abbrev expr_fits : Expr → Bool
+expr_fits (value t x) = fits t x
+expr_fits (among_values n e t xs) = all_fit t xs
+expr_fits _ = true
+
+abbrev clause_fits : Clause → Bool
+clause_fits c = list_all expr_fits (nodes c.expr)
+
+abbrev part_fits : Part → Bool
+part_fits (a_select outer s) = list_all clause_fits (clauses outer s)
+part_fits (a_combination c) = true
+
+-- ## Along the tree
 
 -- a test along the tree says what two tests along lists say: of nodes or clauses, and of the statements inside
-abbrev Says : {X : Type 0} → (X → Bool) → Bool → List X → List Part → Type 0
-Says test b xs ps = b ≡ (list_all test xs && list_all part_fits ps)
+record Says {X : Type 0} (test : X → Bool) (b : Bool) (xs : List X) (ps : List Part) : Type 0 where
+  pub says : b ≡ (list_all test xs && list_all part_fits ps)
 
 and-true : (b : Bool) → b ≡ (b && true)
 and-true true = refl
 and-true false = refl
 
-both-tests : (x y a b : Bool) → ((x && y) && (a && b)) ≡ ((x && a) && (y && b))
-both-tests true true a b = refl
-both-tests true false true b = refl
-both-tests true false false b = refl
-both-tests false y a b = refl
-
-zip : {X : Type 0} (test : X → Bool) (s t : Bool) (xs ys : List X) (ps qs : List Part)
-    → Says test s xs ps → Says test t ys qs → Says test (s && t) (xs ++ ys) (ps ++ qs)
-zip test s t xs ys ps qs h k =
-    (λ i. h i && k i)
-    ∙ both-tests (list_all test xs) (list_all part_fits ps) (list_all test ys) (list_all part_fits qs)
-    ∙ (λ i. sym (list_all-append test xs ys) i && sym (list_all-append part_fits ps qs) i)
-
--- the same, of lists one after the other
-record Fitly (b : Bool) (xs : List Clause) (ps : List Part) : Type 0 where
-  pub says : Says clause_fits b xs ps
-
-both : {s t : Bool} {xs ys : List Clause} {ps qs : List Part} → Fitly s xs ps → Fitly t ys qs
-    → Fitly (s && t) (xs ++ ys) (ps ++ qs)
-both {s} {t} {xs} {ys} {ps} {qs} h k = record { says = zip clause_fits s t xs ys ps qs h.says k.says }
-
--- an expression's nodes, in a clause
-in-clause : (b : Bool) (p : Place) (v : View) (e : Expr) (ps : List Part) → Says expr_fits b (nodes e) ps
-    → Says clause_fits b (record { place = p; view = v; expr = e } ∷ []) ps
-in-clause b p v e ps h = h ∙ ap (λ x. x && list_all part_fits ps) (and-true (list_all expr_fits (nodes e)))
-
--- ## Along the tree
+assoc : (n p q : Bool) → ((n && p) && q) ≡ (n && (p && q))
+assoc true p q = refl
+assoc false p q = refl
 
 turned : (n p a : Bool) → ((n && p) && a) ≡ ((a && n) && p)
 turned true true true = refl
@@ -57,109 +46,105 @@ turned true false false = refl
 turned false p true = refl
 turned false p false = refl
 
-assoc : (n p q : Bool) → ((n && p) && q) ≡ (n && (p && q))
-assoc true p q = refl
-assoc false p q = refl
+both-tests : (x y a b : Bool) → ((x && y) && (a && b)) ≡ ((x && a) && (y && b))
+both-tests true true a b = refl
+both-tests true false true b = refl
+both-tests true false false b = refl
+both-tests false y a b = refl
+
+-- of lists one after the other
+both : {X : Type 0} {test : X → Bool} {s t : Bool} {xs ys : List X} {ps qs : List Part} → Says test s xs ps
+    → Says test t ys qs → Says test (s && t) (xs ++ ys) (ps ++ qs)
+both {X} {test} {s} {t} {xs} {ys} {ps} {qs} h k =
+    record {
+      says =
+          (λ i. h.says i && k.says i)
+          ∙ both-tests (list_all test xs) (list_all part_fits ps) (list_all test ys) (list_all part_fits qs)
+          ∙ (λ i. sym (list_all-append test xs ys) i && sym (list_all-append part_fits ps qs) i);
+    }
+
+-- of the nodes below one that binds nothing itself
+below : {b : Bool} {xs : List Expr} {ps : List Part} (e : Expr) → expr_fits e ≡ true → Says expr_fits b xs ps
+    → Says expr_fits b (e ∷ xs) ps
+below {b} {xs} {ps} e f h =
+    record { says = h.says ∙ ap (λ x. (x && list_all expr_fits xs) && list_all part_fits ps) (sym f) }
+
+-- of an expression's nodes, in a clause
+in-clause : {b : Bool} {ps : List Part} (p : Place) (v : View) (e : Expr) → Says expr_fits b (nodes e) ps
+    → Says clause_fits b (record { place = p; view = v; expr = e } ∷ []) ps
+in-clause {b} {ps} p v e h =
+    record { says = h.says ∙ ap (λ x. x && list_all part_fits ps) (and-true (list_all expr_fits (nodes e))) }
 
 mutual
-  expr-says : (v : View) (e : Expr) → Says expr_fits (fit_expr e) (nodes e) (in_expr v e)
-  expr-says v (column o c) = refl
-  expr-says v (value t x) = and-true (fits t x) ∙ and-true (fits t x && true)
-  expr-says v (list es) = exprs-says v es
-  expr-says v count_star = refl
-  expr-says v (nullable e) = expr-says v e
-  expr-says v (unary n e) = expr-says v e
-  expr-says v (count e) = expr-says v e
-  expr-says v (compared by a b) =
-      zip expr_fits (fit_expr a) (fit_expr b) (nodes a) (nodes b) (in_expr v a) (in_expr v b) (expr-says v a)
-      (expr-says v b)
-  expr-says v (joined by a b) =
-      zip expr_fits (fit_expr a) (fit_expr b) (nodes a) (nodes b) (in_expr v a) (in_expr v b) (expr-says v a)
-      (expr-says v b)
-  expr-says v (exists q) = statement-says v q
-  expr-says v (single q) = statement-says v q
+  expr-says : (v : View) (e : Expr) → Says expr_fits (all_expr fit_tests e) (nodes e) (in_expr v e)
+  expr-says v (column o c) = record { says = refl }
+  expr-says v (value t x) = record { says = and-true (fits t x) ∙ and-true (fits t x && true) }
+  expr-says v (list es) = below (list es) refl (exprs-says v es)
+  expr-says v count_star = record { says = refl }
+  expr-says v (nullable e) = below (nullable e) refl (expr-says v e)
+  expr-says v (unary n e) = below (unary n e) refl (expr-says v e)
+  expr-says v (count e) = below (count e) refl (expr-says v e)
+  expr-says v (compared by a b) = below (compared by a b) refl (both (expr-says v a) (expr-says v b))
+  expr-says v (joined by a b) = below (joined by a b) refl (both (expr-says v a) (expr-says v b))
+  expr-says v (exists q) = record { says = statement-says v q }
+  expr-says v (single q) = record { says = statement-says v q }
   expr-says v (among_values n e t xs) =
-      ap (λ b. b && all_fit t xs) (expr-says v e)
-      ∙ turned (list_all expr_fits (nodes e)) (list_all part_fits (in_expr v e)) (all_fit t xs)
+      record {
+        says =
+            ap (λ b. b && all_fit t xs) (expr-says v e).says
+            ∙ turned (list_all expr_fits (nodes e)) (list_all part_fits (in_expr v e)) (all_fit t xs);
+      }
   expr-says v (among_rows n e q) =
-      (λ i. expr-says v e i && statement-says v q i)
-      ∙ assoc (list_all expr_fits (nodes e)) (list_all part_fits (in_expr v e)) (list_all part_fits (parts v q))
-      ∙ ap (λ b. list_all expr_fits (nodes e) && b) (sym (list_all-append part_fits (in_expr v e) (parts v q)))
+      record {
+        says =
+            (λ i. (expr-says v e).says i && statement-says v q i)
+            ∙ assoc (list_all expr_fits (nodes e)) (list_all part_fits (in_expr v e)) (list_all part_fits (parts v q))
+            ∙ ap (λ b. list_all expr_fits (nodes e) && b) (sym (list_all-append part_fits (in_expr v e) (parts v q)));
+      }
 
-  exprs-says : (v : View) (es : Exprs) → Says expr_fits (fit_exprs es) (nodes_of es) (in_exprs v es)
-  exprs-says v no_exprs = refl
-  exprs-says v (more_exprs e es) =
-      zip expr_fits (fit_expr e) (fit_exprs es) (nodes e) (nodes_of es) (in_expr v e) (in_exprs v es) (expr-says v e)
-      (exprs-says v es)
+  exprs-says : (v : View) (es : Exprs) → Says expr_fits (all_exprs fit_tests es) (nodes_of es) (in_exprs v es)
+  exprs-says v no_exprs = record { says = refl }
+  exprs-says v (more_exprs e es) = both (expr-says v e) (exprs-says v es)
 
-  items-says : (v : View) (is : Items) → Says clause_fits (fit_items is) (item_clauses v is) (in_items v is)
-  items-says v no_items = refl
-  items-says v (more_items e by is) =
-      zip clause_fits (fit_expr e) (fit_items is) (record { place = in_order_by; view = v; expr = e } ∷ [])
-      (item_clauses v is) (in_expr v e) (in_items v is)
-      (in-clause (fit_expr e) in_order_by v e (in_expr v e) (expr-says v e)) (items-says v is)
+  items-says : (v : View) (is : Items) → Says clause_fits (all_items fit_tests is) (item_clauses v is) (in_items v is)
+  items-says v no_items = record { says = refl }
+  items-says v (more_items e by is) = both (in-clause in_order_by v e (expr-says v e)) (items-says v is)
 
   maybe-says : (p : Place) (v : View) (e : MaybeExpr)
-      → Says clause_fits (fit_maybe e) (maybe_clause p v e) (in_maybe v e)
-  maybe-says p v no_expr = refl
-  maybe-says p v (an_expr e) = in-clause (fit_expr e) p v e (in_expr v e) (expr-says v e)
+      → Says clause_fits (all_maybe fit_tests e) (maybe_clause p v e) (in_maybe v e)
+  maybe-says p v no_expr = record { says = refl }
+  maybe-says p v (an_expr e) = in-clause p v e (expr-says v e)
 
-  source-says : (s : Source) → Says clause_fits (fit_source s) (ons s) (in_source s)
-  source-says (of_table t only sample) = refl
-  source-says (of_alias a t) = refl
-  source-says (join k l r on) =
-      let v : View = origins l ++ origins r in
-      zip clause_fits (fit_source l) (fit_source r && fit_maybe on) (ons l) (ons r ++ maybe_clause in_on v on)
-      (in_source l) (in_source r ++ in_maybe v on) (source-says l)
-      (zip clause_fits (fit_source r) (fit_maybe on) (ons r) (maybe_clause in_on v on) (in_source r) (in_maybe v on)
-      (source-says r) (maybe-says in_on v on))
+  source-says : (s : Source) → Says clause_fits (all_source fit_tests s) (ons s) (in_source s)
+  source-says (of_table t only sample) = record { says = refl }
+  source-says (of_alias a t) = record { says = refl }
+  source-says (join k a b on) =
+      both (source-says a) (both (source-says b) (maybe-says in_on (origins a ++ origins b) on))
 
-  from-says : (f : From) → Says clause_fits (fit_from f) (ons_of f) (in_from f)
-  from-says no_source = refl
+  from-says : (f : From) → Says clause_fits (all_from fit_tests f) (ons_of f) (in_from f)
+  from-says no_source = record { says = refl }
   from-says (from s) = source-says s
 
   distinct-says : (v : View) (u : Distinct)
-      → Says clause_fits (fit_distinct u) (distinct_clause v u) (in_distinct v u)
-  distinct-says v every = refl
-  distinct-says v distinct = refl
-  distinct-says v (distinct_on e) = in-clause (fit_expr e) in_distinct_on v e (in_expr v e) (expr-says v e)
+      → Says clause_fits (all_distinct fit_tests u) (distinct_clause v u) (in_distinct v u)
+  distinct-says v every = record { says = refl }
+  distinct-says v distinct = record { says = refl }
+  distinct-says v (distinct_on e) = in-clause in_distinct_on v e (expr-says v e)
 
-  order-says : (v : View) (o : Order) → Says clause_fits (fit_order o) (order_clauses v o) (in_order v o)
-  order-says v no_order = refl
+  order-says : (v : View) (o : Order) → Says clause_fits (all_order fit_tests o) (order_clauses v o) (in_order v o)
+  order-says v no_order = record { says = refl }
   order-says v (order_by is) = items-says v is
 
-  statement-says : (v : View) (s : Statement) → fit_statement s ≡ list_all part_fits (parts v s)
+  statement-says : (v : View) (s : Statement) → values_fit s ≡ list_all part_fits (parts v s)
   statement-says v (select default e f u w o rows g h form marks) =
       let own : View = origins_of f in
-      let wide : View = widest form f v in
-      let distincts : Fitly (fit_distinct u) (distinct_clause own u) (in_distinct own u) =
-      record { says = distinct-says own u } in
-      let selected : Fitly (fit_expr e) (record { place = in_selection; view = own; expr = e } ∷ []) (in_expr own e) =
-      record { says = in-clause (fit_expr e) in_selection own e (in_expr own e) (expr-says own e) } in
-      let sources : Fitly (fit_from f) (ons_of f) (in_from f) = record { says = from-says f } in
-      let wheres : Fitly (fit_maybe w) (maybe_clause in_where wide w) (in_maybe wide w) =
-      record { says = maybe-says in_where wide w } in
-      let groups : Fitly (fit_maybe g) (maybe_clause in_group_by own g) (in_maybe own g) =
-      record { says = maybe-says in_group_by own g } in
-      let havings : Fitly (fit_maybe h) (maybe_clause in_having own h) (in_maybe own h) =
-      record { says = maybe-says in_having own h } in
-      let orders : Fitly (fit_order o) (order_clauses own o) (in_order own o) = record { says = order-says own o } in
-      (both distincts (both selected (both sources (both wheres (both groups (both havings orders)))))).says
+      let groups = both (maybe-says in_group_by own g) (both (maybe-says in_having own h) (order-says own o)) in
+      let wheres = both (maybe-says in_where (widest form f v) w) groups in
+      let selections = both (in-clause in_selection own e (expr-says own e)) (both (from-says f) wheres) in
+      (both (distinct-says own u) selections).says
   statement-says v (combination by all a b o rows) =
-      (λ i. statement-says v a i && statement-says v b i)
+      (λ i. statement-says v a i && (sym (and-true (values_fit b)) ∙ statement-says v b) i)
       ∙ sym (list_all-append part_fits (parts v a) (parts v b))
-
-pub along : (s : Statement) → fit_statement s ≡ values_fit s
-along s = statement-says [] s
-
--- a membership, whatever it looks in
-pub membership-fit : (n : Bool) (e : Expr) (a : Among) → fit_expr (among_of n e a) ≡ (fit_expr e && fit_among a)
-membership-fit n e (among_list t xs) = refl
-membership-fit n e (among_query q) = refl
-
-pub ruleset memberships = (membership-fit)
-
-pub ruleset fitting = (along)
 
 -- ## The test says what it has to
 
@@ -183,4 +168,6 @@ part-fit (a_select outer s) =
 part-fit (a_combination c) = (λ h. tt, λ h. refl)
 
 pub test : (s : Statement) → IsTrue (values_fit s) ↔ ValuesFit s
-test s = each-says (EachExprIn Fits) part_fits part-fit (parts [] s)
+test s =
+    subst (λ b. IsTrue b ↔ ValuesFit s) (sym (statement-says [] s))
+    (each-says (EachExprIn Fits) part_fits part-fit (parts [] s))

@@ -14,7 +14,8 @@ pub mod SafeLaws
 pub mod TypeLaws
 pub mod FlatLaws
 pub mod FitLaws
-pub mod Change
+pub mod Agreeing
+pub mod Outline
 pub mod Blind
 pub mod RulesLaws
 pub mod Exchange

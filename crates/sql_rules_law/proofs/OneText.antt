@@ -11,7 +11,7 @@ use Rattle.sql_pass.specs.declared.value.Value.{Value}
 use Rattle.sql_pass.specs.declared.value.Value.TheVariants.{Null}
 use Rattle.sql_node.specs.Pieces.{pieces}
 use Rattle.sql_node.specs.Tree.{Statement}
-use Rattle.sql_shape.specs.Shape.{nulls, shape}
+use Rattle.sql_shape.specs.Shape.{null, nulls, shape}
 use Rattle.sql_rules_law.specs.Blank.{erased_bound, erased_pieces, blank_bound}
 use Rattle.sql_rules_law.specs.Lengths.{shape_without_lengths}
 use Rattle.sql_rules_law.proofs.Alike.{Alike, one_text, like_values}
@@ -28,7 +28,7 @@ nulls-length [] = refl
 nulls-length (x ∷ xs) = ap suc (nulls-length xs)
 
 shape-alike : (d : Dialect) (s : Statement) → Alike nulls true (pieces d (shape s)) (pieces d s)
-shape-alike d = pieces-alike nulls true nulls-once d (λ n e xs. nulls-length xs)
+shape-alike d = pieces-alike nulls true null (λ t. nulls) (λ t. nulls-once) d (λ n e t. nulls-length)
 
 one-blank : (d : Dialect) (a b : Statement) → shape a ≡ shape b
     → erased_pieces nulls (pieces d a) ≡ erased_pieces nulls (pieces d b)
@@ -76,7 +76,7 @@ abbrev nothing : List Value → List Value
 nothing xs = []
 
 lengths-alike : (d : Dialect) (s : Statement) → Alike nothing false (pieces d (shape_without_lengths s)) (pieces d s)
-lengths-alike d = pieces-alike nothing false (λ xs. refl) d (λ n e xs. absurd (false≢true e))
+lengths-alike d = pieces-alike nothing false null (λ t. nothing) (λ t xs. refl) d (λ n e t xs. absurd (false≢true e))
 
 -- whether a text is safe, lengths do not tell
 pub safe-loosely : (d : Dialect) (a b : Statement) → shape_without_lengths a ≡ shape_without_lengths b

@@ -1,4 +1,4 @@
--- The pieces of a statement without its values are the statement's, but for values.
+-- The pieces of a statement with other values are the statement's, but for values.
 use Rattle.std.proofs.Common.{◌≡◌, ℕ, ℤ, Bool, true, false, List, [], ◌∷◌, map, length, Option, Some, None, option_map, refl, sym, ap, ◌∙◌, codes, arith, nat_eq, inl, inr}
 use Rattle.std.proofs.Math.Dec.{eqb-suc-zero}
 use Rattle.std.proofs.lemmas.Bool.{false≢true}
@@ -10,7 +10,6 @@ use Rattle.sql_pass.specs.Paths.{table_pieces}
 use Rattle.sql_pass.specs.Pieces.{Piece, one, Bind, Unsafe}
 use Rattle.sql_pass.specs.declared.value.Bound.TheVariants.{Value as OneValue, List as ManyValues}
 use Rattle.sql_pass.specs.declared.value.Value.{Value}
-use Rattle.sql_pass.specs.declared.value.Value.TheVariants.{Null}
 use Rattle.sql_leaf.specs.Limits.{limit_pieces, offset_pieces, offset_rows_pieces, fetch_pieces, largest_limit, least_limit, fetch_from_the_first, fetch_next, rows_only, limit_alone, offset_alone, limit_and_offset, limit_offset_pieces}
 use Rattle.sql_leaf.specs.Locks.{locking_pieces}
 use Rattle.sql_pass.specs.Bounds.{of_i16, of_i32, of_i64}
@@ -23,7 +22,7 @@ use Rattle.sql_leaf.specs.Words.{among_sql, join_sql, combinator_sql, group_by, 
 use Rattle.sql_node.specs.Pieces.{spread, each, one_by_one, among_pieces, leaf_pieces, joined_by, all_pieces, positions_pieces, end_pieces, expr_parts, exprs_parts, items_pieces, maybe_pieces, source_pieces, on_pieces, from_pieces, distinct_pieces, order_pieces, pieces}
 use Rattle.sql_node.specs.Tree.{Form, unboxed, boxed, Expr, column, value, list, count_star, nullable, unary, count, compared, joined, exists, single, among_values, among_rows, Exprs, no_exprs, more_exprs, Items, no_items, more_items, MaybeExpr, no_expr, an_expr, Source, of_table, of_alias, join, From, no_source, from, Distinct, every, distinct, distinct_on, Order, no_order, order_by, Statement, select, combination}
 use Rattle.sql_rules.specs.Rules.{IsNotPg}
-use Rattle.sql_shape.specs.Shape.{blank, blank_rows, blank_sample, erased_expr, erased_exprs, erased_items, erased_maybe, erased_source, erased_from, erased_distinct, erased_order, erased}
+use Rattle.sql_shape.specs.Shape.{blank, blank_rows, blank_sample, change_expr, change_exprs, change_items, change_maybe, change_source, change_from, change_distinct, change_order, change}
 use Rattle.sql_rules_law.proofs.Alike.{Alike, alike-same, alike-append, alike-bind, alike-behind, alike-before, alike-around, AlikeLists, lists-append, commas-alike, AlikeWritten, spread-alike, each-alike, unsafe}
 
 -- ## Values
@@ -52,40 +51,42 @@ module _ (many : List Value → List Value) (always : Bool) where
       (commas-alike many always true (map (λ x. one (Bind (OneValue t x))) (x ∷ xs))
       (map (λ y. one (Bind (OneValue t y))) (y ∷ ys)) (values-alike t (x ∷ xs) (y ∷ ys) e)))))
 
--- `many` leaves itself nothing to do, and lists as long as they are where that is always asked
+-- `many` makes the same of the other lists, and these are as long where that is always asked
 module _
     (many : List Value → List Value)
     (always : Bool)
-    (once : (xs : List Value) → many (many xs) ≡ many xs)
+    (v : SqlType → Value → Value)
+    (l : SqlType → List Value → List Value)
+    (left : (t : SqlType) (xs : List Value) → many (l t xs) ≡ many xs)
     (d : Dialect)
-    (kept : IsNotPg d → always ≡ true → (xs : List Value) → length (many xs) ≡ length xs)
+    (kept : IsNotPg d → always ≡ true → (t : SqlType) (xs : List Value) → length (l t xs) ≡ length xs)
   where
     abbrev A : List Piece → List Piece → Type 0
     A = Alike many always
 
     -- one by one: not safe, whatever the lists
     one-by-one : IsNotPg d → (n : Bool) (p q : List Piece) → A p q → (t : SqlType) (xs : List Value)
-        → A (one_by_one d n p t (many xs)) (one_by_one d n q t xs)
+        → A (one_by_one d n p t (l t xs)) (one_by_one d n q t xs)
     one-by-one not n p q h t xs =
         record {
-          safe = unsafe (nat_eq (length (many xs)) 0) _ _ ∙ sym (unsafe (nat_eq (length xs) 0) _ _);
+          safe = unsafe (nat_eq (length (l t xs)) 0) _ _ ∙ sym (unsafe (nat_eq (length xs) 0) _ _);
           says =
               elim [
-                | inl e ↦ (as-long many always d n h t (many xs) xs (kept not e xs)).says (inl e)
+                | inl e ↦ (as-long many always d n h t (l t xs) xs (kept not e t xs)).says (inl e)
                 | inr s ↦ absurd (false≢true (sym (unsafe (nat_eq (length xs) 0) _ _) ∙ s))
               ];
         }
 
     among-alike : (n : Bool) (p q : List Piece) → A p q → (t : SqlType) (xs : List Value)
-        → A (among_pieces d n p t (many xs)) (among_pieces d n q t xs)
+        → A (among_pieces d n p t (l t xs)) (among_pieces d n q t xs)
     among-alike n p q h t xs = go d (λ not. one-by-one not n p q h t xs)
       where
-        go : (e : Dialect) → (IsNotPg e → A (one_by_one e n p t (many xs)) (one_by_one e n q t xs))
-            → A (among_pieces e n p t (many xs)) (among_pieces e n q t xs)
+        go : (e : Dialect) → (IsNotPg e → A (one_by_one e n p t (l t xs)) (one_by_one e n q t xs))
+            → A (among_pieces e n p t (l t xs)) (among_pieces e n q t xs)
         go Pg k =
             alike-append (alike-around (codes "(") (among_sql Pg n) h)
             (alike-before (codes "))")
-            (alike-bind (ManyValues t (many xs)) (ManyValues t xs) (ap (ManyValues t) (once xs))))
+            (alike-bind (ManyValues t (l t xs)) (ManyValues t xs) (ap (ManyValues t) (left t xs))))
         go Mysql k = k tt
         go Sqlite k = k tt
         go Bracket k = k tt
@@ -155,14 +156,14 @@ module _
     -- ## Nodes
 
     -- an expression as it is written where no list stands
-    in-text : (e : Expr) → AlikeWritten many always (expr_parts d (erased_expr many e)) (expr_parts d e)
-        → A (spread true (expr_parts d (erased_expr many e))) (spread true (expr_parts d e))
-    in-text e h = spread-alike many always (expr_parts d (erased_expr many e)) (expr_parts d e) h
+    in-text : (e : Expr) → AlikeWritten many always (expr_parts d (change_expr v l e)) (expr_parts d e)
+        → A (spread true (expr_parts d (change_expr v l e))) (spread true (expr_parts d e))
+    in-text e h = spread-alike many always (expr_parts d (change_expr v l e)) (expr_parts d e) h
 
     mutual
-      expr-alike : (e : Expr) → AlikeWritten many always (expr_parts d (erased_expr many e)) (expr_parts d e)
+      expr-alike : (e : Expr) → AlikeWritten many always (expr_parts d (change_expr v l e)) (expr_parts d e)
       expr-alike (column o c) = alike-same (leaf_pieces o c)
-      expr-alike (value t v) = alike-bind (OneValue t Null) (OneValue t v) refl
+      expr-alike (value t x) = alike-bind (OneValue t (v t x)) (OneValue t x) refl
       expr-alike (list es) = exprs-alike es
       expr-alike count_star = alike-same _
       expr-alike (nullable e) = expr-alike e
@@ -181,14 +182,14 @@ module _
           alike-append (alike-around (codes "(") (among_sql d n) (in-text e (expr-alike e)))
           (alike-before (codes "))") (pieces-alike q))
 
-      exprs-alike : (es : Exprs) → AlikeLists many always (exprs_parts d (erased_exprs many es)) (exprs_parts d es)
+      exprs-alike : (es : Exprs) → AlikeLists many always (exprs_parts d (change_exprs v l es)) (exprs_parts d es)
       exprs-alike no_exprs = tt
       exprs-alike (more_exprs e es) =
-          lists-append many always (each (expr_parts d (erased_expr many e))) (exprs_parts d (erased_exprs many es))
+          lists-append many always (each (expr_parts d (change_expr v l e))) (exprs_parts d (change_exprs v l es))
           (each (expr_parts d e)) (exprs_parts d es)
-          (each-alike many always (expr_parts d (erased_expr many e)) (expr_parts d e) (expr-alike e)) (exprs-alike es)
+          (each-alike many always (expr_parts d (change_expr v l e)) (expr_parts d e) (expr-alike e)) (exprs-alike es)
 
-      items-alike : (is : Items) → AlikeLists many always (items_pieces d (erased_items many is)) (items_pieces d is)
+      items-alike : (is : Items) → AlikeLists many always (items_pieces d (change_items v l is)) (items_pieces d is)
       items-alike no_items = tt
       items-alike (more_items e by is) = (
         alike-append (in-text e (expr-alike e))
@@ -197,45 +198,45 @@ module _
       )
 
       maybe-alike : (before : List ℕ) (e : MaybeExpr)
-          → A (maybe_pieces d before (erased_maybe many e)) (maybe_pieces d before e)
+          → A (maybe_pieces d before (change_maybe v l e)) (maybe_pieces d before e)
       maybe-alike before no_expr = alike-same []
       maybe-alike before (an_expr e) =
           alike-behind before (in-text e (expr-alike e))
 
-      on-alike : (e : MaybeExpr) (x y : List Piece) → A x y → A (on_pieces d x (erased_maybe many e)) (on_pieces d y e)
+      on-alike : (e : MaybeExpr) (x y : List Piece) → A x y → A (on_pieces d x (change_maybe v l e)) (on_pieces d y e)
       on-alike no_expr x y h = h
       on-alike (an_expr e) x y h =
           alike-behind (codes "(")
           (alike-append h
           (alike-around (codes " ON ") (codes ")") (in-text e (expr-alike e))))
 
-      source-alike : (s : Source) → A (source_pieces d (erased_source many s)) (source_pieces d s)
+      source-alike : (s : Source) → A (source_pieces d (change_source v l s)) (source_pieces d s)
       source-alike (of_table t only sample) =
           alike-append (alike-same (only_pieces only))
           (alike-append (alike-same (table_pieces t)) (sample-alike sample))
       source-alike (of_alias a t) = alike-same (alias_pieces a t)
-      source-alike (join k l r on) =
-          on-alike on (joined_by (source_pieces d (erased_source many l)) k (source_pieces d (erased_source many r)))
-          (joined_by (source_pieces d l) k (source_pieces d r))
-          (alike-append (source-alike l) (alike-behind (join_sql k) (source-alike r)))
+      source-alike (join k a b on) =
+          on-alike on (joined_by (source_pieces d (change_source v l a)) k (source_pieces d (change_source v l b)))
+          (joined_by (source_pieces d a) k (source_pieces d b))
+          (alike-append (source-alike a) (alike-behind (join_sql k) (source-alike b)))
 
-      from-alike : (f : From) → A (from_pieces d (erased_from many f)) (from_pieces d f)
+      from-alike : (f : From) → A (from_pieces d (change_from v l f)) (from_pieces d f)
       from-alike no_source = alike-same []
       from-alike (from s) = alike-behind (codes " FROM ") (source-alike s)
 
-      distinct-alike : (u : Distinct) → A (distinct_pieces d (erased_distinct many u)) (distinct_pieces d u)
+      distinct-alike : (u : Distinct) → A (distinct_pieces d (change_distinct v l u)) (distinct_pieces d u)
       distinct-alike every = alike-same []
       distinct-alike distinct = alike-same _
       distinct-alike (distinct_on e) =
           alike-around distinct_on_open (codes ") ") (in-text e (expr-alike e))
 
-      order-alike : (o : Order) → A (order_pieces d (erased_order many o)) (order_pieces d o)
+      order-alike : (o : Order) → A (order_pieces d (change_order v l o)) (order_pieces d o)
       order-alike no_order = alike-same []
       order-alike (order_by is) =
           alike-behind order_by_sql
-          (commas-alike many always true (items_pieces d (erased_items many is)) (items_pieces d is) (items-alike is))
+          (commas-alike many always true (items_pieces d (change_items v l is)) (items_pieces d is) (items-alike is))
 
-      pub pieces-alike : (s : Statement) → A (pieces d (erased many s)) (pieces d s)
+      pub pieces-alike : (s : Statement) → A (pieces d (change v l s)) (pieces d s)
       pieces-alike (select default e f u w o rows g h form marks) =
           alike-behind (codes "SELECT ")
           (alike-append (distinct-alike u)

@@ -8,7 +8,7 @@ use Rattle.sql_pass.specs.declared.value.Value.{Value}
 use Rattle.sql_leaf.specs.declared.limit_offset.LimitOffsetClause.{LimitOffsetClause}
 use Rattle.sql_node.specs.Tree.{Origin, Form, unboxed, Expr, column, value, count, Items, no_items, more_items, MaybeExpr, no_expr, an_expr, Source, of_table, of_alias, join, From, no_source, from, Distinct, distinct_on, Order, no_order, order_by, Statement}
 use Rattle.sql_shape.specs.Expressions.{expr_shape}
-use Rattle.sql_shape.specs.Shape.{blank_rows}
+use Rattle.sql_shape.specs.Shape.{blank_rows, change_expr, change_items, change_maybe, change_source, change_from, change_distinct, change_order, change}
 use Rattle.sql_origin.specs.Leaves.{is_padded}
 use Rattle.sql_rules.specs.Lists.{AnyOf, AnyPair, Differ}
 use Rattle.sql_rules.specs.Rules.{AnyClause, AnyTwoLeaves, IsTable, IsUnknownColumn, IsOutOfScope, Present, IsDistinct, HasLock, misuse, IsEmptyList, IsEmptyOrder, LacksOn, FromLacksOn, tops, IsIllTyped, IsCondition, IsBool, IsIllTypedClause, bare, IsPadded, LacksNullable, CountsAggregate, HasAggregate, items_verdict, order_verdict, distinct_verdict, IsUnboxed, OrderDiffers, IsOffsetAlone, IsDistinctOn, HasTableMarks, FromHasMarks, SelectBreaks, PartBreaks}
@@ -17,7 +17,6 @@ use Rattle.sql_rules.specs.Types.{fits, all_fit, only_type}
 use Rattle.sql_rules.specs.Verdicts.{NoVerdict, mix}
 use Rattle.sql_rules.specs.declared.rule.Rule.{Rule}
 use Rattle.sql_rules.specs.declared.rule.Rule.TheVariants as R
-use Rattle.sql_rules_law.proofs.Change.{change_expr, change_items, change_maybe, change_source, change_from, change_distinct, change_order, change}
 use Rattle.sql_rules_law.proofs.Blind as blind
 use Rattle.sql_rules_law.proofs.Blind.{change_select, change_part, change_clause}
 

@@ -8,4 +8,3 @@ pub mod Fitting
 pub mod Lengths
 -- The names of paths.
 pub mod Paths
-pub mod inside

@@ -1,2 +1,0 @@
--- Devices: a test along the tree.
-pub mod Fits
