@@ -167,7 +167,7 @@ one_value [] e = absurd (grind arith)
 one_value (v ∷ []) e = refl
 one_value (v ∷ (w ∷ vs)) e = absurd (grind arith)
 
-one-given : (e : Expr) (db : Database) (f : Frame) (t : SqlType) → HasAll e db f (t ∷ [])
+pub one-given : (e : Expr) (db : Database) (f : Frame) (t : SqlType) → HasAll e db f (t ∷ [])
     → Gives e db f (first_value (eval e f) ∷ [])
 one-given e db f t h = subst (λ vs. Gives e db f vs) (one_value (eval e f) h.1) h.0
 

@@ -7,4 +7,7 @@ pub mod Plain
 pub mod Restriction
 pub mod RestrictedClauses
 pub mod RestrictedRules
+pub mod Agreement
+pub mod Policies
+pub mod Grouping
 pub mod Worked

@@ -13,10 +13,11 @@ use Rattle.sql_rules.specs.Lists.{AnyOf, AnyPair, Each}
 use Rattle.sql_rules.specs.Rules.{IsBool, IsIllTypedClause}
 use Rattle.sql_rules.specs.Scope.{View, Clause, Select, parts, clauses, own, origins, origins_of, ons, ons_of, in_on, in_where, maybe_clause, distinct_clause, item_clauses, order_clauses, nodes, widest}
 use Rattle.sql_rules.specs.Types.{is_bool, type_of}
+use Rattle.sql_rules.specs.declared.rule.Rule.{Rule}
 use Rattle.sql_rules.specs.declared.rule.Rule.TheVariants as R
 use Rattle.sql_rules.proofs.Lists.{any_left, any_right}
-use Rattle.sql_guard_law.specs.Tenant.{IsBeyond, IsOutOfKind, IsPredicate}
-use Rattle.sql_rows_meaning.proofs.Kept.{Clean, Clean-left, Clean-right, in_widest, pair_left}
+use Rattle.sql_guard_law.specs.Tenant.{BreaksAtMostTooManyBinds, IsBeyond, IsOutOfKind, IsPredicate}
+use Rattle.sql_rows_meaning.proofs.Kept.{Clean, Clean-left, Clean-right, in_widest, not_counted, pair_left}
 use Rattle.sql_rows_meaning.proofs.Soundness.{the_select}
 use Rattle.sql_guard_law.proofs.Evaluate.{IsFlat, is-flat, IsTest, IsPlainCondition, own-free}
 use Rattle.sql_guard_law.proofs.Leaves.{IsFit, is_among, source_leaves, leaves-source_leaves}
@@ -53,7 +54,7 @@ IsPlain (combination by all a b o rows) = IsPlain a × IsPlain b
 
 -- ---- one clause
 
-abbrev Flatless : Clause → Type 0
+abbrev pub Flatless : Clause → Type 0
 Flatless c = AnyOf IsBeyond (nodes c.expr)
 
 pub free_left : {X : Type 0} (P : X → Type 0) (xs ys : List X) → ¬ AnyOf P (xs ++ ys) → ¬ AnyOf P xs
@@ -85,7 +86,7 @@ on-plain : (v : View) (on : MaybeExpr) → ¬ AnyOf Flatless (maybe_clause in_on
 on-plain v no_expr h k = tt
 on-plain v (an_expr e) h k = test-of e (λ i. h (inl i)) (λ n. k (inl (inr (tt, n))))
 
-where-plain : (v : View) (w : MaybeExpr) → ¬ AnyOf Flatless (maybe_clause in_where v w)
+pub where-plain : (v : View) (w : MaybeExpr) → ¬ AnyOf Flatless (maybe_clause in_where v w)
     → ¬ AnyOf IsIllTypedClause (maybe_clause in_where v w)
     → IsPlainCondition w
 where-plain v no_expr h k = tt
@@ -140,12 +141,30 @@ source-plain (join kind l r on) h k n =
       across (source_leaves l) (source_leaves r) n,
     )
 
-from-plain : (f : From) → ¬ AnyOf Flatless (ons_of f) → ¬ AnyOf IsIllTypedClause (ons_of f)
+pub from-plain : (f : From) → ¬ AnyOf Flatless (ons_of f) → ¬ AnyOf IsIllTypedClause (ons_of f)
     → ¬ AnyPair (λ a b. a ≡ b) (origins_of f) → IsPlainFrom f
 from-plain no_source h k n = tt
 from-plain (from s) h k n = source-plain s h k (subst (λ os. ¬ AnyPair (λ a b. a ≡ b) os) (leaves-source_leaves s) n)
 
 -- ---- statements
+
+-- TooManyBinds is of the whole, so no statement inside breaks it
+pub at_most-clean : (schema : Declarations) (d : Dialect) (s : Statement) → BreaksAtMostTooManyBinds schema d s
+    → Clean schema d (parts [] s)
+at_most-clean schema d s h R.UnknownName = h R.UnknownName (λ e. cc)
+at_most-clean schema d s h R.Incompatible = h R.Incompatible (λ e. cc)
+at_most-clean schema d s h R.EmptyList = h R.EmptyList (λ e. cc)
+at_most-clean schema d s h R.NoRelation = h R.NoRelation (λ e. cc)
+at_most-clean schema d s h R.Ambiguous = h R.Ambiguous (λ e. cc)
+at_most-clean schema d s h R.NotTogether = h R.NotTogether (λ e. cc)
+at_most-clean schema d s h R.NameClash = h R.NameClash (λ e. cc)
+at_most-clean schema d s h R.NotInScope = h R.NotInScope (λ e. cc)
+at_most-clean schema d s h R.TypeMismatch = h R.TypeMismatch (λ e. cc)
+at_most-clean schema d s h R.NeedsNullable = h R.NeedsNullable (λ e. cc)
+at_most-clean schema d s h R.Grouping = h R.Grouping (λ e. cc)
+at_most-clean schema d s h R.InvalidDistinctOrder = h R.InvalidDistinctOrder (λ e. cc)
+at_most-clean schema d s h R.Unsupported = h R.Unsupported (λ e. cc)
+at_most-clean schema d s h R.TooManyBinds = not_counted schema d (parts [] s)
 
 select-plain : (outer : View) (s : Select) → ¬ AnyOf Flatless (clauses outer s)
     → ¬ AnyOf IsIllTypedClause (clauses outer s)

@@ -190,6 +190,23 @@ mutual
 abbrev pub IsGood : Declarations → TableDecl → View → Origin → Type 0
 IsGood schema t v o = IsTable schema o.table × (t ≡ o.table) × IsSeen v o
 
+pub plain-aimed : (schema : Declarations) (t : TableDecl) (v : View) (o : Origin) → IsGood schema t v o → (e : Expr)
+    → IsAimed t o e → ¬ IsBeyond e
+plain-aimed schema t v o g (column k c) h n = n
+plain-aimed schema t v o g (value ty x) h n = n
+plain-aimed schema t v o g (list es) h n = n
+plain-aimed schema t v o g (nullable e) h n = n
+plain-aimed schema t v o g (not_of e) h n = n
+plain-aimed schema t v o g (null_test m e) h n = n
+plain-aimed schema t v o g (compared by a b) h n = n
+plain-aimed schema t v o g (joined by a b) h n = n
+plain-aimed schema t v o g (among_values m e ty xs) h n = n
+plain-aimed schema t v o g count_star h n = h n
+plain-aimed schema t v o g (count e) h n = h n
+plain-aimed schema t v o g (exists q) h n = h n
+plain-aimed schema t v o g (single q) h n = h n
+plain-aimed schema t v o g (among_rows m e q) h n = h n
+
 pub known-aimed : (schema : Declarations) (t : TableDecl) (v : View) (o : Origin) → IsGood schema t v o → (e : Expr)
     → IsAimed t o e → ¬ IsUnknownColumn schema e
 known-aimed schema t v o g (column k c) h n =

@@ -14,8 +14,8 @@ use Rattle.sql_leaf.specs.declared.operator.Logic.{Logic}
 use Rattle.sql_leaf.specs.declared.operator.Logic.TheVariants.{And}
 use Rattle.sql_origin.specs.Leaves.{Leaf, leaves, is_padded}
 use Rattle.sql_rules.specs.Lists.{AnyOf, AnyPair, Each}
-use Rattle.sql_rules.specs.Rules.{Accepted, Broken, PartBreaks, SelectBreaks, CombinationBreaks, IsTable, IsUnknownColumn, IsOutOfScope, IsIllTyped, IsIllTypedClause, IsEmptyList, IsBool, IsSelected, LacksOn, FromLacksOn, Present, LacksNullable, CountsAggregate, HasTableMarks, FromHasMarks, bare}
-use Rattle.sql_rules.specs.Scope.{View, parts, Select, Combination, Clause, Place, in_selection, in_distinct_on, in_on, in_where, in_group_by, in_having, in_order_by, clauses, own, origins_of, leaves_of, nodes, widest, in_expr, in_maybe, in_from, in_distinct}
+use Rattle.sql_rules.specs.Rules.{Broken, PartBreaks, SelectBreaks, CombinationBreaks, IsTable, IsUnknownColumn, IsOutOfScope, IsIllTyped, IsIllTypedClause, IsEmptyList, IsBool, IsSelected, LacksOn, FromLacksOn, Present, LacksNullable, CountsAggregate, HasTableMarks, FromHasMarks, bare}
+use Rattle.sql_rules.specs.Scope.{View, Part, parts, Select, Combination, Clause, Place, in_selection, in_distinct_on, in_on, in_where, in_group_by, in_having, in_order_by, clauses, own, origins_of, leaves_of, nodes, widest, in_expr, in_maybe, in_from, in_distinct, in_order}
 use Rattle.sql_rules.specs.Types.{type_of, columns}
 use Rattle.sql_rules.specs.declared.rule.Rule.{Rule}
 use Rattle.sql_rules.specs.declared.rule.Rule.TheVariants as R
@@ -23,14 +23,14 @@ use Rattle.sql_rules.specs.inside.Misfits.{misfit}
 use Rattle.sql_rules.proofs.Loops.{any-decides}
 use Rattle.sql_rules.proofs.TypeLaws.{ill_typed-decides}
 use Rattle.sql_guard_law.specs.Restricted.{predicates, predicates_from, with_all, restricted_source, restricted_from, restricted}
-use Rattle.sql_guard_law.specs.Tenant.{BreaksAtMostTooManyBinds, IsOutOfKind, IsPredicate}
-use Rattle.sql_rows_meaning.proofs.Kept.{Clean, Clean-left, Clean-right, accepted-clean, known_tables}
+use Rattle.sql_guard_law.specs.Tenant.{BreaksAtMostTooManyBinds, IsBeyond, IsOutOfKind, IsPredicate}
+use Rattle.sql_rows_meaning.proofs.Kept.{Clean, Clean-left, Clean-right, known_tables}
 use Rattle.sql_rows_meaning.proofs.Soundness.{the_select}
 use Rattle.sql_guard_law.proofs.Evaluate.{IsTest, IsPlainCondition, aimed, aimed-test}
 use Rattle.sql_guard_law.proofs.Leaves.{is_among, and-test, source_leaves, added-plain}
 use Rattle.sql_guard_law.proofs.RestrictedSources.{IsPlainSource, restricted-source_leaves}
-use Rattle.sql_guard_law.proofs.Plain.{free_left, free_right, IsPlainFrom, IsPlainSelect, IsPlain, is-plain, predicate-fit}
-use Rattle.sql_guard_law.proofs.RestrictedClauses.{neither, none_of, no_inside, no_inside_maybe, no_inside_from, no_inside_key, no_inside_order, no_inside_absent, no_aggregate_maybe, IsAimed, aimed-nodes, IsGood, known-aimed, seen-aimed, uncounted-aimed, fitting-aimed, IsGuardedPlace, Guarded, leaves-same, own-same, widest-same, guarded_select, guarded-clauses}
+use Rattle.sql_guard_law.proofs.Plain.{free_left, free_right, IsPlainFrom, IsPlainSelect, IsPlain, at_most-clean, is-plain, predicate-fit}
+use Rattle.sql_guard_law.proofs.RestrictedClauses.{neither, none_of, no_inside, no_inside_maybe, no_inside_from, no_inside_key, no_inside_order, no_inside_absent, no_aggregate_maybe, IsAimed, aimed-nodes, IsGood, plain-aimed, known-aimed, seen-aimed, uncounted-aimed, fitting-aimed, IsGuardedPlace, Guarded, leaves-same, own-same, widest-same, guarded_select, guarded-clauses}
 
 -- ---- each rule
 
@@ -309,6 +309,79 @@ module _ (schema : Declarations) (d : Dialect) (t : TableDecl) (p : Expr) (predi
   plain-where no_source w h = h
   plain-where (from s) w h = added-plain t p (predicate-fit t p predicate) s w h
 
+  -- no statement stands inside the restricted one
+  nothing_inside : (P : Part → Type 0) (outer : View) (s : Select)
+      → IsPlainSelect s.selection s.source s.distinctness s.where_by s.order → ¬ Present s.group_by
+      → ¬ Present s.having_by
+      → ¬ AnyOf P (in_distinct (origins_of (restricted_from t p s.source)) s.distinctness
+      ++ (in_expr (origins_of (restricted_from t p s.source)) s.selection ++ (in_from (restricted_from t p s.source)
+      ++ (in_maybe (widest s.form (restricted_from t p s.source) outer)
+      (with_all (predicates_from t p s.source) s.where_by)
+      ++ (in_maybe (origins_of (restricted_from t p s.source)) s.group_by
+      ++ (in_maybe (origins_of (restricted_from t p s.source)) s.having_by
+      ++ in_order (origins_of (restricted_from t p s.source)) s.order))))))
+  nothing_inside P outer s plain ungrouped unhaving i =
+      neither P (in_distinct (origins_of (restricted_from t p s.source)) s.distinctness) _
+      (no_inside_key _ _ s.distinctness plain.key)
+      (neither P (in_expr (origins_of (restricted_from t p s.source)) s.selection) _
+      (no_inside _ _ s.selection plain.selection)
+      (neither P (in_from (restricted_from t p s.source)) _
+      (no_inside_from _ (restricted_from t p s.source) (plain-from s.source plain.source))
+      (neither P
+      (in_maybe (widest s.form (restricted_from t p s.source) outer)
+      (with_all (predicates_from t p s.source) s.where_by)) _
+      (no_inside_maybe _ _ (with_all (predicates_from t p s.source) s.where_by)
+      (plain-where s.source s.where_by plain.condition))
+      (neither P (in_maybe (origins_of (restricted_from t p s.source)) s.group_by) _
+      (no_inside_absent _ _ s.group_by ungrouped)
+      (neither P (in_maybe (origins_of (restricted_from t p s.source)) s.having_by) _
+      (no_inside_absent _ _ s.having_by unhaving)
+      (no_inside_order _ _ s.order plain.order)))))) i
+
+  -- the restricted statement has no aggregate, no grouping and no subselect either
+  kind-restricted : (outer : View) (s : Statement) → Clean schema d (parts outer s)
+      → ¬ AnyOf IsOutOfKind (parts outer s)
+      → ¬ AnyOf IsOutOfKind (parts outer (restricted t p s))
+  kind-restricted outer (select default e f u w o rows g h form marks) c k = head
+    where
+      plain : IsPlain (select default e f u w o rows g h form marks)
+      plain = is-plain schema d outer (select default e f u w o rows g h form marks) c k
+
+      ungrouped : ¬ Present g
+      ungrouped x = k (inl (inr x))
+
+      unhaving : ¬ Present h
+      unhaving x = c R.Incompatible (inl (inr (inr (x, ungrouped))))
+
+      head : ¬ AnyOf IsOutOfKind (parts outer (restricted t p (select default e f u w o rows g h form marks)))
+      head (inl (inl i)) =
+          guarded-clauses schema t p predicate.own (λ x. AnyOf IsBeyond (nodes x.expr))
+          (λ v x. ¬ AnyOf IsBeyond (nodes x)) (node-guard (λ v. IsBeyond) (λ v by a b q. q) (plain-aimed schema t)) outer
+          (the_select e f u w o rows g h form marks) plain
+          (known_tables schema (leaves_of f) (λ j. c R.UnknownName (inl (inl j)))) (λ j. k (inl (inl j))) i
+      head (inl (inr x)) = ungrouped x
+      head (inr i) =
+          nothing_inside IsOutOfKind outer (the_select e f u w o rows g h form marks) plain ungrouped unhaving i
+  kind-restricted outer (combination by all a b o rows) c k =
+      head
+      (kind-restricted outer a (Clean-left schema d (parts outer a) (parts outer b) inside)
+      (free_left IsOutOfKind (parts outer a) (parts outer b) beyond))
+      (kind-restricted outer b (Clean-right schema d (parts outer a) (parts outer b) inside)
+      (free_right IsOutOfKind (parts outer a) (parts outer b) beyond))
+    where
+      inside : Clean schema d (parts outer a ++ parts outer b)
+      inside q i = c q (inr i)
+
+      beyond : ¬ AnyOf IsOutOfKind (parts outer a ++ parts outer b)
+      beyond i = k (inr i)
+
+      head : ¬ AnyOf IsOutOfKind (parts outer (restricted t p a))
+          → ¬ AnyOf IsOutOfKind (parts outer (restricted t p b))
+          → ¬ AnyOf IsOutOfKind (parts outer (restricted t p (combination by all a b o rows)))
+      head ha hb (inl i) = i
+      head ha hb (inr i) =
+          neither IsOutOfKind (parts outer (restricted t p a)) (parts outer (restricted t p b)) ha hb i
+
   clean-restricted : (outer : View) (s : Statement) → Clean schema d (parts outer s)
       → ¬ AnyOf IsOutOfKind (parts outer s)
       → Clean schema d (parts outer (restricted t p s))
@@ -327,20 +400,7 @@ module _ (schema : Declarations) (d : Dialect) (t : TableDecl) (p : Expr) (predi
           (parts outer (restricted t p (select default e f u w o rows g h form marks)))
       head (inl i) = select-kept outer (the_select e f u w o rows g h form marks) plain (λ q j. c q (inl j)) r i
       head (inr i) =
-          neither (PartBreaks r schema d) (in_distinct (origins_of (restricted_from t p f)) u) _
-          (no_inside_key _ _ u plain.key)
-          (neither (PartBreaks r schema d) (in_expr (origins_of (restricted_from t p f)) e) _
-          (no_inside _ _ e plain.selection)
-          (neither (PartBreaks r schema d) (in_from (restricted_from t p f)) _
-          (no_inside_from _ (restricted_from t p f) (plain-from f plain.source))
-          (neither (PartBreaks r schema d)
-          (in_maybe (widest form (restricted_from t p f) outer) (with_all (predicates_from t p f) w)) _
-          (no_inside_maybe _ _ (with_all (predicates_from t p f) w) (plain-where f w plain.condition))
-          (neither (PartBreaks r schema d) (in_maybe (origins_of (restricted_from t p f)) g) _
-          (no_inside_absent _ _ g ungrouped)
-          (neither (PartBreaks r schema d) (in_maybe (origins_of (restricted_from t p f)) h) _
-          (no_inside_absent _ _ h unhaving)
-          (no_inside_order _ _ o plain.order)))))) i
+          nothing_inside (PartBreaks r schema d) outer (the_select e f u w o rows g h form marks) plain ungrouped unhaving i
   clean-restricted outer (combination by all a b o rows) c k r =
       head (clean-restricted outer a left left' r) (clean-restricted outer b right right' r)
     where
@@ -388,7 +448,12 @@ unbroken schema d s h R.Grouping n = h R.Grouping
 unbroken schema d s h R.InvalidDistinctOrder n = h R.InvalidDistinctOrder
 unbroken schema d s h R.Unsupported n = h R.Unsupported
 
-pub kept : (schema : Declarations) (d : Dialect) (s : Statement) (t : TableDecl) (p : Expr) → Accepted schema d s
-    → ¬ AnyOf IsOutOfKind (parts [] s) → IsPredicate t p → BreaksAtMostTooManyBinds schema d (restricted t p s)
+pub kept : (schema : Declarations) (d : Dialect) (s : Statement) (t : TableDecl) (p : Expr)
+    → BreaksAtMostTooManyBinds schema d s → ¬ AnyOf IsOutOfKind (parts [] s) → IsPredicate t p → BreaksAtMostTooManyBinds schema d (restricted t p s)
 kept schema d s t p h k predicate =
-    unbroken schema d (restricted t p s) (clean-restricted schema d t p predicate [] s (accepted-clean schema d s h) k)
+    unbroken schema d (restricted t p s) (clean-restricted schema d t p predicate [] s (at_most-clean schema d s h) k)
+
+pub kind-kept : (schema : Declarations) (d : Dialect) (s : Statement) (t : TableDecl) (p : Expr)
+    → BreaksAtMostTooManyBinds schema d s → ¬ AnyOf IsOutOfKind (parts [] s) → IsPredicate t p
+    → ¬ AnyOf IsOutOfKind (parts [] (restricted t p s))
+kind-kept schema d s t p h k predicate = kind-restricted schema d t p predicate [] s (at_most-clean schema d s h) k

@@ -5,12 +5,11 @@ use Rattle.sql_schema.specs.declared.declaration.TableDecl.{TableDecl}
 use Rattle.sql_dialect.specs.declared.backend.Dialect.{Dialect}
 use Rattle.sql_node.specs.Tree.{Origin, Form, unboxed, boxed, Expr, Items, no_items, more_items, MaybeExpr, From, no_source, from, Distinct, every, distinct, distinct_on, Order, no_order, order_by, Statement, select, combination}
 use Rattle.sql_rules.specs.Lists.{AnyOf, Each}
-use Rattle.sql_rules.specs.Rules.{Accepted}
 use Rattle.sql_rules.specs.Scope.{parts}
 use Rattle.sql_rows_meaning.specs.Answers.{FromRows, Holds, KeyGives, ItemsGive, OrderGives, Answers}
 use Rattle.sql_rows_meaning.specs.Frames.{Database, Frame, where_sees}
 use Rattle.sql_guard_law.specs.Restricted.{with_all, open_leaves, restricted_from, predicates_from, restricted}
-use Rattle.sql_guard_law.specs.Tenant.{AnswersAsCut, IsCut, IsOutOfKind, IsPredicate}
+use Rattle.sql_guard_law.specs.Tenant.{AnswersAsCut, BreaksAtMostTooManyBinds, IsBlindToOthers, IsCut, IsOutOfKind, IsPredicate}
 use Rattle.sql_rows_meaning.specs.Rows.{Row, Filtered}
 use Rattle.sql_rows_meaning.proofs.Lists.{AllZip-weaken, Each-weaken}
 use Rattle.sql_rows_meaning.proofs.Functional.{Filtered-is, is-Filtered}
@@ -18,8 +17,7 @@ use Rattle.sql_guard_law.proofs.Filters.{filter-same, filter-both, filter-all, E
 use Rattle.sql_guard_law.proofs.Evaluate.{IsPlainCondition, true_at, holds-true, true-holds, gives-anywhere}
 use Rattle.sql_guard_law.proofs.Leaves.{IsFit, names, source_leaves, open-among, pass, pass-left, added-true, added-plain, and_yes}
 use Rattle.sql_guard_law.proofs.RestrictedSources.{restricted-named, source-cut, cut-source}
-use Rattle.sql_rows_meaning.proofs.Kept.{accepted-clean}
-use Rattle.sql_guard_law.proofs.Plain.{IsPlainFrom, IsPlainKey, ArePlainItems, IsPlainOrder, IsPlain, is-plain, predicate-fit}
+use Rattle.sql_guard_law.proofs.Plain.{IsPlainFrom, IsPlainKey, ArePlainItems, IsPlainOrder, IsPlain, at_most-clean, is-plain, predicate-fit}
 
 abbrev open_from : TableDecl → From → List Origin
 open_from t no_source = []
@@ -35,19 +33,19 @@ and_comm true false = refl
 and_comm false true = refl
 and_comm false false = refl
 
-key-anywhere : (u : Distinct) (db db' : Database) (f : Frame) (key : Row) → IsPlainKey u → KeyGives u db f key
+pub key-anywhere : (u : Distinct) (db db' : Database) (f : Frame) (key : Row) → IsPlainKey u → KeyGives u db f key
     → KeyGives u db' f key
 key-anywhere every db db' f key h g = g
 key-anywhere distinct db db' f key h g = g
 key-anywhere (distinct_on e) db db' f key h g = gives-anywhere e db db' f key h g
 
-items-anywhere : (is : Items) (db db' : Database) (f : Frame) (vs : Row) → ArePlainItems is → ItemsGive is db f vs
+pub items-anywhere : (is : Items) (db db' : Database) (f : Frame) (vs : Row) → ArePlainItems is → ItemsGive is db f vs
     → ItemsGive is db' f vs
 items-anywhere no_items db db' f vs h g = g
 items-anywhere (more_items e by is) db db' f vs h g =
     (g.0, g.1, gives-anywhere e db db' f (g.0 ∷ []) h.0 g.2, items-anywhere is db db' f g.1 h.1 g.3, g.4)
 
-order-anywhere : (o : Order) (db db' : Database) (f : Frame) (vs : Row) → IsPlainOrder o → OrderGives o db f vs
+pub order-anywhere : (o : Order) (db db' : Database) (f : Frame) (vs : Row) → IsPlainOrder o → OrderGives o db f vs
     → OrderGives o db' f vs
 order-anywhere no_order db db' f vs h g = g
 order-anywhere (order_by is) db db' f vs h g = items-anywhere is db db' f vs h g
@@ -126,54 +124,78 @@ module _ (t : TableDecl) (p : Expr) (fit : IsFit t p) (db cut : Database) (is_cu
           ∙ (ap (λ b. true_at w (where_sees form f row outer) && b) (pass-sees t p form f row outer n)
           ∙ and_comm (true_at w (where_sees form f row outer)) (pass p (open_from t f) row)))
 
+  -- the rows that pass WHERE are the same over both databases
+  pub passing-cut : (form : Form) (f : From) (w : MaybeExpr) (outer : Frame) → IsPlainFrom f → IsPlainCondition w
+      → (all passing : List Frame) → FromRows (restricted_from t p f) db all
+      → Filtered (λ row c. Holds (with_all (predicates_from t p f) w) db
+      (where_sees form (restricted_from t p f) row outer) c) all passing
+      → (left : List Frame) × FromRows f cut left
+      × Filtered (λ row c. Holds w cut (where_sees form f row outer) c) left passing
+  passing-cut form f w outer h k all passing given passes = (
+    filter (pass p (open_from t f)) all,
+    from-cut f h all given,
+    is-filtered w cut (λ row. where_sees form f row outer) k (filter (pass p (open_from t f)) all) passing
+        (filtered-is (with_all (predicates_from t p f) w) db (λ row. where_sees form (restricted_from t p f) row outer)
+        (plain-from f w k) all passing passes ∙ where-rows form f w outer all (from-named f all given)),
+  )
+
+  pub passing-whole : (form : Form) (f : From) (w : MaybeExpr) (outer : Frame) → IsPlainFrom f → IsPlainCondition w
+      → (left passing : List Frame) → FromRows f cut left
+      → Filtered (λ row c. Holds w cut (where_sees form f row outer) c) left passing
+      → (all : List Frame) × FromRows (restricted_from t p f) db all
+      × Filtered (λ row c. Holds (with_all (predicates_from t p f) w) db
+      (where_sees form (restricted_from t p f) row outer) c) all passing
+  passing-whole form f w outer h k left passing given passes =
+      let (whole, found, left_are) = cut-from f h left given in (
+        whole,
+        found,
+        is-filtered (with_all (predicates_from t p f) w) db (λ row. where_sees form (restricted_from t p f) row outer)
+            (plain-from f w k) whole passing
+            (filtered-is w cut (λ row. where_sees form f row outer) k left passing passes
+            ∙ (ap (filter (λ row. true_at w (where_sees form f row outer))) (sym left_are)
+            ∙ sym (where-rows form f w outer whole (from-named f whole found)))),
+      )
+
   to-cut : (s : Statement) → IsPlain s → (outer : Frame) (answer : List Row)
       → Answers (restricted t p s) db outer answer → Answers s cut outer answer
-  to-cut (select default e f u w o rows g h form marks) k outer answer a = (
-    filter (pass p (open_from t f)) a.0,
-    a.1,
-    a.2,
-    a.3,
-    from-cut f k.source a.0 a.4,
-    is-filtered w cut (λ row. where_sees form f row outer) k.condition (filter (pass p (open_from t f)) a.0) a.1
-        (filtered-is (with_all (predicates_from t p f) w) db (λ row. where_sees form (restricted_from t p f) row outer)
-        (plain-from f w k.condition) a.0 a.1 a.5
-        ∙ where-rows form f w outer a.0 (from-named f a.0 a.4)),
-    a.6,
-    AllZip-weaken _ _
-        (λ row line d. (
-          gives-anywhere e db cut row line.shown k.selection d.0,
-          key-anywhere u db cut row line.key k.key
-              d.1,
-          order-anywhere o db cut row line.order k.order d.2,
-        ))
-        a.2 a.3 a.7,
-    a.8,
-    a.9,
-    a.10,
-  )
+  to-cut (select default e f u w o rows g h form marks) k outer answer a =
+      let (left, given, passes) = passing-cut form f w outer k.source k.condition a.0 a.1 a.4 a.5 in (
+        left,
+        a.1,
+        a.2,
+        a.3,
+        given,
+        passes,
+        a.6,
+        AllZip-weaken _ _
+            (λ row line d. (
+              gives-anywhere e db cut row line.shown k.selection d.0,
+              key-anywhere u db cut row line.key k.key d.1,
+              order-anywhere o db cut row line.order k.order d.2,
+            ))
+            a.2 a.3 a.7,
+        a.8,
+        a.9,
+        a.10,
+      )
   to-cut (combination by all l r o rows) k outer answer a =
       (a.0, a.1, a.2, to-cut l k.0 outer a.0 a.3, to-cut r k.1 outer a.1 a.4, a.5, a.6, a.7)
 
   from-whole : (s : Statement) → IsPlain s → (outer : Frame) (answer : List Row) → Answers s cut outer answer
       → Answers (restricted t p s) db outer answer
   from-whole (select default e f u w o rows g h form marks) k outer answer a =
-      let (whole, given, kept_are) = cut-from f k.source a.0 a.4 in (
+      let (whole, given, passes) = passing-whole form f w outer k.source k.condition a.0 a.1 a.4 a.5 in (
         whole,
         a.1,
         a.2,
         a.3,
         given,
-        is-filtered (with_all (predicates_from t p f) w) db (λ row. where_sees form (restricted_from t p f) row outer)
-            (plain-from f w k.condition) whole a.1
-            (filtered-is w cut (λ row. where_sees form f row outer) k.condition a.0 a.1 a.5
-            ∙ (ap (filter (λ row. true_at w (where_sees form f row outer))) (sym kept_are)
-            ∙ sym (where-rows form f w outer whole (from-named f whole given)))),
+        passes,
         a.6,
         AllZip-weaken _ _
             (λ row line d. (
               gives-anywhere e cut db row line.shown k.selection d.0,
-              key-anywhere u cut db row line.key
-                  k.key d.1,
+              key-anywhere u cut db row line.key k.key d.1,
               order-anywhere o cut db row line.order k.order d.2,
             ))
             a.2 a.3 a.7,
@@ -184,9 +206,18 @@ module _ (t : TableDecl) (p : Expr) (fit : IsFit t p) (db cut : Database) (is_cu
   from-whole (combination by all l r o rows) k outer answer a =
       (a.0, a.1, a.2, from-whole l k.0 outer a.0 a.3, from-whole r k.1 outer a.1 a.4, a.5, a.6, a.7)
 
-pub restriction : (schema : Declarations) (d : Dialect) (s : Statement) (t : TableDecl) (p : Expr) → Accepted schema d s
-    → ¬ AnyOf IsOutOfKind (parts [] s) → IsPredicate t p → AnswersAsCut (restricted t p s) s t p
+pub restriction : (schema : Declarations) (d : Dialect) (s : Statement) (t : TableDecl) (p : Expr)
+    → BreaksAtMostTooManyBinds schema d s → ¬ AnyOf IsOutOfKind (parts [] s) → IsPredicate t p → AnswersAsCut (restricted t p s) s t p
 restriction schema d s t p h k predicate db cut is_cut answer =
-    let plain = is-plain schema d [] s (accepted-clean schema d s h) k in
+    let plain = is-plain schema d [] s (at_most-clean schema d s h) k in
     let fit = predicate-fit t p predicate in
     (to-cut t p fit db cut is_cut s plain [] answer, from-whole t p fit db cut is_cut s plain [] answer)
+
+pub blind : (schema : Declarations) (d : Dialect) (s : Statement) (t : TableDecl) (p : Expr)
+    → BreaksAtMostTooManyBinds schema d s → ¬ AnyOf IsOutOfKind (parts [] s) → IsPredicate t p
+    → IsBlindToOthers (restricted t p s) t p
+blind schema d s t p h k predicate db db' cut is_cut is_cut' answer =
+    let exact = restriction schema d s t p h k predicate in
+    let whole = exact db cut is_cut answer in
+    let other = exact db' cut is_cut' answer in
+    (λ a. other.1 (whole.0 a), λ a. whole.1 (other.0 a))

@@ -177,6 +177,6 @@ on-needed = record {
   predicate = predicate;
   kind = kind;
   in_on = refl;
-  exact = restriction blog Pg statement posts owned (accepted_example.accepted Pg) kind predicate;
+  exact = restriction blog Pg statement posts owned (λ r n. accepted_example.accepted Pg r) kind predicate;
   in_where = in_where;
 }

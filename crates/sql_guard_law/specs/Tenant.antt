@@ -62,6 +62,12 @@ abbrev pub AnswersAsCut : Statement → Statement → TableDecl → Expr → Typ
 AnswersAsCut r s t p =
     (db cut : Database) → IsCut t p db cut → (answer : List Row) → Answers r db [] answer ↔ Answers s cut [] answer
 
+-- Of two databases whose cuts are one database the statement answers the same: the rows that are cut away do not matter.
+abbrev pub IsBlindToOthers : Statement → TableDecl → Expr → Type 0
+IsBlindToOthers r t p =
+    (db db' cut : Database) → IsCut t p db cut → IsCut t p db' cut → (answer : List Row)
+    → Answers r db [] answer ↔ Answers r db' [] answer
+
 -- no rule is broken, but that the values may be too many
 abbrev pub BreaksAtMostTooManyBinds : Declarations → Dialect → Statement → Type 0
 BreaksAtMostTooManyBinds schema d s = (r : Rule) → r ≢ TooManyBinds → ¬ Broken r schema d s

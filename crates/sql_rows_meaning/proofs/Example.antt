@@ -24,10 +24,10 @@ post = (a_table posts, V.Integer (pos 5) ∷ (V.Integer (pos 1) ∷ (V.Text (cod
 abbrev no_post : Frame
 no_post = (a_table posts, V.Null ∷ (V.Null ∷ (V.Null ∷ []))) ∷ []
 
-abbrev first_frame : Frame
+abbrev pub first_frame : Frame
 first_frame = user 1 (codes "a") ++ post
 
-abbrev second_frame : Frame
+abbrev pub second_frame : Frame
 second_frame = user 2 (codes "b") ++ no_post
 
 shown_of : Frame → Row
@@ -68,7 +68,7 @@ selection_has f = (
   refl,
 )
 
-swap_two : {A : Type 0} (a b : A) → IsPermutation (a ∷ b ∷ []) (b ∷ a ∷ [])
+pub swap_two : {A : Type 0} (a b : A) → IsPermutation (a ∷ b ∷ []) (b ∷ a ∷ [])
 swap_two a b = record { moves = (0, 1) ∷ []; below = (omega arith, omega arith, tt); is = refl }
 
 in_users_order : joined_rows LeftOuter no_post passes_on (post ∷ []) (user 1 (codes "a") ∷ user 2 (codes "b") ∷ [])
@@ -143,6 +143,20 @@ line_shown : (f : Frame) → (line_of f).shown ≡ shown_of f
 unfolding line_of
 line_shown f = refl
 
+pub example_rows : SourceRows
+    (join LeftOuter (of_table users false None) (of_table posts false None) (an_expr relation)) database
+    (first_frame ∷ second_frame ∷ [])
+example_rows = (
+  user 1 (codes "a") ∷ user 2 (codes "b") ∷ [],
+  post ∷ [],
+  permutation-whole false _ _ (IsPermutation-refl _),
+  permutation-whole false _ _ (IsPermutation-refl _),
+  subst (λ rows. Joined LeftOuter no_post (λ row t. Holds (an_expr relation) database row t) (post ∷ [])
+      (user 1 (codes "a") ∷ user 2 (codes "b") ∷ []) rows) in_users_order
+      (is-Joined LeftOuter no_post (λ row t. Holds (an_expr relation) database row t) passes_on on_has (post ∷ [])
+      (user 1 (codes "a") ∷ user 2 (codes "b") ∷ [])),
+)
+
 these : (a b : Frame) → IsPermutation (first_frame ∷ second_frame ∷ []) (a ∷ b ∷ [])
     → Answers statement database [] (shown_of a ∷ shown_of b ∷ [])
 unfolding line_of
@@ -151,16 +165,7 @@ these a b p = (
   first_frame ∷ second_frame ∷ [],
   a ∷ b ∷ [],
   line_of a ∷ line_of b ∷ [],
-  (
-    user 1 (codes "a") ∷ user 2 (codes "b") ∷ [],
-    post ∷ [],
-    permutation-whole false _ _ (IsPermutation-refl _),
-    permutation-whole false _ _ (IsPermutation-refl _),
-    subst (λ rows. Joined LeftOuter no_post (λ row t. Holds (an_expr relation) database row t) (post ∷ [])
-        (user 1 (codes "a") ∷ user 2 (codes "b") ∷ []) rows) in_users_order
-        (is-Joined LeftOuter no_post (λ row t. Holds (an_expr relation) database row t) passes_on on_has (post ∷ [])
-        (user 1 (codes "a") ∷ user 2 (codes "b") ∷ [])),
-  ),
+  example_rows,
   is-Filtered (λ row t. t ≡ true) (λ x. true) (λ x. refl) (first_frame ∷ second_frame ∷ []),
   permutation-whole false _ _ p,
   ((selection_has a, refl, refl), ((selection_has b, refl, refl), tt)),
