@@ -55,7 +55,7 @@ source-agree (join kind l r on) db db' h k rows g = (
   Joined-weaken kind (nulls (leaves r)) _ _ (λ row b t. holds-anywhere on db db' row b h.2 t) g.1 g.4,
 )
 
-from-agree : (f : From) (db db' : Database) → IsPlainFrom f → Agree db db' (origins_of f) → (rows : List Frame)
+pub from-agree : (f : From) (db db' : Database) → IsPlainFrom f → Agree db db' (origins_of f) → (rows : List Frame)
     → FromRows f db rows → FromRows f db' rows
 from-agree no_source db db' h k rows g = g
 from-agree (from s) db db' h k rows g = source-agree s db db' h (subst (Agree db db') (leaves-source_leaves s) k) rows g
@@ -69,7 +69,7 @@ stable false d n = absurd (n (λ p. false≢true (d.1 p)))
 covered : (qs : List Policy) (t : TableDecl) → ¬ ¬ HasPolicy qs t → HasPolicy qs t
 covered qs t n = stable _ (any-decides (λ q. q.table ≡ t) (λ q. same_table q.table t) (λ q. table-decides q.table t) qs) n
 
-all-agree : (qs : List Policy) (db db' : Database) → ((t : TableDecl) → HasPolicy qs t → db t ≡ db' t)
+pub all-agree : (qs : List Policy) (db db' : Database) → ((t : TableDecl) → HasPolicy qs t → db t ≡ db' t)
     → (os : List Origin) → ¬ AnyOf (λ o. ¬ HasPolicy qs o.table) os → Agree db db' os
 all-agree qs db db' same [] n = tt
 all-agree qs db db' same (o ∷ os) n = (

@@ -30,7 +30,7 @@ use Rattle.sql_guard_law.proofs.Restriction.{passing-cut, passing-whole}
 -- ---- expressions without subselects give the same over each database
 
 abbrev mutual
-  IsAlone : Expr → Type 0
+  pub IsAlone : Expr → Type 0
   IsAlone (column o c) = Unit {0}
   IsAlone (value t x) = Unit {0}
   IsAlone (list es) = AreAlone es
@@ -46,7 +46,7 @@ abbrev mutual
   IsAlone (among_values n e t xs) = IsAlone e
   IsAlone (among_rows n e q) = ⊥
 
-  AreAlone : Exprs → Type 0
+  pub AreAlone : Exprs → Type 0
   AreAlone no_exprs = Unit {0}
   AreAlone (more_exprs e es) = IsAlone e × AreAlone es
 
@@ -106,7 +106,7 @@ mutual
       (g.0, g.1, moved e db db' f g.0 h.0 g.2, all_moved es db db' f g.1 h.1 g.3, g.4)
 
 mutual
-  moved_in : (e : Expr) (db db' : Database) (rows : Group) (vs : List Value) → IsAlone e → GivesIn e db rows vs → GivesIn e db' rows vs
+  pub moved_in : (e : Expr) (db db' : Database) (rows : Group) (vs : List Value) → IsAlone e → GivesIn e db rows vs → GivesIn e db' rows vs
   moved_in (column o c) db db' rows vs h g = g
   moved_in (value t x) db db' rows vs h g = g
   moved_in (list es) db db' rows vs h g = all_moved_in es db db' rows vs h g
@@ -131,29 +131,29 @@ mutual
   all_moved_in (more_exprs e es) db db' rows vs h g =
       (g.0, g.1, moved_in e db db' rows g.0 h.0 g.2, all_moved_in es db db' rows g.1 h.1 g.3, g.4)
 
-abbrev IsAloneMaybe : MaybeExpr → Type 0
+abbrev pub IsAloneMaybe : MaybeExpr → Type 0
 IsAloneMaybe no_expr = Unit {0}
 IsAloneMaybe (an_expr e) = IsAlone e
 
-abbrev IsAloneKey : Distinct → Type 0
+abbrev pub IsAloneKey : Distinct → Type 0
 IsAloneKey every = Unit {0}
 IsAloneKey distinct = Unit {0}
 IsAloneKey (distinct_on e) = IsAlone e
 
-abbrev AreAloneItems : Items → Type 0
+abbrev pub AreAloneItems : Items → Type 0
 AreAloneItems no_items = Unit {0}
 AreAloneItems (more_items e by is) = IsAlone e × AreAloneItems is
 
-abbrev IsAloneOrder : Order → Type 0
+abbrev pub IsAloneOrder : Order → Type 0
 IsAloneOrder no_order = Unit {0}
 IsAloneOrder (order_by is) = AreAloneItems is
 
-holds-moved : (c : MaybeExpr) (db db' : Database) (rows : Group) (b : Bool) → IsAloneMaybe c → HoldsIn c db rows b
+pub holds-moved : (c : MaybeExpr) (db db' : Database) (rows : Group) (b : Bool) → IsAloneMaybe c → HoldsIn c db rows b
     → HoldsIn c db' rows b
 holds-moved no_expr db db' rows b h g = g
 holds-moved (an_expr e) db db' rows b h g = (g.0, moved_in e db db' rows (g.0 ∷ []) h g.1, g.2)
 
-key-moved : (u : Distinct) (db db' : Database) (rows : Group) (key : Row) → IsAloneKey u → KeyGivesIn u db rows key
+pub key-moved : (u : Distinct) (db db' : Database) (rows : Group) (key : Row) → IsAloneKey u → KeyGivesIn u db rows key
     → KeyGivesIn u db' rows key
 key-moved every db db' rows key h g = g
 key-moved distinct db db' rows key h g = g
@@ -165,12 +165,12 @@ items-moved no_items db db' rows vs h g = g
 items-moved (more_items e by is) db db' rows vs h g =
     (g.0, g.1, moved_in e db db' rows (g.0 ∷ []) h.0 g.2, items-moved is db db' rows g.1 h.1 g.3, g.4)
 
-order-moved : (o : Order) (db db' : Database) (rows : Group) (vs : Row) → IsAloneOrder o → OrderGivesIn o db rows vs
+pub order-moved : (o : Order) (db db' : Database) (rows : Group) (vs : Row) → IsAloneOrder o → OrderGivesIn o db rows vs
     → OrderGivesIn o db' rows vs
 order-moved no_order db db' rows vs h g = g
 order-moved (order_by is) db db' rows vs h g = items-moved is db db' rows vs h g
 
-groups-moved : (g : MaybeExpr) (counted : Bool) (db db' : Database) (rows : List Frame) (groups : List Group)
+pub groups-moved : (g : MaybeExpr) (counted : Bool) (db db' : Database) (rows : List Frame) (groups : List Group)
     → IsAloneMaybe g → GroupedBy g counted db rows groups → GroupedBy g counted db' rows groups
 groups-moved (an_expr e) counted db db' rows groups h a =
     (a.0, AllZip-weaken _ _ (λ row key d. moved e db db' row key h d) rows a.0 a.1, a.2)
@@ -179,7 +179,7 @@ groups-moved no_expr false db db' rows groups h a = a
 
 -- ---- statements
 
-record IsPlainGrouped (e : Expr) (f : From) (u : Distinct) (w : MaybeExpr) (o : Order) (g h : MaybeExpr) : Type 0 where
+pub record IsPlainGrouped (e : Expr) (f : From) (u : Distinct) (w : MaybeExpr) (o : Order) (g h : MaybeExpr) : Type 0 where
   pub selection : IsAlone e
   pub source : IsPlainFrom f
   pub key : IsAloneKey u
@@ -188,11 +188,11 @@ record IsPlainGrouped (e : Expr) (f : From) (u : Distinct) (w : MaybeExpr) (o : 
   pub having : IsAloneMaybe h
   pub order : IsAloneOrder o
 
-abbrev IsPlainIn : Statement → Type 0
+abbrev pub IsPlainIn : Statement → Type 0
 IsPlainIn (select default e f u w o rows g h form marks) = IsPlainGrouped e f u w o g h
 IsPlainIn (combination by all a b o rows) = IsPlainIn a × IsPlainIn b
 
-abbrev Beyond : Clause → Type 0
+abbrev pub Beyond : Clause → Type 0
 Beyond c = AnyOf (IsBeyondAt c.place) (nodes c.expr)
 
 on-flat : (v : View) (on : MaybeExpr) → ¬ AnyOf Beyond (maybe_clause in_on v on)
@@ -272,7 +272,7 @@ select-plain outer s h k n =
       order = order-alone v s.order h5;
     }
 
-is-plain_in : (schema : Declarations) (d : Dialect) (outer : View) (s : Statement) → Clean schema d (parts outer s)
+pub is-plain_in : (schema : Declarations) (d : Dialect) (outer : View) (s : Statement) → Clean schema d (parts outer s)
     → ¬ AnyOf IsOutOfGroupedKind (parts outer s) → IsPlainIn s
 is-plain_in schema d outer (select default e f u w o rows g h form marks) p k =
     select-plain outer (the_select e f u w o rows g h form marks) (λ i. k (inl i)) (λ i. p R.TypeMismatch (inl (inl i)))

@@ -23,7 +23,7 @@ use Rattle.sql_guard_law.proofs.Restriction.{restriction}
 
 -- ---- the rows that all predicates of a table let be seen
 
-abbrev all_true : List MaybeExpr → Frame → Bool
+abbrev pub all_true : List MaybeExpr → Frame → Bool
 all_true [] f = true
 all_true (c ∷ cs) f = true_at c f && all_true cs f
 
@@ -52,10 +52,10 @@ true-all_hold [] db f h = refl
 true-all_hold (c ∷ cs) db f h =
     (true_at c f, all_true cs f, true-holds c db f h.0, true-all_hold cs db f h.1, refl)
 
-abbrev seen : List Policy → TableDecl → Row → Bool
+abbrev pub seen : List Policy → TableDecl → Row → Bool
 seen qs t row = all_true (predicates_on t qs) ((a_table t, row) ∷ [])
 
-cut-is : (qs : List Policy) → Each IsPolicy qs → (db cut : Database) → IsCutBy qs db cut → (t : TableDecl)
+pub cut-is : (qs : List Policy) → Each IsPolicy qs → (db cut : Database) → IsCutBy qs db cut → (t : TableDecl)
     → cut t ≡ filter (seen qs t) (db t)
 cut-is qs h db cut c t =
     Filtered-is (λ row b. AllHold (predicates_on t qs) db ((a_table t, row) ∷ []) b) (seen qs t)
@@ -64,15 +64,15 @@ cut-is qs h db cut c t =
 -- ---- one policy after the others
 
 -- what the others leave
-abbrev between : List Policy → Database → Database
+abbrev pub between : List Policy → Database → Database
 between qs db t = filter (seen qs t) (db t)
 
-is-between : (qs : List Policy) → Each IsPolicy qs → (db : Database) → IsCutBy qs db (between qs db)
+pub is-between : (qs : List Policy) → Each IsPolicy qs → (db : Database) → IsCutBy qs db (between qs db)
 is-between qs h db t =
     is-Filtered (λ row b. AllHold (predicates_on t qs) db ((a_table t, row) ∷ []) b) (seen qs t)
     (λ row. true-all_hold (predicates_on t qs) db ((a_table t, row) ∷ []) (are-plain t qs h)) (db t)
 
-abbrev policy : TableDecl → MaybeExpr → Policy
+abbrev pub policy : TableDecl → MaybeExpr → Policy
 policy t c = record { table = t; predicate = c }
 
 and_comm : (a b : Bool) → (a && b) ≡ (b && a)
@@ -101,7 +101,7 @@ seen-other t u c qs row n =
     ap (λ b. all_true (if b then c ∷ predicates_on u qs else predicates_on u qs) ((a_table u, row) ∷ [])) (different t u n)
 
 -- no predicate takes nothing away
-seen-all : (t u : TableDecl) (qs : List Policy) (row : Row) → seen (policy t no_expr ∷ qs) u row ≡ seen qs u row
+pub seen-all : (t u : TableDecl) (qs : List Policy) (row : Row) → seen (policy t no_expr ∷ qs) u row ≡ seen qs u row
 seen-all t u qs row = go (same_table t u)
   where
     go : (b : Bool)
@@ -110,7 +110,7 @@ seen-all t u qs row = go (same_table t u)
     go true = refl
     go false = refl
 
-last-cut : (t : TableDecl) (p : Expr) (qs : List Policy) → IsPredicate t p → (db cut : Database)
+pub last-cut : (t : TableDecl) (p : Expr) (qs : List Policy) → IsPredicate t p → (db cut : Database)
     → ((u : TableDecl) → cut u ≡ filter (seen (policy t (an_expr p) ∷ qs) u) (db u)) → IsCut t p (between qs db) cut
 last-cut t p qs predicate db cut e = record {
   kept =
@@ -152,7 +152,7 @@ all-kept schema d s (x ∷ qs) h k q =
     all-kept schema d (restricted_maybe x.table x.predicate s) qs (maybe-kept schema d s x.table x.predicate h k q.0)
     (maybe-kind schema d s x.table x.predicate h k q.0) q.1
 
-same-database : (db cut : Database) → ((t : TableDecl) → cut t ≡ db t) → cut ≡ db
+pub same-database : (db cut : Database) → ((t : TableDecl) → cut t ≡ db t) → cut ≡ db
 same-database db cut e = λ i t. e t i
 
 pub all-exact : (schema : Declarations) (d : Dialect) (s : Statement) (qs : List Policy)

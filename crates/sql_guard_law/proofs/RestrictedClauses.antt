@@ -22,7 +22,7 @@ use Rattle.sql_rows_meaning.proofs.Lists.{Each-append, Each-front, Each-end, Eac
 use Rattle.sql_guard_law.proofs.Evaluate.{IsFlat, AreFlat, IsTest, IsPlainCondition, aimed, aimed_all}
 use Rattle.sql_guard_law.proofs.Leaves.{source_leaves, leaves-source_leaves, Each-open, open-table, predicates-aimed}
 use Rattle.sql_guard_law.proofs.RestrictedSources.{IsPlainSource, restricted-leaves}
-use Rattle.sql_guard_law.proofs.Plain.{free_left, free_right, IsPlainFrom, IsPlainKey, ArePlainItems, IsPlainOrder, IsPlainSelect}
+use Rattle.sql_guard_law.proofs.Plain.{free_left, free_right, IsPlainFrom, IsPlainKey, ArePlainItems, IsPlainOrder}
 
 -- ---- lists
 
@@ -437,10 +437,10 @@ module _ (schema : Declarations) (t : TableDecl) (p : Expr) (own' : Each (IsOwn 
   guarded-from no_source h known k = k
   guarded-from (from s) h known k = guarded-source s h (source-known schema s known) k
 
-  pub guarded-clauses : (outer : View) (s : Select) → IsPlainSelect s.selection s.source s.distinctness s.where_by s.order
+  pub guarded-clauses : (outer : View) (s : Select) → IsPlainFrom s.source → IsPlainCondition s.where_by
       → Each (λ l. IsTable schema l.origin.table) (leaves_of s.source) → ¬ AnyOf P (clauses outer s)
       → ¬ AnyOf P (clauses outer (guarded_select t p s))
-  guarded-clauses outer s plain known k =
+  guarded-clauses outer s source condition known k =
       subst (λ v. ¬ AnyOf P (clauses_by v (widest s.form (restricted_from t p s.source) outer) (guarded_select t p s)))
       (sym (own-same t p s.source))
       (subst (λ x. ¬ AnyOf P (clauses_by (own s) x (guarded_select t p s)))
@@ -463,7 +463,7 @@ module _ (schema : Declarations) (t : TableDecl) (p : Expr) (own' : Each (IsOwn 
           subst (λ ps. ¬ AnyOf P (maybe_clause in_where (widest s.form s.source outer) (with_all ps s.where_by)))
           (sym (predicates_from-aimed t p own' s.source))
           (guarded-maybe in_where tt (widest s.form s.source outer) (open_from t s.source)
-          (where-good schema t s.form s.source outer known) s.where_by plain.condition
+          (where-good schema t s.form s.source outer known) s.where_by condition
           (free_left P (maybe_clause in_where (widest s.form s.source outer) s.where_by) _ k2))
 
       rest : ¬ AnyOf P (record { place = in_selection; view = own s; expr = s.selection }
@@ -474,7 +474,7 @@ module _ (schema : Declarations) (t : TableDecl) (p : Expr) (own' : Each (IsOwn 
       rest (inl q) = k1 (inl q)
       rest (inr i) =
           neither P (ons_of (restricted_from t p s.source)) _
-          (guarded-from s.source plain.source known (free_left P (ons_of s.source) _ (λ j. k1 (inr j))))
+          (guarded-from s.source source known (free_left P (ons_of s.source) _ (λ j. k1 (inr j))))
           (neither P (maybe_clause in_where (widest s.form s.source outer)
           (with_all (predicates_from t p s.source) s.where_by)) _ where'
           (free_right P (maybe_clause in_where (widest s.form s.source outer) s.where_by) _ k2)) i

@@ -197,10 +197,10 @@ module _ (schema : Declarations) (d : Dialect) (t : TableDecl) (p : Expr) (predi
     both = λ v a b h k. fine-both a b h k;
   }
 
-  select-kept : (outer : View) (s : Select) → IsPlainSelect s.selection s.source s.distinctness s.where_by s.order
+  pub select-kept : (outer : View) (s : Select) → IsPlainFrom s.source → IsPlainCondition s.where_by
       → ((r : Rule) → ¬ SelectBreaks r schema d outer s) → (r : Rule)
       → ¬ SelectBreaks r schema d outer (guarded_select t p s)
-  select-kept outer s plain h r = by r
+  select-kept outer s source condition h r = by r
     where
       known : Each (λ l. IsTable schema l.origin.table) (leaves_of s.source)
       known = known_tables schema (leaves_of s.source) (λ i. h R.UnknownName (inl i))
@@ -209,8 +209,8 @@ module _ (schema : Declarations) (d : Dialect) (t : TableDecl) (p : Expr) (predi
       plain_where = go s.source
         where
           go : (f : From) → IsPlainCondition (with_all (predicates_from t p f) s.where_by)
-          go no_source = plain.condition
-          go (from x) = added-plain t p (predicate-fit t p predicate) x s.where_by plain.condition
+          go no_source = condition
+          go (from x) = added-plain t p (predicate-fit t p predicate) x s.where_by condition
 
       views : (Q : Origin → Origin → Type 0) → ¬ AnyPair Q (widest s.form s.source outer)
           → ¬ AnyPair Q (widest s.form (restricted_from t p s.source) outer)
@@ -222,12 +222,12 @@ module _ (schema : Declarations) (d : Dialect) (t : TableDecl) (p : Expr) (predi
       by R.UnknownName (inr i) =
           guarded-clauses schema t p predicate.own (λ c. AnyOf (IsUnknownColumn schema) (nodes c.expr))
           (λ v e. ¬ AnyOf (IsUnknownColumn schema) (nodes e))
-          (node-guard (λ v. IsUnknownColumn schema) (λ v by a b q. q) (known-aimed schema t)) outer s plain known
+          (node-guard (λ v. IsUnknownColumn schema) (λ v by a b q. q) (known-aimed schema t)) outer s source condition known
           (λ j. h R.UnknownName (inr j)) i
       by R.Incompatible i = h R.Incompatible i
       by R.EmptyList (inl i) =
           guarded-clauses schema t p predicate.own IsEmptyList (λ v e. Unit {0})
-          (other-guard IsEmptyList no_list) outer s plain known (λ j. h R.EmptyList (inl j)) i
+          (other-guard IsEmptyList no_list) outer s source condition known (λ j. h R.EmptyList (inl j)) i
       by R.EmptyList (inr i) = h R.EmptyList (inr i)
       by R.NoRelation i = h R.NoRelation (related-from t p s.source i)
       by R.Ambiguous i = views _ (h R.Ambiguous) i
@@ -236,19 +236,19 @@ module _ (schema : Declarations) (d : Dialect) (t : TableDecl) (p : Expr) (predi
       by R.NotInScope i =
           guarded-clauses schema t p predicate.own (λ c. AnyOf (IsOutOfScope c.view) (nodes c.expr))
           (λ v e. ¬ AnyOf (IsOutOfScope v) (nodes e))
-          (node-guard IsOutOfScope (λ v by a b q. q) (seen-aimed schema t)) outer s plain known (h R.NotInScope) i
+          (node-guard IsOutOfScope (λ v by a b q. q) (seen-aimed schema t)) outer s source condition known (h R.NotInScope) i
       by R.TypeMismatch (inl i) =
-          guarded-clauses schema t p predicate.own IsIllTypedClause (λ v e. Fine e) fine-guard outer s plain known
+          guarded-clauses schema t p predicate.own IsIllTypedClause (λ v e. Fine e) fine-guard outer s source condition known
           (λ j. h R.TypeMismatch (inl j)) i
       by R.TypeMismatch (inr i) = h R.TypeMismatch (inr i)
       by R.NeedsNullable i =
           guarded-clauses schema t p predicate.own (LacksNullable s) (λ v e. Unit {0})
-          (other-guard (LacksNullable s) (not_selected s)) outer s plain known (h R.NeedsNullable)
+          (other-guard (LacksNullable s) (not_selected s)) outer s source condition known (h R.NeedsNullable)
           (subst (λ ls. AnyOf (LacksAmong ls) (clauses outer (guarded_select t p s))) (leaves-same t p s.source) i)
       by R.Grouping (inl i) =
           guarded-clauses schema t p predicate.own (λ c. AnyOf CountsAggregate (nodes c.expr))
           (λ v e. ¬ AnyOf CountsAggregate (nodes e))
-          (node-guard (λ v. CountsAggregate) (λ v by a b q. q) (uncounted-aimed schema t)) outer s plain known
+          (node-guard (λ v. CountsAggregate) (λ v by a b q. q) (uncounted-aimed schema t)) outer s source condition known
           (λ j. h R.Grouping (inl j)) i
       by R.Grouping (inr (inl (inl a))) =
           no_aggregate_maybe (with_all (predicates_from t p s.source) s.where_by) plain_where a
@@ -260,7 +260,7 @@ module _ (schema : Declarations) (d : Dialect) (t : TableDecl) (p : Expr) (predi
       by R.Unsupported (inr i) = h R.Unsupported (inr i)
       by R.TooManyBinds i = i
 
-  combination-kept : (c : Combination) → ((r : Rule) → ¬ CombinationBreaks r d c) → (r : Rule)
+  pub combination-kept : (c : Combination) → ((r : Rule) → ¬ CombinationBreaks r d c) → (r : Rule)
       → ¬ CombinationBreaks r d (record c { left = restricted t p c.left; right = restricted t p c.right })
   combination-kept c h R.EmptyList i = h R.EmptyList i
   combination-kept c h R.TypeMismatch i =
@@ -301,11 +301,11 @@ module _ (schema : Declarations) (d : Dialect) (t : TableDecl) (p : Expr) (predi
           (sym (restricted-source_leaves t p x))
           (subst (Each (λ o. is_among o (source_leaves x) ≡ false)) (sym (restricted-source_leaves t p y)) k)
 
-  plain-from : (f : From) → IsPlainFrom f → IsPlainFrom (restricted_from t p f)
+  pub plain-from : (f : From) → IsPlainFrom f → IsPlainFrom (restricted_from t p f)
   plain-from no_source h = h
   plain-from (from s) h = plain-source s h
 
-  plain-where : (f : From) (w : MaybeExpr) → IsPlainCondition w → IsPlainCondition (with_all (predicates_from t p f) w)
+  pub plain-where : (f : From) (w : MaybeExpr) → IsPlainCondition w → IsPlainCondition (with_all (predicates_from t p f) w)
   plain-where no_source w h = h
   plain-where (from s) w h = added-plain t p (predicate-fit t p predicate) s w h
 
@@ -357,7 +357,7 @@ module _ (schema : Declarations) (d : Dialect) (t : TableDecl) (p : Expr) (predi
       head (inl (inl i)) =
           guarded-clauses schema t p predicate.own (λ x. AnyOf IsBeyond (nodes x.expr))
           (λ v x. ¬ AnyOf IsBeyond (nodes x)) (node-guard (λ v. IsBeyond) (λ v by a b q. q) (plain-aimed schema t)) outer
-          (the_select e f u w o rows g h form marks) plain
+          (the_select e f u w o rows g h form marks) plain.source plain.condition
           (known_tables schema (leaves_of f) (λ j. c R.UnknownName (inl (inl j)))) (λ j. k (inl (inl j))) i
       head (inl (inr x)) = ungrouped x
       head (inr i) =
@@ -398,7 +398,8 @@ module _ (schema : Declarations) (d : Dialect) (t : TableDecl) (p : Expr) (predi
 
       head : ¬ AnyOf (PartBreaks r schema d)
           (parts outer (restricted t p (select default e f u w o rows g h form marks)))
-      head (inl i) = select-kept outer (the_select e f u w o rows g h form marks) plain (λ q j. c q (inl j)) r i
+      head (inl i) = select-kept outer (the_select e f u w o rows g h form marks) plain.source plain.condition
+          (λ q j. c q (inl j)) r i
       head (inr i) =
           nothing_inside (PartBreaks r schema d) outer (the_select e f u w o rows g h form marks) plain ungrouped unhaving i
   clean-restricted outer (combination by all a b o rows) c k r =
@@ -431,7 +432,7 @@ module _ (schema : Declarations) (d : Dialect) (t : TableDecl) (p : Expr) (predi
       head ha hb (inr i) =
           neither (PartBreaks r schema d) (parts outer (restricted t p a)) (parts outer (restricted t p b)) ha hb i
 
-unbroken : (schema : Declarations) (d : Dialect) (s : Statement) → Clean schema d (parts [] s) → (r : Rule)
+pub unbroken : (schema : Declarations) (d : Dialect) (s : Statement) → Clean schema d (parts [] s) → (r : Rule)
     → ¬ (r ≡ R.TooManyBinds) → ¬ Broken r schema d s
 unbroken schema d s h R.TooManyBinds n = absurd (n refl)
 unbroken schema d s h R.UnknownName n = h R.UnknownName

@@ -1,6 +1,6 @@
 -- Which statements with COUNT, GROUP BY and HAVING can be restricted: those without subselects that count nothing in ON or WHERE,
 -- where rows are not in groups yet.
-use Rattle.std.specs.Prelude.{◌↔◌, List, []}
+use Rattle.std.specs.Prelude.{◌≡◌, ◌↔◌, List, []}
 use Rattle.sql_schema.specs.declared.declaration.TableDecl.{TableDecl}
 use Rattle.sql_node.specs.Tree.{Expr, exists, single, among_rows, Statement}
 use Rattle.sql_rules.specs.Lists.{AnyOf}
@@ -8,6 +8,7 @@ use Rattle.sql_rules.specs.Scope.{Part, a_select, a_combination, Place, in_on, i
 use Rattle.sql_rows_meaning.specs.Frames.{Database}
 use Rattle.sql_rows_meaning.specs.Grouped.{GroupedAnswers}
 use Rattle.sql_rows_meaning.specs.Rows.{Row}
+use Rattle.sql_guard_law.specs.Policies.{Policy, IsCutBy, HasPolicy}
 use Rattle.sql_guard_law.specs.Tenant.{IsBeyond, IsCut}
 
 abbrev pub IsSubselect : Expr → Type 0
@@ -31,3 +32,16 @@ abbrev pub GroupedAnswersAsCut : Statement → Statement → TableDecl → Expr 
 GroupedAnswersAsCut r s t p =
     (db cut : Database) → IsCut t p db cut → (answer : List Row)
     → GroupedAnswers r db [] answer ↔ GroupedAnswers s cut [] answer
+
+-- the same over the database cut by several policies
+abbrev pub GroupedAnswersAsCutBy : Statement → Statement → List Policy → Type 0
+GroupedAnswersAsCutBy r s qs =
+    (db cut : Database) → IsCutBy qs db cut → (answer : List Row)
+    → GroupedAnswers r db [] answer ↔ GroupedAnswers s cut [] answer
+
+-- Only rows that the policies let be seen matter to what is counted and grouped.
+abbrev pub GroupedSeesOnlyBy : List Policy → Statement → Type 0
+GroupedSeesOnlyBy qs r =
+    (db db' cut cut' : Database) → IsCutBy qs db cut → IsCutBy qs db' cut'
+    → ((t : TableDecl) → HasPolicy qs t → cut t ≡ cut' t)
+    → (answer : List Row) → GroupedAnswers r db [] answer ↔ GroupedAnswers r db' [] answer
