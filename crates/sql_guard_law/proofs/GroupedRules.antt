@@ -3,8 +3,8 @@ use Rattle.std.proofs.Common.{List, [], ◌∷◌, ◌++◌, inl, inr}
 use Rattle.sql_schema.specs.Declarations.{Declarations}
 use Rattle.sql_schema.specs.declared.declaration.TableDecl.{TableDecl}
 use Rattle.sql_dialect.specs.declared.backend.Dialect.{Dialect}
-use Rattle.sql_node.specs.Tree.{Expr, column, value, list, count_star, nullable, not_of, null_test, count, compared, joined, exists, single, among_values, among_rows, Exprs, no_exprs, more_exprs, Items, no_items, more_items, MaybeExpr, no_expr, an_expr, Distinct, every, distinct, distinct_on, Order, no_order, order_by, Statement, select, combination}
-use Rattle.sql_node.specs.Words.{And}
+use Rattle.sql_node.specs.Tree.{Expr, column, value, list, count_star, nullable, unary, count, compared, joined, exists, single, among_values, among_rows, Exprs, no_exprs, more_exprs, Items, no_items, more_items, MaybeExpr, no_expr, an_expr, Distinct, every, distinct, distinct_on, Order, no_order, order_by, Statement, select, combination}
+use Rattle.sql_leaf.specs.declared.operator.Logic.TheVariants.{And}
 use Rattle.sql_rules.specs.Lists.{AnyOf}
 use Rattle.sql_rules.specs.Rules.{PartBreaks}
 use Rattle.sql_rules.specs.Scope.{View, Part, Select, Place, in_selection, in_distinct_on, in_on, in_where, in_group_by, in_having, in_order_by, parts, nodes, leaves_of, origins_of, widest, in_expr, in_exprs, in_items, in_maybe, in_from, in_distinct, in_order}
@@ -29,8 +29,7 @@ mutual
   no_inside_alone P v (list es) h i = none_inside_alone P v es h i
   no_inside_alone P v count_star h i = i
   no_inside_alone P v (nullable e) h i = no_inside_alone P v e h i
-  no_inside_alone P v (not_of e) h i = no_inside_alone P v e h i
-  no_inside_alone P v (null_test n e) h i = no_inside_alone P v e h i
+  no_inside_alone P v (unary n e) h i = no_inside_alone P v e h i
   no_inside_alone P v (count e) h i = no_inside_alone P v e h i
   no_inside_alone P v (compared by a b) h i =
       neither P (in_expr v a) (in_expr v b) (no_inside_alone P v a h.0) (no_inside_alone P v b h.1) i

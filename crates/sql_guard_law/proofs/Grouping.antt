@@ -4,7 +4,7 @@ use Rattle.sql_schema.specs.Declarations.{Declarations}
 use Rattle.sql_schema.specs.declared.declaration.TableDecl.{TableDecl}
 use Rattle.sql_dialect.specs.declared.backend.Dialect.{Dialect}
 use Rattle.sql_pass.specs.declared.value.Value.{Value}
-use Rattle.sql_node.specs.Tree.{Expr, column, value, list, count_star, nullable, not_of, null_test, count, compared, joined, exists, single, among_values, among_rows, Exprs, no_exprs, more_exprs, Items, no_items, more_items, MaybeExpr, no_expr, an_expr, Source, of_table, of_alias, join, From, no_source, from, Distinct, every, distinct, distinct_on, Order, no_order, order_by, Statement, select, combination}
+use Rattle.sql_node.specs.Tree.{Expr, column, value, list, count_star, nullable, unary, count, compared, joined, exists, single, among_values, among_rows, Exprs, no_exprs, more_exprs, Items, no_items, more_items, MaybeExpr, no_expr, an_expr, Source, of_table, of_alias, join, From, no_source, from, Distinct, every, distinct, distinct_on, Order, no_order, order_by, Statement, select, combination}
 use Rattle.sql_rules.specs.Lists.{AnyOf, AnyPair}
 use Rattle.sql_rules.specs.Rules.{IsIllTypedClause}
 use Rattle.sql_rules.specs.Scope.{View, Clause, in_on, in_where, in_group_by, in_having, Select, parts, clauses, own, origins, nodes, nodes_of, ons, ons_of, widest, maybe_clause, distinct_clause, item_clauses, order_clauses}
@@ -36,8 +36,7 @@ abbrev mutual
   IsAlone (list es) = AreAlone es
   IsAlone count_star = Unit {0}
   IsAlone (nullable e) = IsAlone e
-  IsAlone (not_of e) = IsAlone e
-  IsAlone (null_test n e) = IsAlone e
+  IsAlone (unary n e) = IsAlone e
   IsAlone (count e) = IsAlone e
   IsAlone (compared by a b) = IsAlone a × IsAlone b
   IsAlone (joined by a b) = IsAlone a × IsAlone b
@@ -57,8 +56,7 @@ mutual
   is-alone (list es) h = are-alone es (λ i. h (inr i))
   is-alone count_star h = tt
   is-alone (nullable e) h = is-alone e (λ i. h (inr i))
-  is-alone (not_of e) h = is-alone e (λ i. h (inr i))
-  is-alone (null_test n e) h = is-alone e (λ i. h (inr i))
+  is-alone (unary n e) h = is-alone e (λ i. h (inr i))
   is-alone (count e) h = is-alone e (λ i. h (inr i))
   is-alone (compared by a b) h = (
     is-alone a (λ i. h (inr (any_left IsSubselect (nodes a) (nodes b) i))),
@@ -87,8 +85,7 @@ mutual
   moved (list es) db db' f vs h g = all_moved es db db' f vs h g
   moved count_star db db' f vs h g = g
   moved (nullable e) db db' f vs h g = moved e db db' f vs h g
-  moved (not_of e) db db' f vs h g = (g.0, moved e db db' f (g.0 ∷ []) h g.1, g.2)
-  moved (null_test n e) db db' f vs h g = (g.0, moved e db db' f (g.0 ∷ []) h g.1, g.2)
+  moved (unary n e) db db' f vs h g = (g.0, moved e db db' f (g.0 ∷ []) h g.1, g.2)
   moved (count e) db db' f vs h g = g
   moved (compared by a b) db db' f vs h g =
       (g.0, g.1, moved a db db' f (g.0 ∷ []) h.0 g.2, moved b db db' f (g.1 ∷ []) h.1 g.3, g.4)
@@ -112,8 +109,7 @@ mutual
   moved_in (list es) db db' rows vs h g = all_moved_in es db db' rows vs h g
   moved_in count_star db db' rows vs h g = g
   moved_in (nullable e) db db' rows vs h g = moved_in e db db' rows vs h g
-  moved_in (not_of e) db db' rows vs h g = (g.0, moved_in e db db' rows (g.0 ∷ []) h g.1, g.2)
-  moved_in (null_test n e) db db' rows vs h g = (g.0, moved_in e db db' rows (g.0 ∷ []) h g.1, g.2)
+  moved_in (unary n e) db db' rows vs h g = (g.0, moved_in e db db' rows (g.0 ∷ []) h g.1, g.2)
   moved_in (count e) db db' rows vs h g =
       (g.0, AllZip-weaken _ _ (λ row x d. moved e db db' row (x ∷ []) h d) rows g.0 g.1, g.2)
   moved_in (compared by a b) db db' rows vs h g =

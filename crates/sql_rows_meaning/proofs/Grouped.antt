@@ -3,7 +3,7 @@ use Rattle.std.proofs.Common.{◌≡◌, ◌↔◌, Bool, true, false, ◌||◌,
 use Rattle.std.specs.List.{AllZip}
 use Rattle.std.proofs.lemmas.Bool.{false≢true}
 use Rattle.sql_pass.specs.declared.value.Value.{Value}
-use Rattle.sql_node.specs.Tree.{Expr, column, value, list, count_star, nullable, not_of, null_test, count, compared, joined, exists, single, among_values, among_rows, Exprs, no_exprs, more_exprs, Items, no_items, more_items, MaybeExpr, no_expr, an_expr, Distinct, every, distinct, distinct_on, Order, no_order, order_by, Statement, select, combination}
+use Rattle.sql_node.specs.Tree.{Expr, column, value, list, count_star, nullable, unary, count, compared, joined, exists, single, among_values, among_rows, Exprs, no_exprs, more_exprs, Items, no_items, more_items, MaybeExpr, no_expr, an_expr, Distinct, every, distinct, distinct_on, Order, no_order, order_by, Statement, select, combination}
 use Rattle.sql_rules.specs.Lists.{AnyOf}
 use Rattle.sql_rules.specs.Scope.{View, Clause, parts, in_where, nodes, nodes_of, origins_of, ons_of, widest, maybe_clause, distinct_clause, item_clauses, order_clauses}
 use Rattle.sql_rules.specs.Verdicts.{is_aggregate, holds_aggregate}
@@ -24,8 +24,7 @@ abbrev mutual
   IsUncounted (list es) = AreUncounted es
   IsUncounted count_star = ⊥
   IsUncounted (nullable e) = IsUncounted e
-  IsUncounted (not_of e) = IsUncounted e
-  IsUncounted (null_test n e) = IsUncounted e
+  IsUncounted (unary n e) = IsUncounted e
   IsUncounted (count e) = ⊥
   IsUncounted (compared by a b) = IsUncounted a × IsUncounted b
   IsUncounted (joined by a b) = IsUncounted a × IsUncounted b
@@ -48,8 +47,7 @@ mutual
   uncounted (list es) n = all_uncounted es (λ i. n (inr i))
   uncounted count_star n = n (inl refl)
   uncounted (nullable e) n = uncounted e (λ i. n (inr i))
-  uncounted (not_of e) n = uncounted e (λ i. n (inr i))
-  uncounted (null_test m e) n = uncounted e (λ i. n (inr i))
+  uncounted (unary m e) n = uncounted e (λ i. n (inr i))
   uncounted (count e) n = n (inl refl)
   uncounted (compared by a b) n = (
     uncounted a (λ i. n (inr (any_left Counts (nodes a) (nodes b) i))),
@@ -86,8 +84,7 @@ mutual
   in-one (list es) db f vs h g = all_in-one es db f vs h g
   in-one count_star db f vs h g = absurd h
   in-one (nullable e) db f vs h g = in-one e db f vs h g
-  in-one (not_of e) db f vs h g = (g.0, in-one e db f (g.0 ∷ []) h g.1, g.2)
-  in-one (null_test n e) db f vs h g = (g.0, in-one e db f (g.0 ∷ []) h g.1, g.2)
+  in-one (unary n e) db f vs h g = (g.0, in-one e db f (g.0 ∷ []) h g.1, g.2)
   in-one (count e) db f vs h g = absurd h
   in-one (compared by a b) db f vs h g =
       (g.0, g.1, in-one a db f (g.0 ∷ []) h.0 g.2, in-one b db f (g.1 ∷ []) h.1 g.3, g.4)
@@ -112,8 +109,7 @@ mutual
   of-one (list es) db f vs h g = all_of-one es db f vs h g
   of-one count_star db f vs h g = absurd h
   of-one (nullable e) db f vs h g = of-one e db f vs h g
-  of-one (not_of e) db f vs h g = (g.0, of-one e db f (g.0 ∷ []) h g.1, g.2)
-  of-one (null_test n e) db f vs h g = (g.0, of-one e db f (g.0 ∷ []) h g.1, g.2)
+  of-one (unary n e) db f vs h g = (g.0, of-one e db f (g.0 ∷ []) h g.1, g.2)
   of-one (count e) db f vs h g = absurd h
   of-one (compared by a b) db f vs h g =
       (g.0, g.1, of-one a db f (g.0 ∷ []) h.0 g.2, of-one b db f (g.1 ∷ []) h.1 g.3, g.4)

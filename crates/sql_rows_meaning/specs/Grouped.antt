@@ -5,12 +5,12 @@ use Rattle.std.specs.Prelude.{◌≡◌, ℕ, zero, suc, pos, Bool, true, false,
 use Rattle.std.specs.List.{AllZip}
 use Rattle.sql_pass.specs.declared.value.Value.{Value}
 use Rattle.sql_pass.specs.declared.value.Value.TheVariants as V
-use Rattle.sql_node.specs.Tree.{Expr, column, value, list, count_star, nullable, not_of, null_test, count, compared, joined, exists, single, among_values, among_rows, Exprs, no_exprs, more_exprs, Items, no_items, more_items, MaybeExpr, no_expr, an_expr, Distinct, every, distinct, distinct_on, Order, no_order, order_by, Statement, select, combination}
+use Rattle.sql_node.specs.Tree.{Expr, column, value, list, count_star, nullable, unary, count, compared, joined, exists, single, among_values, among_rows, Exprs, no_exprs, more_exprs, Items, no_items, more_items, MaybeExpr, no_expr, an_expr, Distinct, every, distinct, distinct_on, Order, no_order, order_by, Statement, select, combination}
 use Rattle.sql_rules.specs.Verdicts.{holds_aggregate}
 use Rattle.sql_rows_meaning.specs.Answers.{Line, left_by, directions, may_skip, first_value, positional_items, Gives, Holds, FromRows, Answers}
 use Rattle.sql_rows_meaning.specs.Frames.{Database, Frame, where_sees}
 use Rattle.sql_rows_meaning.specs.Rows.{Row, same_row, Filtered, IsPart, IsOrdered, values_at, page, count_row, combined}
-use Rattle.sql_rows_meaning.specs.Values.{is_null, is_true, compared_value, joined_value, not_value, null_test_value, among_value}
+use Rattle.sql_rows_meaning.specs.Values.{is_null, is_true, compared_value, joined_value, unary_value, among_value}
 
 -- ---- groups
 
@@ -83,8 +83,7 @@ abbrev mutual
   GivesIn (count e) db rows vs =
       (xs : List Value) × AllZip (λ row x. Gives e db row (x ∷ [])) rows xs × (vs ≡ V.BigInt (pos (not_nulls xs)) ∷ [])
   GivesIn (nullable e) db rows vs = GivesIn e db rows vs
-  GivesIn (not_of e) db rows vs = (x : Value) × GivesIn e db rows (x ∷ []) × (vs ≡ not_value x ∷ [])
-  GivesIn (null_test n e) db rows vs = (x : Value) × GivesIn e db rows (x ∷ []) × (vs ≡ null_test_value n x ∷ [])
+  GivesIn (unary n e) db rows vs = (x : Value) × GivesIn e db rows (x ∷ []) × (vs ≡ unary_value n x ∷ [])
   GivesIn (compared by a b) db rows vs =
       (x y : Value) × GivesIn a db rows (x ∷ []) × GivesIn b db rows (y ∷ []) × (vs ≡ compared_value by x y ∷ [])
   GivesIn (joined by a b) db rows vs =
