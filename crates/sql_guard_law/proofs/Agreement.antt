@@ -6,7 +6,8 @@ use Rattle.sql_schema.specs.declared.declaration.TableDecl.{TableDecl}
 use Rattle.sql_leaf.specs.declared.table_source.JoinKind.{JoinKind}
 use Rattle.sql_node.specs.Tree.{Origin, MaybeExpr, no_expr, an_expr, Source, of_table, of_alias, join, From, no_source, from, Statement, select, combination}
 use Rattle.sql_origin.specs.Leaves.{leaves}
-use Rattle.sql_origin.specs.Origins.{a_table, an_alias, same_table}
+use Rattle.sql_schema.specs.Equality.{same_table}
+use Rattle.sql_origin.specs.Origins.{a_table, an_alias}
 use Rattle.sql_origin.proofs.OriginLaws.{table-decides}
 use Rattle.sql_rules.specs.Lists.{AnyOf, Each}
 use Rattle.sql_rules.specs.Scope.{View, parts, origins_of}

@@ -4,8 +4,9 @@ use Rattle.sql_schema.specs.Declarations.{Declarations}
 use Rattle.sql_schema.specs.declared.declaration.TableDecl.{TableDecl}
 use Rattle.sql_dialect.specs.declared.backend.Dialect.{Dialect}
 use Rattle.sql_node.specs.Tree.{Expr, MaybeExpr, no_expr, an_expr, Statement}
-use Rattle.sql_origin.specs.Origins.{a_table, same_table}
-use Rattle.sql_origin.proofs.OriginLaws.{same-table_itself, table-decides}
+use Rattle.sql_schema.specs.Equality.{same_table}
+use Rattle.sql_origin.specs.Origins.{a_table}
+use Rattle.sql_origin.proofs.OriginLaws.{table-decides}
 use Rattle.sql_rules.specs.Lists.{AnyOf, Each}
 use Rattle.sql_rules.specs.Scope.{parts}
 use Rattle.sql_rows_meaning.specs.Answers.{Answers, Holds}
@@ -85,7 +86,7 @@ seen-own : (t : TableDecl) (c : MaybeExpr) (qs : List Policy) (row : Row)
     → seen (policy t c ∷ qs) t row ≡ (seen qs t row && true_at c ((a_table t, row) ∷ []))
 seen-own t c qs row =
     ap (λ b. all_true (if b then c ∷ predicates_on t qs else predicates_on t qs) ((a_table t, row) ∷ []))
-    (same-table_itself t)
+    ((table-decides t t).1 refl)
     ∙ and_comm (true_at c ((a_table t, row) ∷ [])) (seen qs t row)
 
 different : (t u : TableDecl) → t ≢ u → same_table t u ≡ false

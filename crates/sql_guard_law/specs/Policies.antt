@@ -1,9 +1,10 @@
 -- Several tables at once: each has a policy, and of each the rows are kept for which its predicates are true (PostgreSQL, Row
 -- Security Policies).
 use Rattle.std.specs.Prelude.{◌≡◌, ◌↔◌, Bool, true, ◌&&◌, List, [], ◌∷◌, if◌then◌else◌}
+use Rattle.sql_schema.specs.Equality.{same_table}
 use Rattle.sql_schema.specs.declared.declaration.TableDecl.{TableDecl}
 use Rattle.sql_node.specs.Tree.{MaybeExpr, no_expr, an_expr, Statement}
-use Rattle.sql_origin.specs.Origins.{a_table, same_table}
+use Rattle.sql_origin.specs.Origins.{a_table}
 use Rattle.sql_rules.specs.Lists.{AnyOf}
 use Rattle.sql_rules.specs.Scope.{Part, a_select, a_combination, own}
 use Rattle.sql_rows_meaning.specs.Answers.{Answers, Holds}
