@@ -17,14 +17,14 @@ both = first_frame ∷ (second_frame ∷ [])
 
 pub counted : IsCounted
 counted = record {
-  each = (
+  each = λ places. (
     both,
     both,
     second_frame ∷ (first_frame ∷ []),
     (first_frame ∷ []) ∷ ((second_frame ∷ []) ∷ []),
     (first_frame ∷ []) ∷ ((second_frame ∷ []) ∷ []),
     line (user_pair 1 1) ∷ (line (user_pair 2 0) ∷ []),
-    example_rows,
+    example_rows places,
     is-Filtered (λ row t. t ≡ true) (λ x. true) (λ x. refl) both,
     permutation-whole false _ _ (swap_two first_frame second_frame),
     ((V.Integer (pos 2) ∷ []) ∷ ((V.Integer (pos 1) ∷ []) ∷ []), (refl, (refl, tt)), refl),
@@ -56,17 +56,17 @@ counted = record {
         tt,
       ),
     ),
-    (true, λ k d h l. refl),
+    λ k d h l. refl,
     refl,
   );
-  all = (
+  all = λ places. (
     both,
     both,
     both,
     both ∷ [],
     both ∷ [],
     line (pair 2 1) ∷ [],
-    example_rows,
+    example_rows places,
     is-Filtered (λ row t. t ≡ true) (λ x. true) (λ x. refl) both,
     permutation-whole false _ _ (IsPermutation-refl both),
     refl,
@@ -85,7 +85,7 @@ counted = record {
       ),
       tt,
     ),
-    (true, λ k d h l. refl),
+    λ k d h l. refl,
     refl,
   );
 }

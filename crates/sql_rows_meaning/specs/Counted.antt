@@ -6,8 +6,8 @@ use Rattle.sql_leaf.specs.Marking.{unmarked}
 use Rattle.sql_leaf.specs.declared.table_source.JoinKind.TheVariants.{LeftOuter}
 use Rattle.sql_node.specs.Tree.{unboxed, Expr, list, count_star, nullable, count, no_exprs, more_exprs, MaybeExpr, no_expr, an_expr, of_table, join, from, every, no_order, Statement, select}
 use Rattle.sql_rows_meaning.specs.Example.{id, users, posts, database, of_users, of_posts, relation}
-use Rattle.sql_rows_meaning.specs.Grouped.{GroupedAnswers}
-use Rattle.sql_rows_meaning.specs.Rows.{Row}
+use Rattle.sql_rows_meaning.specs.Answers.{Answers}
+use Rattle.sql_rows_meaning.specs.Rows.{Row, NullPlaces}
 
 -- the example's left join, with any selection and GROUP BY
 abbrev pub grouping : Expr → MaybeExpr → Statement
@@ -34,5 +34,5 @@ user_pair n m = V.Integer (pos n) ∷ (V.BigInt (pos m) ∷ [])
 
 -- User 1 has one post, and user 2 none: the row that stands in for it is counted by COUNT(*), and not by COUNT of its NULL.
 pub record IsCounted : Type 0 where
-  pub each : GroupedAnswers posts_of_each database [] (user_pair 1 1 ∷ (user_pair 2 0 ∷ []))
-  pub all : GroupedAnswers in_all database [] (pair 2 1 ∷ [])
+  pub each : (places : NullPlaces) → Answers places posts_of_each database [] (user_pair 1 1 ∷ (user_pair 2 0 ∷ []))
+  pub all : (places : NullPlaces) → Answers places in_all database [] (pair 2 1 ∷ [])

@@ -8,7 +8,7 @@ use Rattle.sql_leaf.specs.declared.operator.Comparison.TheVariants.{Eq, Lt}
 use Rattle.sql_leaf.specs.declared.operator.Logic.TheVariants.{And, Or}
 use Rattle.sql_rules.specs.Lists.{Each}
 use Rattle.sql_rows_meaning.specs.Answers.{Line, is_keyed, first_of_each}
-use Rattle.sql_rows_meaning.specs.Rows.{Row, row_before, page, combined}
+use Rattle.sql_rows_meaning.specs.Rows.{Row, as_greatest, as_least, row_before, page, combined}
 use Rattle.sql_rows_meaning.specs.Values.{compared_value, joined_value, not_value, any_value}
 
 -- what operators, orders, cuts and combinations give: each is computed by the definitions
@@ -27,11 +27,13 @@ pub record AreWorked : Type 0 where
   pub null_in_nothing : any_value V.Null [] ≡ V.Bool false
   pub one_in_null_and_one : any_value (V.Integer (pos 1)) (V.Null ∷ (V.Integer (pos 1) ∷ [])) ≡ V.Bool true
   pub two_in_null_and_one : any_value (V.Integer (pos 2)) (V.Null ∷ (V.Integer (pos 1) ∷ [])) ≡ V.Null
-  pub falling : row_before true (direction.Desc ∷ []) (V.Text (codes "b") ∷ []) (V.Text (codes "a") ∷ []) ≡ true
-  pub second_item : row_before true (direction.Desc ∷ (direction.Asc ∷ [])) (V.Bool true ∷ (V.Integer (pos 1) ∷ []))
+  pub falling : row_before as_least (direction.Desc ∷ []) (V.Text (codes "b") ∷ []) (V.Text (codes "a") ∷ []) ≡ true
+  pub second_item : row_before as_least (direction.Desc ∷ (direction.Asc ∷ [])) (V.Bool true ∷ (V.Integer (pos 1) ∷ []))
       (V.Bool true ∷ (V.Integer (pos 2) ∷ [])) ≡ true
-  pub nulls_first : row_before true (direction.Desc ∷ []) (V.Null ∷ []) (V.Bool true ∷ []) ≡ true
-  pub nulls_last : row_before false (direction.None ∷ []) (V.Null ∷ []) (V.Bool true ∷ []) ≡ false
+  pub greatest_falling : row_before as_greatest (direction.Desc ∷ []) (V.Null ∷ []) (V.Bool true ∷ []) ≡ true
+  pub greatest_rising : row_before as_greatest (direction.None ∷ []) (V.Null ∷ []) (V.Bool true ∷ []) ≡ false
+  pub least_falling : row_before as_least (direction.Desc ∷ []) (V.Null ∷ []) (V.Bool true ∷ []) ≡ false
+  pub least_rising : row_before as_least (direction.Asc ∷ []) (V.Null ∷ []) (V.Bool true ∷ []) ≡ true
   pub negative_limit : page {A = ℕ} (record { limit_clause = Some (negsuc 0); offset_clause = Some (negsuc 4) })
       (1 ∷ (2 ∷ (3 ∷ []))) ≡ 1 ∷ (2 ∷ (3 ∷ []))
   pub second_of_three : page {A = ℕ} (record { limit_clause = Some (pos 1); offset_clause = Some (pos 1) })
