@@ -48,7 +48,7 @@ use Rattle.sql_guard_law.specs.Tenant.{BreaksAtMostTooManyBinds, IsOutOfKind}
 use Rattle.sql_guard_law.proofs.Evaluate.{IsFlat, eval, eval-given, one-given, true_at, true-holds}
 use Rattle.sql_guard_law.proofs.Plain.{IsPlainFrom, IsPlainKey, ArePlainItems, IsPlainOrder, IsPlainSelect, at_most-clean, free_left, free_right, is-plain}
 use Rattle.sql_guard_law.proofs.RestrictedSources.{IsPlainSource}
-use Rattle.sql_guard_law.proofs.Sorting.{IsAsymmetric, insert, sorted, path-sorted, permutation-sorted, in-order, path-map, lifted}
+use Rattle.sql_rows_meaning.proofs.Sorting.{IsAsymmetric, insert, sorted, path-sorted, permutation-sorted, in-order, path-map, lifted}
 
 -- ---- no row has to come before another that has to come before it
 

@@ -8,7 +8,7 @@ use Rattle.sql_rows_meaning.specs.Frames.{Frame}
 use Rattle.sql_rows_meaning.specs.Rows.{IsPart}
 use Rattle.sql_rows_meaning.proofs.Functional.{joined_rows}
 use Rattle.sql_rows_meaning.proofs.Lists.{Each-front, Each-weaken, Each-permutation}
-use Rattle.sql_guard_law.proofs.Permutations.{filter-append, filter-permutation}
+use Rattle.sql_rows_meaning.proofs.Permutations.{filter-append, filter-permutation}
 
 pub filter-map : {A B : Type 0} (q : B → Bool) (h : A → B) (xs : List A) → filter q (map h xs)
     ≡ map h (filter (λ x. q (h x)) xs)

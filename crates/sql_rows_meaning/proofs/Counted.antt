@@ -27,7 +27,7 @@ counted = record {
     example_rows places,
     is-Filtered (λ row t. t ≡ true) (λ x. true) (λ x. refl) both,
     permutation-whole false _ _ (swap_two first_frame second_frame),
-    ((V.Integer (pos 2) ∷ []) ∷ ((V.Integer (pos 1) ∷ []) ∷ []), (refl, (refl, tt)), refl),
+    ((V.Integer (pos 2) ∷ []) ∷ ((V.Integer (pos 1) ∷ []) ∷ []), (refl, (refl, tt)), IsPermutation-refl _),
     is-Filtered (λ row t. t ≡ true) (λ x. true) (λ x. refl) _,
     (
       (

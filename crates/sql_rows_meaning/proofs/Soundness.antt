@@ -32,7 +32,7 @@ use Rattle.sql_rows_meaning.specs.Rows.{Row, NullPlaces, same_row}
 use Rattle.sql_rows_meaning.specs.Values.{compared_value, joined_value, unary_value, among_value}
 use Rattle.sql_rows_meaning.proofs.Facts.{Fit, Fit-weaken, Fits, truth}
 use Rattle.sql_rows_meaning.proofs.Typed.{some_same, only-typed}
-use Rattle.sql_rows_meaning.proofs.Lists.{Each-front, Each-end, Each-map, AllZip-each, Filtered-each, IsPart-each, left_by-each, page-each}
+use Rattle.sql_rows_meaning.proofs.Lists.{Each-front, Each-end, Each-map, AllZip-each, Filtered-each, IsPart-each, Each-permutation, left_by-each, page-each}
 use Rattle.sql_rows_meaning.proofs.Counts.{combination-each}
 use Rattle.sql_rows_meaning.proofs.Sources.{FrameFits, IsMissing, from-fits, column-fits, value_in-null}
 use Rattle.sql_rows_meaning.proofs.Counting.{IsLoose, AreLoose, counted-tight}
@@ -120,7 +120,8 @@ groups-good : (places : NullPlaces) (db : Database) (P : Frame → Type 0) (Empt
     (rows : List Frame) (groups : List Group) → (¬ Present g → counted ≡ true → Empty) → GroupedBy places g counted db rows groups
     → Each P rows → Each (IsGood P Empty) groups
 groups-good places db P Empty (an_expr g) counted rows groups tight (keys, zip, groups_are) h =
-    rw groups_are (Each-map (λ group. IsGood P ⊥ group.rows) (IsGood P Empty) (λ group. group.rows)
+    Each-permutation (IsGood P Empty) (map (λ group. group.rows) (keyed_groups keys rows)) groups groups_are
+    (Each-map (λ group. IsGood P ⊥ group.rows) (IsGood P Empty) (λ group. group.rows)
     (λ group k. (k.0, λ e. absurd (k.1 e))) (keyed_groups keys rows) (keyed-good P keys rows h))
 groups-good places db P Empty no_expr true rows groups tight e h = rw e ((h, λ q. tight (λ g. g) refl), tt)
 groups-good places db P Empty no_expr false rows groups tight e h = rw e (alone-good P Empty rows h)

@@ -1,7 +1,7 @@
 -- What a statement may answer over a database (PostgreSQL, SELECT; Table Expressions; Aggregate Functions; Subquery Expressions;
 -- Combining Queries). It is a relation: SQL leaves the order of rows and other choices open, so a statement has several answers.
 -- Where NULL comes in an order is the server's choice, and the same for the whole statement.
-use Rattle.std.specs.Prelude.{◌≡◌, pos, Bool, true, false, List, [], ◌∷◌, ◌++◌, map, length, Option, None, Some, if◌then◌else◌}
+use Rattle.std.specs.Prelude.{◌≡◌, pos, Bool, true, false, List, [], ◌∷◌, ◌++◌, map, length, Option, None, Some, if◌then◌else◌, IsPermutation}
 use Rattle.std.specs.List.{AllZip}
 use Rattle.sql_pass.specs.declared.value.Value.{Value}
 use Rattle.sql_pass.specs.declared.value.Value.TheVariants as V
@@ -166,12 +166,12 @@ module _ (places : NullPlaces) where
     FromRows no_source db rows = rows ≡ [] ∷ []
     FromRows (from f) db rows = SourceRows f db rows
 
-    -- Rows are grouped by the values of GROUP BY. Without it all rows are one group where something is counted, also where there
-    -- are none, and else each row is one.
+    -- Rows are grouped by the values of GROUP BY, and the groups come in any order. Without it all rows are one group where something
+    -- is counted, also where there are none, and else each row is one.
     pub GroupedBy : MaybeExpr → Bool → Database → List Frame → List Group → Type 0
     GroupedBy (an_expr g) counted db rows groups =
         (keys : List Row) × AllZip (λ row key. Gives g db (alone row) key) rows keys
-        × (groups ≡ map (λ group. group.rows) (keyed_groups keys rows))
+        × IsPermutation (map (λ group. group.rows) (keyed_groups keys rows)) groups
     GroupedBy no_expr true db rows groups = groups ≡ rows ∷ []
     GroupedBy no_expr false db rows groups = groups ≡ map alone rows
 

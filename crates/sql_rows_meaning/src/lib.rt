@@ -4,7 +4,7 @@
 //! when it runs.
 #![tactic(auto)]
 
-ghost use Rattle.std.specs.Prelude.{◌≡◌, ◌↔◌, List, Some, map};
+ghost use Rattle.std.specs.Prelude.{◌≡◌, ◌↔◌, List, [], Some, map};
 ghost use Rattle.sql_schema.specs.Declarations.{Declarations};
 ghost use Rattle.sql_schema.specs.declared.types.SqlType.{SqlType};
 ghost use Rattle.sql_dialect.specs.declared.backend.Dialect.{Dialect};
@@ -65,6 +65,13 @@ pub fn first_is_any()
 pub fn ungrouped_answers_are_the_same()
     ensures { (places : NullPlaces) (s : Statement) → IsUngrouped s → (db : Database) (outer : Frame) (answer : List Row)
         → Answers places s db outer answer ↔ RowAnswers places s db outer answer }
+{}
+
+/// The laws are of something: a statement that breaks no rule has an answer over every database, whether or not that conforms, wherever
+/// NULL comes in orders.
+pub fn accepted_statements_have_answers()
+    ensures { (schema : Declarations) (d : Dialect) (s : Statement) → Accepted schema d s
+        → (places : NullPlaces) (db : Database) → (answer : List Row) × Answers places s db [] answer }
 {}
 
 /// User 1 has one post and user 2 none, and there are two rows: counted by user, and in all.

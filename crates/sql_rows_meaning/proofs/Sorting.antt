@@ -4,7 +4,7 @@ use Rattle.std.proofs.Common.{◌≡◌, ℕ, zero, suc, ◌+◌, ◌<◌, ◌�
 use Rattle.std.proofs.lemmas.Bool.{false≢true}
 use Rattle.std.proofs.lemmas.List.{get_or-map, map-set, length-map}
 use Rattle.std.proofs.lemmas.List.Sorted.{IsPermutation-refl, IsPermutation-trans, IsPermutation-cons, IsPermutation-keeps, IsPermutation-swap}
-use Rattle.sql_guard_law.proofs.Permutations.{to_front}
+use Rattle.sql_rows_meaning.proofs.Permutations.{to_front}
 
 abbrev pub IsAsymmetric : {A : Type 0} → (A → A → Bool) → Type 0
 IsAsymmetric {A} before = (x y : A) → before x y ≡ true → before y x ≡ false
