@@ -18,7 +18,7 @@ use sql_rows_meaning::types_are_sound;
 use sql_schema::Schema;
 use std::alloc::Global;
 
-/// What `compile_by` answers. And where the statement has no aggregate and no group, a column whose type is not nullable gives NULL
+/// What `compile_by` answers. And a column whose type is not nullable gives NULL
 /// over no database that conforms to the schema: `"users"."id"` of type Integer, `"posts"."title"` right of a left join only as
 /// `Text?` (`docs/MEANING.md`).
 ///

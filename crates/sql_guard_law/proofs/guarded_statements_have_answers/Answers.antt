@@ -1,5 +1,5 @@
-use Rattle.sql_guard_law.proofs.Existence.{answers-exist}
+use Rattle.sql_guard_law.proofs.Policies.{guarded-answers}
 use Rattle.sql_guard_law.proofs.guarded_statements_have_answers.Goals as goal
 
 pub returns : goal.returns
-returns c = answers-exist
+returns c = guarded-answers
