@@ -1,14 +1,17 @@
 -- Rows by which the definitions can be compared with their words, and what DISTINCT leaves.
-use Rattle.std.specs.Prelude.{◌≡◌, ◌↔◌, ⊤, ℕ, pos, negsuc, true, false, List, [], ◌∷◌, ◌++◌, Some, codes, IsPermutation}
+use Rattle.std.specs.Prelude.{◌≡◌, ◌↔◌, ⊤, ℕ, pos, negsuc, true, false, List, [], ◌∷◌, ◌++◌, Some, map, codes, IsPermutation}
 use Rattle.sql_dialect.specs.declared.combination.Combinator.TheVariants.{Union, Intersect, Except}
 use Rattle.sql_dialect.specs.declared.combination.DuplicateRule.TheVariants.{All, Distinct}
+use Rattle.sql_schema.specs.declared.types.SqlType.{SqlType}
 use Rattle.sql_pass.specs.declared.value.Value.TheVariants as V
+use Rattle.sql_leaf.specs.declared.position.Direction.{Direction}
 use Rattle.sql_leaf.specs.declared.position.Direction.TheVariants as direction
 use Rattle.sql_leaf.specs.declared.operator.Comparison.TheVariants.{Eq, Lt}
 use Rattle.sql_leaf.specs.declared.operator.Logic.TheVariants.{And, Or}
 use Rattle.sql_rules.specs.Lists.{Each}
 use Rattle.sql_rows_meaning.specs.Answers.{Line, is_keyed, first_of_each}
-use Rattle.sql_rows_meaning.specs.Rows.{Row, as_greatest, as_least, row_before, page, combined}
+use Rattle.sql_rows_meaning.specs.Fitting.{RowFits}
+use Rattle.sql_rows_meaning.specs.Rows.{Row, NullPlaces, as_greatest, as_least, same_row, row_before, IsOrdered, page, combined}
 use Rattle.sql_rows_meaning.specs.Values.{compared_value, joined_value, not_value, any_value}
 
 -- what operators, orders, cuts and combinations give: each is computed by the definitions
@@ -67,3 +70,17 @@ FirstIsAny =
     (key : Line → Row) (lines chosen : List Line)
     → IsOneOfEach key lines chosen
     ↔ ((shuffled : List Line) × IsPermutation lines shuffled × (first_of_each key [] shuffled ≡ chosen))
+
+-- no line of its key comes before it
+abbrev pub IsFirst : NullPlaces → List Direction → List Line → Line → Type 0
+IsFirst places items lines c =
+    Each (λ l. same_row c.key l.key ≡ true → row_before places items l.order c.order ≡ false) lines
+
+-- Of lines in an order DISTINCT ON leaves the first by that order of each key, and these are in that order: where the values of each item
+-- are of one type.
+abbrev pub FirstIsLeft : Type 0
+FirstIsLeft =
+    (places : NullPlaces) (items : List Direction) (types : List SqlType) (lines : List Line)
+    → Each (λ l. RowFits types l.order) lines → IsOrdered places items (map (λ l. l.order) lines)
+    → IsOrdered places items (map (λ l. l.order) (first_of_each (λ l. l.key) [] lines))
+    × Each (IsFirst places items lines) (first_of_each (λ l. l.key) [] lines)

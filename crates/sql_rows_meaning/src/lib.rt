@@ -20,7 +20,7 @@ ghost use Rattle.sql_rows_meaning.specs.LastWriter.{HasLastWriter};
 ghost use Rattle.sql_rows_meaning.specs.Needed.{ExampleIsAccepted, RuleIsNeeded};
 ghost use Rattle.sql_rows_meaning.specs.Rows.{NullPlaces, Row};
 ghost use Rattle.sql_rows_meaning.specs.Ungrouped.{IsUngrouped, RowAnswers};
-ghost use Rattle.sql_rows_meaning.specs.Worked.{AreWorked, FirstIsAny};
+ghost use Rattle.sql_rows_meaning.specs.Worked.{AreWorked, FirstIsAny, FirstIsLeft};
 
 /// A statement that breaks no rule answers, over every database that conforms, only rows that fit the types of its columns: a column
 /// whose type is not nullable never gives NULL. COUNT gives a number, also where it counts nothing.
@@ -59,6 +59,12 @@ pub fn operators_work()
 /// key, in any order.
 pub fn first_is_any()
     ensures { FirstIsAny }
+{}
+
+/// `DISTINCT ON` with an order leaves the first row by that order of each key, as PostgreSQL does: no row of its key comes before it. What is
+/// left is in that order too, so each answer is one of those where any row of each key may be left.
+pub fn first_by_the_order_is_left()
+    ensures { FirstIsLeft }
 {}
 
 /// Where nothing is grouped or counted, the answers are those of each row by itself.
