@@ -104,11 +104,11 @@ module _ (many : List Value → List Value) where
       erased_source-guarded (of_table u only sample) = refl
       erased_source-guarded (of_alias a u) = refl
       erased_source-guarded (join Inner l r on) =
-          ap₂ (λ f c. f c) (ap₂ (join Inner) (erased_source-guarded l) (erased_source-guarded r)) (erased_maybe-guarded on)
+          λ i. join Inner (erased_source-guarded l i) (erased_source-guarded r i) (erased_maybe-guarded on i)
       erased_source-guarded (join LeftOuter l r on) =
-          ap₂ (λ f c. f c) (ap₂ (join LeftOuter) (erased_source-guarded l) (erased_source-guarded r))
-          (erased-with_all (predicates t p r) (guarded_maybe t p on)
-          ∙ ap₂ with_all (erased-predicates t p r) (erased_maybe-guarded on))
+          λ i. join LeftOuter (erased_source-guarded l i) (erased_source-guarded r i)
+          ((erased-with_all (predicates t p r) (guarded_maybe t p on)
+          ∙ ap₂ with_all (erased-predicates t p r) (erased_maybe-guarded on)) i)
 
       erased_from-guarded : (f : From)
           → erased_from many (guarded_from t p f) ≡ guarded_from t (erased_expr many p) (erased_from many f)

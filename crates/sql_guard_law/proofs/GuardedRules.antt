@@ -73,9 +73,17 @@ module _ (schema : Declarations) (d : Dialect) (t : TableDecl) (p : Expr) (predi
 
   in-two : (s : Select) → guarded_select t p (inner_select t p s) ≡ whole_select s
   in-two s = λ i.
-      record (inner_select t p s) {
+      record {
+        selection = guarded_expr t p s.selection;
         source = restricted_from-inner t p s.source i;
+        distinctness = guarded_distinct t p s.distinctness;
         where_by = with_all (predicates_from-inner t p s.source i) (guarded_maybe t p s.where_by);
+        order = guarded_order t p s.order;
+        rows = s.rows;
+        group_by = guarded_maybe t p s.group_by;
+        having_by = guarded_maybe t p s.having_by;
+        form = s.form;
+        marks = s.marks;
       }
 
   whole-kept : (outer : View) (s : Select) → ((r : Rule) → ¬ SelectBreaks r schema d outer s) → (r : Rule)

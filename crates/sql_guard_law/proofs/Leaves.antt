@@ -15,7 +15,6 @@ use Rattle.sql_schema.proofs.EqualityLaws.{exact-table}
 use Rattle.sql_origin.proofs.OriginLaws.{same-origin_itself}
 use Rattle.sql_rules.specs.Lists.{Each}
 use Rattle.sql_rules.specs.Scope.{nodes}
-use Rattle.sql_rules.specs.Types.{bool_type, joined_type}
 use Rattle.sql_rows_meaning.specs.Answers.{SourceRows, Holds, rows_as, is_partial, first_value}
 use Rattle.sql_rows_meaning.specs.Frames.{Database, Frame, row_of, nulls}
 use Rattle.sql_guard_law.specs.Restricted.{predicates, predicate_of, with_all, open_leaves, if_same}
@@ -23,7 +22,7 @@ use Rattle.sql_guard_law.specs.Tenant.{IsOwn}
 use Rattle.sql_rows_meaning.specs.Groups.{Group, one_row}
 use Rattle.sql_rows_meaning.specs.Rows.{Row, NullPlaces}
 use Rattle.sql_rows_meaning.specs.Values.{is_null, is_true, is_false, joined_value}
-use Rattle.sql_rows_meaning.proofs.Facts.{or_true, truth}
+use Rattle.sql_rows_meaning.proofs.Facts.{or_true}
 use Rattle.sql_rows_meaning.proofs.Lists.{Each-append, Each-front, Each-end, Each-weaken, IsPart-each, Joined-each}
 use Rattle.sql_guard_law.proofs.Evaluate.{eval, true_at, holds-true, true-holds, IsTest, aimed, aimed-eval, aimed-test, predicate-aimed}
 
@@ -242,17 +241,6 @@ and_value_true x y false false d e = rw (d, e) refl
 
 and_value-true : (x y : Value) → is_true (joined_value And x y) ≡ (is_true x && is_true y)
 and_value-true x y = and_value_true x y _ _ refl refl
-
-pub and-test : (e q : Expr) → IsTest e → IsTest q → IsTest (joined And e q)
-and-test e q h k = (
-  (h.0, k.0),
-  (
-    truth (h.1.0.nullable || k.1.0.nullable),
-    ap₂ joined_type h.1.1 k.1.1 ∙ ap (λ b. if b then bool_type (h.1.0.nullable || k.1.0.nullable) else None)
-        (ap₂ ◌&&◌ h.1.2 k.1.2),
-    refl,
-  ),
-)
 
 -- a predicate of the table's own columns
 pub record IsFit (t : TableDecl) (p : Expr) : Type 0 where

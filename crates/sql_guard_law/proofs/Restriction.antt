@@ -7,7 +7,7 @@ use Rattle.sql_leaf.specs.declared.operator.Logic.TheVariants.{And}
 use Rattle.sql_leaf.specs.declared.table_source.JoinKind.TheVariants.{Inner, LeftOuter}
 use Rattle.sql_node.specs.Tree.{Origin, Expr, column, value, list, count_star, nullable, unary, count, compared, joined, exists, single, among_values, among_rows, Exprs, no_exprs, more_exprs, Items, no_items, more_items, MaybeExpr, no_expr, an_expr, Source, of_table, of_alias, join, From, no_source, from, Distinct, every, distinct, distinct_on, Order, no_order, order_by, Statement, select, combination}
 use Rattle.sql_rules.specs.Lists.{AnyOf}
-use Rattle.sql_rules.specs.Scope.{View, Part, a_select, a_combination, Clause, Place, parts, origins, origins_of, ons, ons_of, in_on, in_where, in_group_by, in_having, nodes, nodes_of, widest, maybe_clause, distinct_clause, item_clauses, order_clauses, clauses}
+use Rattle.sql_rules.specs.Scope.{View, Part, a_select, a_combination, Clause, Place, in_selection, parts, origins, origins_of, ons, ons_of, in_on, in_where, in_group_by, in_having, nodes, nodes_of, widest, maybe_clause, distinct_clause, item_clauses, order_clauses, clauses}
 use Rattle.sql_rules.proofs.Lists.{any_left, any_right}
 use Rattle.sql_rules.proofs.Loops.{any_each}
 use Rattle.sql_guard_law.specs.Guarded.{guarded_expr, guarded_exprs, guarded_items, guarded_maybe, guarded_source, guarded_from, guarded_distinct, guarded_order, guarded}
@@ -142,7 +142,7 @@ no-subselect v (select default e f u w o rows g h form marks) n =
     let own = origins_of f in
     let wide = widest form f v in
     let n0 : ¬ AnyOf Holds
-    (distinct_clause own u ++ (record { place = Place.in_selection; view = own; expr = e } ∷ (ons_of f
+    (distinct_clause own u ++ (record { place = in_selection; view = own; expr = e } ∷ (ons_of f
     ++ (maybe_clause in_where wide w ++ (maybe_clause in_group_by own g ++ (maybe_clause in_having own h
     ++ order_clauses own o)))))) = λ i. n (inl i) in
     let n1 = free_right Holds (distinct_clause own u) _ n0 in
