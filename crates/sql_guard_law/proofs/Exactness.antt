@@ -149,6 +149,70 @@ module _ (places : NullPlaces) (t : TableDecl) (p : Expr) (fit : IsFit t p) (db 
   sees-pass form f outer rows h =
       filter-same _ (pass p (open_from t f)) rows (Each-weaken _ _ (λ row n. pass-sees t p form f row outer n) rows h)
 
+  -- what passes WHERE
+  where-to : (form : Form) (f : From) (w : MaybeExpr) (outer : Frame)
+      → ((rows : Group) (b : Bool) → Holds places (guarded_maybe t p w) db rows b → Holds places w cut rows b)
+      → (all passing : List Frame) → Each (λ row. names row ≡ from_leaves f) all
+      → Filtered (λ row b. Holds places (with_all (predicates_from t p f) (guarded_maybe t p w)) db
+      (alone (where_sees form (guarded_from t p f) row outer)) b) all passing
+      → Filtered (λ row b. Holds places w cut (alone (where_sees form f row outer)) b)
+      (filter (pass p (open_from t f)) all) passing
+  where-to form f w outer move all passing named g =
+      subst (λ rows. Filtered (λ row b. Holds places w cut (alone (where_sees form f row outer)) b) rows passing)
+      (sees-pass form f outer all named)
+      (narrowed
+      (λ row b. Holds places (with_all (predicates_from t p f) (guarded_maybe t p w)) db
+      (alone (where_sees form (guarded_from t p f) row outer)) b)
+      (λ row b. Holds places w cut (alone (where_sees form f row outer)) b)
+      (λ row. pass p (open_from t f) (where_sees form f row outer))
+      (λ row b m e.
+      let (i, held, is) = from-of f (guarded_maybe t p w) (alone (where_sees form f row outer)) b
+      (subst (λ x. Holds places (with_all (predicates_from t p f) (guarded_maybe t p w)) db (alone x) b)
+      (sees-same t p form f row outer) m) in
+      move (alone (where_sees form f row outer)) b
+      (subst (λ x. Holds places (guarded_maybe t p w) db (alone (where_sees form f row outer)) x)
+      (sym (is ∙ and_met i (pass p (open_from t f) (where_sees form f row outer)) e)) held))
+      (λ row b m e.
+      let (i, held, is) = from-of f (guarded_maybe t p w) (alone (where_sees form f row outer)) b
+      (subst (λ x. Holds places (with_all (predicates_from t p f) (guarded_maybe t p w)) db (alone x) b)
+      (sees-same t p form f row outer) m) in
+      is ∙ and_unmet i (pass p (open_from t f) (where_sees form f row outer)) e)
+      g)
+
+  where-back : (form : Form) (f : From) (w : MaybeExpr) (outer : Frame)
+      → ((rows : Group) (b : Bool) → Holds places w cut rows b → Holds places (guarded_maybe t p w) db rows b)
+      → ((rows : Group) → (b : Bool) × Holds places w cut rows b) → (all passing : List Frame) → Each (λ row. names row ≡ from_leaves f) all
+      → Filtered (λ row b. Holds places w cut (alone (where_sees form f row outer)) b)
+      (filter (pass p (open_from t f)) all) passing
+      → Filtered (λ row b. Holds places (with_all (predicates_from t p f) (guarded_maybe t p w)) db
+      (alone (where_sees form (guarded_from t p f) row outer)) b) all passing
+  where-back form f w outer move some all passing named g =
+      widened
+      (λ row b. Holds places (with_all (predicates_from t p f) (guarded_maybe t p w)) db
+      (alone (where_sees form (guarded_from t p f) row outer)) b)
+      (λ row b. Holds places w cut (alone (where_sees form f row outer)) b)
+      (λ row. pass p (open_from t f) (where_sees form f row outer))
+      (λ row b m e.
+      subst (λ x. Holds places (with_all (predicates_from t p f) (guarded_maybe t p w)) db (alone x) b)
+      (sym (sees-same t p form f row outer))
+      (subst (λ x. Holds places (with_all (predicates_from t p f) (guarded_maybe t p w)) db
+      (alone (where_sees form f row outer)) x)
+      (and_met b (pass p (open_from t f) (where_sees form f row outer)) e)
+      (from-to f (guarded_maybe t p w) (alone (where_sees form f row outer)) b
+      (move (alone (where_sees form f row outer)) b m))))
+      (λ row e.
+      let (b, m) = some (alone (where_sees form f row outer)) in
+      subst (λ x. Holds places (with_all (predicates_from t p f) (guarded_maybe t p w)) db (alone x) false)
+      (sym (sees-same t p form f row outer))
+      (subst (λ x. Holds places (with_all (predicates_from t p f) (guarded_maybe t p w)) db
+      (alone (where_sees form f row outer)) x)
+      (and_unmet b (pass p (open_from t f) (where_sees form f row outer)) e)
+      (from-to f (guarded_maybe t p w) (alone (where_sees form f row outer)) b
+      (move (alone (where_sees form f row outer)) b m))))
+      all passing
+      (subst (λ rows. Filtered (λ row b. Holds places w cut (alone (where_sees form f row outer)) b) rows passing)
+      (sym (sees-pass form f outer all named)) g)
+
   -- the source of a select statement that breaks no rule
   plain-of : (v : View) (default : Bool) (e : Expr) (f : From) (u : Distinct) (w : MaybeExpr) (o : Order)
       (rows : LimitOffsetClause) (g h : MaybeExpr) (form : Form) (marks : Marks)
@@ -301,34 +365,6 @@ module _ (places : NullPlaces) (t : TableDecl) (p : Expr) (fit : IsFit t p) (db 
     rows-to no_source k h rows g = rw g refl
     rows-to (from s) k h rows g = source-to s k h rows g
 
-    where-to : (form : Form) (f : From) (w : MaybeExpr) (v : View) → Clean schema d (in_maybe v w) → (outer : Frame)
-        → (all passing : List Frame) → Each (λ row. names row ≡ from_leaves f) all
-        → Filtered (λ row b. Holds places (with_all (predicates_from t p f) (guarded_maybe t p w)) db
-        (alone (where_sees form (guarded_from t p f) row outer)) b) all passing
-        → Filtered (λ row b. Holds places w cut (alone (where_sees form f row outer)) b)
-        (filter (pass p (open_from t f)) all) passing
-    where-to form f w v k outer all passing named g =
-        subst (λ rows. Filtered (λ row b. Holds places w cut (alone (where_sees form f row outer)) b) rows passing)
-        (sees-pass form f outer all named)
-        (narrowed
-        (λ row b. Holds places (with_all (predicates_from t p f) (guarded_maybe t p w)) db
-        (alone (where_sees form (guarded_from t p f) row outer)) b)
-        (λ row b. Holds places w cut (alone (where_sees form f row outer)) b)
-        (λ row. pass p (open_from t f) (where_sees form f row outer))
-        (λ row b m e.
-        let (i, held, is) = from-of f (guarded_maybe t p w) (alone (where_sees form f row outer)) b
-        (subst (λ x. Holds places (with_all (predicates_from t p f) (guarded_maybe t p w)) db (alone x) b)
-        (sees-same t p form f row outer) m) in
-        holds-to w v k (alone (where_sees form f row outer)) b
-        (subst (λ x. Holds places (guarded_maybe t p w) db (alone (where_sees form f row outer)) x)
-        (sym (is ∙ and_met i (pass p (open_from t f) (where_sees form f row outer)) e)) held))
-        (λ row b m e.
-        let (i, held, is) = from-of f (guarded_maybe t p w) (alone (where_sees form f row outer)) b
-        (subst (λ x. Holds places (with_all (predicates_from t p f) (guarded_maybe t p w)) db (alone x) b)
-        (sees-same t p form f row outer) m) in
-        is ∙ and_unmet i (pass p (open_from t f) (where_sees form f row outer)) e)
-        g)
-
     answers-to : (s : Statement) (v : View) → Clean schema d (parts v s) → (outer : Frame) (answer : List Row)
         → Answers places (guarded t p s) db outer answer
         → Answers places s cut outer answer
@@ -354,7 +390,7 @@ module _ (places : NullPlaces) (t : TableDecl) (p : Expr) (fit : IsFit t p) (db 
           a.4,
           a.5,
           rows-to f kf plain a.0 a.6,
-          where-to form f w wide kw outer a.0 a.1 (from-named f a.0 a.6) a.7,
+          where-to form f w outer (λ group b m. holds-to w wide kw group b m) a.0 a.1 (from-named f a.0 a.6) a.7,
           a.8,
           grouped-to g own (Clean-left schema d (in_maybe own g) _ k4) (counts e u o) a.2 a.3
               (subst (λ b. GroupedBy places (guarded_maybe t p g) b db a.2 a.3) (counts-same t p e u o) a.9),
@@ -560,39 +596,6 @@ module _ (places : NullPlaces) (t : TableDecl) (p : Expr) (fit : IsFit t p) (db 
         (found, g, filter-all (λ row. true) found (Each-always _ (λ row. refl) found))
     rows-back (from s) k h ty found g = source-back s k h ty found g
 
-    where-back : (form : Form) (f : From) (w : MaybeExpr) (v : View) → Clean schema d (in_maybe v w) → IsTypedCondition w
-        → (outer : Frame) → (all passing : List Frame) → Each (λ row. names row ≡ from_leaves f) all
-        → Filtered (λ row b. Holds places w cut (alone (where_sees form f row outer)) b)
-        (filter (pass p (open_from t f)) all) passing
-        → Filtered (λ row b. Holds places (with_all (predicates_from t p f) (guarded_maybe t p w)) db
-        (alone (where_sees form (guarded_from t p f) row outer)) b) all passing
-    where-back form f w v k ty outer all passing named g =
-        widened
-        (λ row b. Holds places (with_all (predicates_from t p f) (guarded_maybe t p w)) db
-        (alone (where_sees form (guarded_from t p f) row outer)) b)
-        (λ row b. Holds places w cut (alone (where_sees form f row outer)) b)
-        (λ row. pass p (open_from t f) (where_sees form f row outer))
-        (λ row b m e.
-        subst (λ x. Holds places (with_all (predicates_from t p f) (guarded_maybe t p w)) db (alone x) b)
-        (sym (sees-same t p form f row outer))
-        (subst (λ x. Holds places (with_all (predicates_from t p f) (guarded_maybe t p w)) db
-        (alone (where_sees form f row outer)) x)
-        (and_met b (pass p (open_from t f) (where_sees form f row outer)) e)
-        (from-to f (guarded_maybe t p w) (alone (where_sees form f row outer)) b
-        (holds-back w v k (alone (where_sees form f row outer)) b m))))
-        (λ row e.
-        let (b, m) = holds-some places schema d cut w v k ty (alone (where_sees form f row outer)) in
-        subst (λ x. Holds places (with_all (predicates_from t p f) (guarded_maybe t p w)) db (alone x) false)
-        (sym (sees-same t p form f row outer))
-        (subst (λ x. Holds places (with_all (predicates_from t p f) (guarded_maybe t p w)) db
-        (alone (where_sees form f row outer)) x)
-        (and_unmet b (pass p (open_from t f) (where_sees form f row outer)) e)
-        (from-to f (guarded_maybe t p w) (alone (where_sees form f row outer)) b
-        (holds-back w v k (alone (where_sees form f row outer)) b m))))
-        all passing
-        (subst (λ rows. Filtered (λ row b. Holds places w cut (alone (where_sees form f row outer)) b) rows passing)
-        (sym (sees-pass form f outer all named)) g)
-
     answers-back : (s : Statement) (v : View) → Clean schema d (parts v s) → (outer : Frame) (answer : List Row)
         → Answers places s cut outer answer
         → Answers places (guarded t p s) db outer answer
@@ -619,7 +622,8 @@ module _ (places : NullPlaces) (t : TableDecl) (p : Expr) (fit : IsFit t p) (db 
           a.4,
           a.5,
           given_rows,
-          where-back form f w wide kw typed.condition outer all a.1 (from-named f all given_rows)
+          where-back form f w outer (λ group b m. holds-back w wide kw group b m)
+              (holds-some places schema d cut w wide kw typed.condition) all a.1 (from-named f all given_rows)
               (subst (λ l. Filtered (λ row b. Holds places w cut (alone (where_sees form f row outer)) b) l a.1)
               (sym all_are) a.7),
           a.8,
