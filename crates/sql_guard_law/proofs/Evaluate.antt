@@ -1,5 +1,5 @@
 -- Expressions without aggregates and subselects have one value, whatever the database.
-use Rattle.std.proofs.Common.{◌≡◌, ℕ, ◌+◌, Bool, true, false, List, [], ◌∷◌, ◌++◌, map, length, Option, Some, None, refl, sym, ap, ap₂, subst, ◌∙◌, arith, inl, inr, if◌then◌else◌}
+use Rattle.std.proofs.Common.{◌≡◌, ℕ, ◌+◌, Bool, true, List, [], ◌∷◌, ◌++◌, map, length, Option, Some, None, refl, sym, ap, ap₂, subst, ◌∙◌, arith, inl, inr, if◌then◌else◌}
 use Rattle.std.proofs.lemmas.List.{length-append, length-map}
 use Rattle.sql_schema.specs.declared.types.SqlType.{SqlType}
 use Rattle.sql_schema.specs.declared.declaration.ColumnDecl.{ColumnDecl}
@@ -18,7 +18,7 @@ use Rattle.sql_rows_meaning.specs.Answers.{Gives, AllGive, Holds, first_value}
 use Rattle.sql_rows_meaning.specs.Frames.{Database, Frame, row_of, value_in, value_of}
 use Rattle.sql_guard_law.specs.Restricted.{predicate_under, predicate_of}
 use Rattle.sql_guard_law.specs.Tenant.{IsBeyond, IsOwn}
-use Rattle.sql_rows_meaning.specs.Groups.{Group, alone, one_row}
+use Rattle.sql_rows_meaning.specs.Groups.{Group, one_row}
 use Rattle.sql_rows_meaning.specs.Rows.{NullPlaces}
 use Rattle.sql_rows_meaning.specs.Values.{is_true, compared_value, joined_value, unary_value, among_value}
 use Rattle.sql_rows_meaning.proofs.Facts.{nulled}

@@ -1,6 +1,5 @@
 -- The guarded statement answers what the statement answers over the cut database, in every frame.
-use Rattle.std.proofs.Common.{◌≡◌, Bool, true, false, ◌&&◌, List, [], ◌∷◌, ◌++◌, map, refl, sym, ap, ap₂, subst, ◌∙◌, if◌then◌else◌, filter, inl, inr, IsPermutation}
-use Rattle.std.specs.List.{AllZip}
+use Rattle.std.proofs.Common.{◌≡◌, Bool, true, false, ◌&&◌, List, [], ◌∷◌, ◌++◌, map, refl, sym, ap, ap₂, subst, ◌∙◌, if◌then◌else◌, filter, inl, inr}
 use Rattle.std.proofs.lemmas.Bool.{true≢false}
 use Rattle.sql_schema.specs.Equality.{same_table}
 use Rattle.sql_schema.specs.Declarations.{Declarations}
@@ -16,10 +15,10 @@ use Rattle.sql_origin.specs.Leaves.{leaves}
 use Rattle.sql_origin.specs.Origins.{a_table, an_alias}
 use Rattle.sql_origin.proofs.OriginLaws.{same-origin_itself, table-decides}
 use Rattle.sql_rules.specs.Lists.{Each}
-use Rattle.sql_rules.specs.Scope.{View, parts, origins, origins_of, widest, in_expr, in_exprs, in_items, in_maybe, in_source, in_from, in_distinct, in_order, clauses, ons_of, distinct_clause}
+use Rattle.sql_rules.specs.Scope.{View, parts, origins, origins_of, widest, in_expr, in_exprs, in_items, in_maybe, in_source, in_from, in_distinct, in_order, ons_of, distinct_clause}
 use Rattle.sql_rules.specs.Rules.{IsIllTypedClause}
 use Rattle.sql_rules.specs.declared.rule.Rule.TheVariants as R
-use Rattle.sql_rows_meaning.specs.Answers.{Line, Gives, AllGive, Holds, SourceRows, FromRows, GroupedBy, KeyGives, ItemsGive, OrderGives, Answers, Joined, rows_as, is_partial, first_value, directions, ordered_by, left_by}
+use Rattle.sql_rows_meaning.specs.Answers.{Gives, AllGive, Holds, SourceRows, FromRows, GroupedBy, KeyGives, ItemsGive, OrderGives, Answers, Joined, rows_as, is_partial, first_value, directions, ordered_by}
 use Rattle.sql_rows_meaning.specs.Frames.{Database, Frame, row_of, nulls, where_sees}
 use Rattle.sql_rows_meaning.specs.Groups.{Group, alone, one_row, counts}
 use Rattle.sql_rows_meaning.specs.Rows.{Row, NullPlaces, Filtered, IsPart, IsOrdered, page}
@@ -29,7 +28,7 @@ use Rattle.sql_rows_meaning.proofs.Functional.{Filtered-is}
 use Rattle.sql_rows_meaning.proofs.Kept.{Clean, Clean-left, Clean-right, in_widest}
 use Rattle.sql_rows_meaning.proofs.Lists.{AllZip-weaken, Each-weaken}
 use Rattle.sql_rows_meaning.proofs.Soundness.{the_select}
-use Rattle.sql_rows_meaning.proofs.TypedClauses.{IsTypedCondition, IsTypedSource, IsTypedFrom, select-typed}
+use Rattle.sql_rows_meaning.proofs.TypedClauses.{IsTypedSource, IsTypedFrom, select-typed}
 use Rattle.sql_guard_law.specs.Guarded.{guarded_expr, guarded_exprs, guarded_items, guarded_maybe, guarded_source, guarded_from, guarded_distinct, guarded_order, guarded}
 use Rattle.sql_guard_law.specs.Restricted.{predicates, predicates_from, with_all, open_leaves, if_same}
 use Rattle.sql_guard_law.specs.Tenant.{AnswersAsCut, BreaksAtMostTooManyBinds, IsCut, IsPredicate}

@@ -1,5 +1,5 @@
 -- A guarded statement breaks no rule that its statement does not break, but perhaps TooManyBinds.
-use Rattle.std.proofs.Common.{◌≡◌, Bool, Option, List, [], ◌∷◌, ◌++◌, map, refl, sym, ap, ap₂, subst, ◌∙◌, inl, inr}
+use Rattle.std.proofs.Common.{◌≡◌, Bool, Option, List, [], ◌++◌, refl, sym, ap₂, subst, ◌∙◌, inl, inr}
 use Rattle.sql_schema.specs.Declarations.{Declarations}
 use Rattle.sql_schema.specs.declared.declaration.TableDecl.{TableDecl}
 use Rattle.sql_dialect.specs.declared.backend.Dialect.{Dialect}
@@ -9,7 +9,7 @@ use Rattle.sql_leaf.specs.declared.limit_offset.LimitOffsetClause.{LimitOffsetCl
 use Rattle.sql_leaf.specs.declared.marks.Marks.{Marks}
 use Rattle.sql_leaf.specs.declared.position.PositionalItem.{PositionalItem}
 use Rattle.sql_leaf.specs.declared.table_source.JoinKind.TheVariants.{Inner, LeftOuter}
-use Rattle.sql_node.specs.Tree.{Origin, Form, Expr, column, value, list, count_star, nullable, unary, count, compared, joined, exists, single, among_values, among_rows, Exprs, no_exprs, more_exprs, Items, no_items, more_items, MaybeExpr, no_expr, an_expr, Source, of_table, of_alias, join, From, no_source, from, Distinct, every, distinct, distinct_on, Order, no_order, order_by, Statement, select, combination}
+use Rattle.sql_node.specs.Tree.{Form, Expr, column, value, list, count_star, nullable, unary, count, compared, joined, exists, single, among_values, among_rows, Exprs, no_exprs, more_exprs, Items, no_items, more_items, MaybeExpr, no_expr, an_expr, Source, of_table, of_alias, join, From, no_source, from, Distinct, every, distinct, distinct_on, Order, no_order, order_by, Statement, select, combination}
 use Rattle.sql_rules.specs.Lists.{AnyOf}
 use Rattle.sql_rules.specs.Rules.{Broken, PartBreaks, SelectBreaks, CombinationBreaks}
 use Rattle.sql_rules.specs.Scope.{View, Part, Select, Combination, parts, origins, origins_of, widest, in_expr, in_exprs, in_items, in_maybe, in_source, in_from, in_distinct, in_order}
@@ -23,7 +23,6 @@ use Rattle.sql_guard_law.specs.Tenant.{BreaksAtMostTooManyBinds, IsPredicate}
 use Rattle.sql_guard_law.proofs.GuardedShapes.{origins-same, own-same, widest-same}
 use Rattle.sql_guard_law.proofs.Inner.{inner_select, restricted_from-inner, predicates_from-inner, inner-kept}
 use Rattle.sql_guard_law.proofs.InnerTypes.{columns-same}
-use Rattle.sql_guard_law.proofs.Leaves.{predicates-aimed}
 use Rattle.sql_guard_law.proofs.Plain.{at_most-clean, predicate-fit}
 use Rattle.sql_guard_law.proofs.RestrictedClauses.{neither, no_inside_added, guarded_select, open_from, predicates_from-aimed}
 use Rattle.sql_guard_law.proofs.RestrictedRules.{select-kept}

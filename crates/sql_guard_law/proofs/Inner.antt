@@ -1,17 +1,17 @@
 -- A select statement whose expressions are guarded, without a predicate of its own: it breaks no rule that the statement does not break.
-use Rattle.std.proofs.Common.{◌≡◌, Bool, true, false, ◌||◌, List, [], ◌∷◌, ◌++◌, map, Option, Some, None, refl, sym, ap, ap₂, subst, ◌∙◌, inl, inr, IsTrue}
+use Rattle.std.proofs.Common.{◌≡◌, List, [], ◌∷◌, ◌++◌, map, None, refl, sym, ap, ap₂, subst, ◌∙◌, inl, inr, IsTrue}
 use Rattle.std.proofs.lemmas.List.{map-append}
 use Rattle.sql_schema.specs.Declarations.{Declarations}
 use Rattle.sql_schema.specs.declared.declaration.TableDecl.{TableDecl}
 use Rattle.sql_dialect.specs.declared.backend.Dialect.{Dialect}
 use Rattle.sql_leaf.specs.declared.table_source.JoinKind.TheVariants.{Inner, LeftOuter}
-use Rattle.sql_node.specs.Tree.{Origin, Form, unboxed, boxed, Expr, column, value, list, count_star, nullable, unary, count, compared, joined, exists, single, among_values, among_rows, Items, no_items, more_items, MaybeExpr, no_expr, an_expr, Source, of_table, of_alias, join, From, no_source, from, Distinct, every, distinct, distinct_on, Order, no_order, order_by}
+use Rattle.sql_node.specs.Tree.{Form, unboxed, boxed, Expr, column, value, list, count_star, nullable, unary, count, compared, joined, exists, single, among_values, among_rows, Items, no_items, more_items, MaybeExpr, no_expr, an_expr, Source, of_table, of_alias, join, From, no_source, from, Distinct, every, distinct, distinct_on, Order, no_order, order_by}
 use Rattle.sql_origin.specs.Leaves.{Leaf, leaves, in_right_side, is_padded}
 use Rattle.sql_rules.specs.Lists.{AnyOf, AnyPair, Differ}
-use Rattle.sql_rules.specs.Rules.{AnyClause, SelectBreaks, IsTable, IsUnknownColumn, IsOutOfScope, IsIllTyped, IsIllTypedClause, IsCondition, IsBool, IsEmptyList, IsListPlace, IsEmptyOrder, IsSelected, LacksOn, FromLacksOn, Present, IsDistinct, IsDistinctOn, LacksNullable, CountsAggregate, HasAggregate, HasTableMarks, FromHasMarks, OrderDiffers, bare, tops, distinct_verdict, order_verdict}
+use Rattle.sql_rules.specs.Rules.{SelectBreaks, IsTable, IsUnknownColumn, IsOutOfScope, IsIllTyped, IsIllTypedClause, IsBool, IsEmptyList, IsEmptyOrder, IsSelected, LacksOn, FromLacksOn, Present, IsDistinct, IsDistinctOn, LacksNullable, CountsAggregate, HasAggregate, HasTableMarks, FromHasMarks, OrderDiffers, bare, tops}
 use Rattle.sql_rules.specs.Scope.{View, Select, Clause, Place, in_selection, in_distinct_on, in_on, in_where, in_group_by, in_having, in_order_by, AnyExpr, clauses, clauses_by, own, origins, origins_of, leaves_of, ons, ons_of, maybe_clause, distinct_clause, item_clauses, order_clauses, nodes, flat, flat_items, widest}
 use Rattle.sql_rules.specs.Types.{only_type, type_of}
-use Rattle.sql_rules.specs.Verdicts.{NoVerdict, mix, verdict, holds_aggregate}
+use Rattle.sql_rules.specs.Verdicts.{mix}
 use Rattle.sql_rules.specs.declared.rule.Rule.{Rule}
 use Rattle.sql_rules.specs.declared.rule.Rule.TheVariants as R
 use Rattle.sql_rules.proofs.Loops.{any_each}

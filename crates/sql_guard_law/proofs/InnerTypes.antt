@@ -6,7 +6,7 @@ use Rattle.sql_schema.specs.declared.declaration.TableDecl.{TableDecl}
 use Rattle.sql_node.specs.Tree.{Origin, Expr, column, value, list, count_star, nullable, unary, count, compared, joined, exists, single, among_values, among_rows, Exprs, no_exprs, more_exprs, Items, no_items, more_items, MaybeExpr, no_expr, an_expr, Distinct, every, distinct, distinct_on, Order, no_order, order_by, Statement, select, combination}
 use Rattle.sql_rules.specs.Rules.{bare, bare_of, items_verdict, order_verdict, distinct_verdict}
 use Rattle.sql_rules.specs.Scope.{flat, flat_of, flat_items}
-use Rattle.sql_rules.specs.Types.{Given, one, many, given, given_each, only_type, element_types, columns, all_nullable, unary_type, if_typed, big_type, compared_type, joined_type, among_type, as_nullable, single_type, form_columns}
+use Rattle.sql_rules.specs.Types.{one, many, given, given_each, only_type, element_types, columns, all_nullable, unary_type, if_typed, big_type, compared_type, joined_type, among_type, as_nullable, single_type, form_columns}
 use Rattle.sql_rules.specs.Verdicts.{Yes, NoVerdict, mix, verdict, verdict_of, fields, fields_of, holds_column, holds_key, column_verdict}
 use Rattle.sql_guard_law.specs.Guarded.{guarded_expr, guarded_exprs, guarded_items, guarded_maybe, guarded_distinct, guarded_order, guarded}
 use Rattle.sql_guard_law.proofs.GuardedShapes.{holds_aggregate-same}

@@ -1,5 +1,5 @@
 -- Which leaf's row a predicate reads.
-use Rattle.std.proofs.Common.{◌≡◌, Bool, true, false, ◌&&◌, ◌||◌, List, [], ◌∷◌, ◌++◌, map, None, refl, sym, ap, ap₂, ◌∙◌, subst, inl, inr, ◌⊎◌, arith, if◌then◌else◌}
+use Rattle.std.proofs.Common.{◌≡◌, Bool, true, false, ◌&&◌, ◌||◌, List, [], ◌∷◌, ◌++◌, map, refl, sym, ap, ap₂, ◌∙◌, subst, inl, inr, ◌⊎◌, arith, if◌then◌else◌}
 use Rattle.std.proofs.lemmas.List.{map-append}
 use Rattle.sql_schema.specs.Equality.{same_table}
 use Rattle.sql_schema.specs.declared.declaration.TableDecl.{TableDecl}
@@ -24,7 +24,7 @@ use Rattle.sql_rows_meaning.specs.Rows.{Row, NullPlaces}
 use Rattle.sql_rows_meaning.specs.Values.{is_null, is_true, is_false, joined_value}
 use Rattle.sql_rows_meaning.proofs.Facts.{or_true}
 use Rattle.sql_rows_meaning.proofs.Lists.{Each-append, Each-front, Each-end, Each-weaken, IsPart-each, Joined-each}
-use Rattle.sql_guard_law.proofs.Evaluate.{eval, true_at, holds-true, true-holds, IsTest, aimed, aimed-eval, aimed-test, predicate-aimed}
+use Rattle.sql_guard_law.proofs.Evaluate.{true_at, holds-true, true-holds, IsTest, aimed, aimed-eval, aimed-test, predicate-aimed}
 
 abbrev pub names : Frame → List Origin
 names f = map (λ entry. entry.0) f

@@ -16,9 +16,9 @@ use Rattle.sql_rules.specs.Types.{is_bool, type_of}
 use Rattle.sql_rules.specs.declared.rule.Rule.{Rule}
 use Rattle.sql_rules.specs.declared.rule.Rule.TheVariants as R
 use Rattle.sql_rules.proofs.Lists.{any_left, any_right}
-use Rattle.sql_guard_law.specs.Tenant.{BreaksAtMostTooManyBinds, IsBeyond, IsPredicate}
+use Rattle.sql_guard_law.specs.Tenant.{BreaksAtMostTooManyBinds, IsPredicate}
 use Rattle.sql_rows_meaning.proofs.Kept.{Clean, not_counted, pair_left}
-use Rattle.sql_guard_law.proofs.Evaluate.{is-flat, IsTest, own-free}
+use Rattle.sql_guard_law.proofs.Evaluate.{is-flat, own-free}
 use Rattle.sql_guard_law.proofs.Leaves.{IsFit, is_among, source_leaves, leaves-source_leaves}
 use Rattle.sql_guard_law.proofs.Filters.{Each-always}
 

@@ -1,5 +1,5 @@
 -- A statement without subselects is guarded by restricting it alone.
-use Rattle.std.proofs.Common.{◌≡◌, List, [], ◌∷◌, ◌++◌, map, refl, sym, ap, ap₂, subst, ◌∙◌, inl, inr}
+use Rattle.std.proofs.Common.{◌≡◌, List, [], ◌∷◌, ◌++◌, map, refl, sym, ap, ap₂, subst, inl, inr}
 use Rattle.sql_schema.specs.Declarations.{Declarations}
 use Rattle.sql_schema.specs.declared.declaration.TableDecl.{TableDecl}
 use Rattle.sql_dialect.specs.declared.backend.Dialect.{Dialect}
@@ -17,7 +17,7 @@ use Rattle.sql_guard_law.proofs.Evaluate.{IsFlat, AreFlat, aimed, aimed-flat}
 use Rattle.sql_guard_law.proofs.Exactness.{guard-exact}
 use Rattle.sql_guard_law.proofs.GuardedRules.{guard-kept}
 use Rattle.sql_guard_law.proofs.Leaves.{IsFit, predicates-aimed}
-use Rattle.sql_guard_law.proofs.Plain.{free_left, free_right, predicate-fit}
+use Rattle.sql_guard_law.proofs.Plain.{free_left, free_right}
 use Rattle.sql_guard_law.proofs.RestrictedClauses.{open_from, predicates_from-aimed}
 
 -- ---- expressions without subselects

@@ -14,7 +14,7 @@ use Rattle.sql_origin.specs.Origins.{a_table}
 use Rattle.sql_schema.proofs.EqualityLaws.{exact-table}
 use Rattle.sql_rules.specs.Lists.{AnyOf, Each}
 use Rattle.sql_rules.specs.Scope.{parts}
-use Rattle.sql_rows_meaning.specs.Answers.{Gives, Holds, Answers, Line, no_rows, a_row}
+use Rattle.sql_rows_meaning.specs.Answers.{Gives, Holds, Line, no_rows, a_row}
 use Rattle.sql_rows_meaning.specs.Example.{users, posts, user_rows, post_rows, blog, database, relation, selection, statement}
 use Rattle.sql_rows_meaning.specs.Frames.{Database, Frame}
 use Rattle.sql_rows_meaning.specs.Ungrouped.{RowAnswers}

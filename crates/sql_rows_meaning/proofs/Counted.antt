@@ -1,5 +1,5 @@
 -- How many posts each user has, and how many rows there are.
-use Rattle.std.proofs.Common.{◌≡◌, ℕ, pos, true, false, List, [], ◌∷◌, refl}
+use Rattle.std.proofs.Common.{◌≡◌, pos, true, false, List, [], ◌∷◌, refl}
 use Rattle.std.proofs.lemmas.List.Sorted.{IsPermutation-refl}
 use Rattle.sql_pass.specs.declared.value.Value.TheVariants as V
 use Rattle.sql_rows_meaning.specs.Answers.{Line}

@@ -1,6 +1,5 @@
 -- A statement that breaks no rule has an answer over every database, whether or not that conforms, in every frame.
-use Rattle.std.proofs.Common.{◌≡◌, ℕ, pos, ◌+◌, ◌≤◌, Bool, true, false, List, [], ◌∷◌, ◌++◌, map, length, Option, Some, None, refl, sym, ap, ap₂, subst, ◌∙◌, inl, inr, arith, IsPermutation, IsSortedBy}
-use Rattle.std.specs.List.{AllZip}
+use Rattle.std.proofs.Common.{◌≡◌, pos, ◌+◌, ◌≤◌, Bool, true, false, List, [], ◌∷◌, ◌++◌, map, length, Option, Some, None, refl, sym, ap, ap₂, subst, ◌∙◌, inl, inr, arith, IsPermutation, IsSortedBy}
 use Rattle.std.proofs.lemmas.List.{length-append, length-map}
 use Rattle.std.proofs.lemmas.List.Sorted.{IsPermutation-refl, IsPermutation-trans}
 use Rattle.sql_schema.specs.Declarations.{Declarations}
@@ -21,10 +20,10 @@ use Rattle.sql_rules.specs.Scope.{View, parts, origins, origins_of, widest, in_e
 use Rattle.sql_rules.specs.Types.{given, given_each, element_types, only_type, columns, unary_type, compared_type, joined_type, among_type, as_nullable, single_type, bool_type, big_type, if_typed}
 use Rattle.sql_rules.specs.declared.rule.Rule.TheVariants as R
 use Rattle.sql_rules.proofs.Nulled.{nulled_elements}
-use Rattle.sql_rows_meaning.specs.Answers.{Line, left_by, ordered_by, directions, rows_as, is_partial, may_skip, has_row, single_value, first_value, positional_items, Gives, AllGive, Holds, SourceRows, FromRows, GroupedBy, KeyGives, ItemsGive, OrderGives, Answers}
+use Rattle.sql_rows_meaning.specs.Answers.{Line, left_by, directions, rows_as, is_partial, may_skip, has_row, single_value, first_value, positional_items, Gives, AllGive, Holds, SourceRows, FromRows, GroupedBy, KeyGives, ItemsGive, OrderGives, Answers}
 use Rattle.sql_rows_meaning.specs.Frames.{Database, Frame, value_of, nulls, where_sees}
 use Rattle.sql_rows_meaning.specs.Groups.{Group, alone, one_row, keyed_groups, not_nulls, counts}
-use Rattle.sql_rows_meaning.specs.Rows.{Row, NullPlaces, Filtered, row_before, values_at, page, count_row, combined}
+use Rattle.sql_rows_meaning.specs.Rows.{Row, NullPlaces, row_before, values_at, page, count_row, combined}
 use Rattle.sql_rows_meaning.specs.Values.{is_true, compared_value, joined_value, unary_value, among_value}
 use Rattle.sql_rows_meaning.proofs.Facts.{nulled}
 use Rattle.sql_rows_meaning.proofs.Typed.{one-typed, only-typed, unary-typed, compared-typed, joined-typed, among-typed, all_nulled-typed, split-typed}
@@ -36,7 +35,7 @@ use Rattle.sql_rows_meaning.proofs.Orders.{row-asymmetric}
 use Rattle.sql_rows_meaning.proofs.SortedLines.{ordered-sorted}
 use Rattle.sql_rows_meaning.proofs.Thinned.{thinned, count-append, combined-bound, count-sorted}
 use Rattle.sql_rows_meaning.proofs.Choices.{filtered-some, joined-some, zip-some, zip-permuted, filtered-permuted}
-use Rattle.sql_rows_meaning.proofs.TypedClauses.{IsTyped, HasType, IsTypedKey, AreTypedItems, IsTypedOrder, IsTypedMaybe, IsTypedCondition, IsTypedSource, IsTypedFrom, IsTypedSelect, select-typed}
+use Rattle.sql_rows_meaning.proofs.TypedClauses.{IsTypedKey, AreTypedItems, IsTypedOrder, IsTypedMaybe, IsTypedCondition, IsTypedSource, IsTypedFrom, select-typed}
 
 one_value : (vs : List Value) → length vs ≡ 1 → (x : Value) × (vs ≡ x ∷ [])
 one_value [] e = absurd (grind arith)

@@ -1,7 +1,6 @@
 -- Of lines in an order DISTINCT ON leaves the first of each key, and what is left is in that order: rows whose values are of one type item by
 -- item are ordered as a weak order orders them.
-use Rattle.std.proofs.Common.{◌≡◌, ℕ, zero, suc, ◌+◌, ◌<◌, ℤ, Bool, true, false, not, ◌&&◌, ◌||◌, List, [], ◌∷◌, map, length, get_or, refl, sym, ap, ap₂, subst, ◌∙◌, inl, inr, ◌⊎◌, if◌then◌else◌, int_lt, arith, Ordering, Less, Equal, Greater, IsSortedBy}
-use Rattle.std.specs.List.{AllZip}
+use Rattle.std.proofs.Common.{◌≡◌, ℕ, suc, ◌+◌, ℤ, Bool, true, false, not, ◌&&◌, ◌||◌, List, [], ◌∷◌, map, get_or, refl, sym, ap, subst, ◌∙◌, inl, inr, ◌⊎◌, if◌then◌else◌, int_lt, arith, Ordering, Less, Equal, Greater, IsSortedBy}
 use Rattle.std.specs.Cmp.Lexicographic.{slice_cmp}
 use Rattle.std.specs.Ordering.{ordering_reverse, nat_cmp, is_lt}
 use Rattle.std.proofs.lemmas.Cmp.{nat_list_cmp_total}
@@ -19,7 +18,7 @@ use Rattle.sql_rules.specs.Types.{fits}
 use Rattle.sql_rows_meaning.specs.Answers.{Line, is_keyed, first_of_each}
 use Rattle.sql_rows_meaning.specs.Fitting.{RowFits}
 use Rattle.sql_rows_meaning.specs.Rows.{Row, NullPlaces, same_row, descends, nulls_first, comes_before, row_before}
-use Rattle.sql_rows_meaning.specs.Worked.{IsFirst, FirstIsLeft}
+use Rattle.sql_rows_meaning.specs.Worked.{FirstIsLeft}
 use Rattle.sql_rows_meaning.proofs.Counts.{exact-row}
 use Rattle.sql_rows_meaning.proofs.Lists.{Each-weaken, first_of_each-each}
 use Rattle.sql_rows_meaning.proofs.Orders.{row-asymmetric}

@@ -1,7 +1,6 @@
 -- A list can be put into an order in which no element has to come before its predecessor. The test need not be transitive, only
 -- asymmetric: an element goes before the first that need not come before it.
-use Rattle.std.proofs.Common.{◌≡◌, ℕ, zero, suc, ◌+◌, ◌<◌, ◌≤◌, Bool, true, false, List, [], ◌∷◌, ◌++◌, map, length, get_or, set, swap, refl, sym, ap, ap₂, subst, ◌∙◌, arith, IsPermutation, IsSortedBy, if◌then◌else◌}
-use Rattle.std.proofs.lemmas.Bool.{false≢true}
+use Rattle.std.proofs.Common.{◌≡◌, ℕ, zero, suc, ◌+◌, ◌<◌, Bool, true, false, List, [], ◌∷◌, map, length, get_or, set, swap, refl, sym, ap, ap₂, subst, ◌∙◌, arith, IsPermutation, IsSortedBy, if◌then◌else◌}
 use Rattle.std.proofs.lemmas.List.{get_or-map, map-set, length-map}
 use Rattle.std.proofs.lemmas.List.Sorted.{IsPermutation-refl, IsPermutation-trans, IsPermutation-cons, IsPermutation-keeps, IsPermutation-swap}
 use Rattle.sql_rows_meaning.proofs.Permutations.{to_front}

@@ -1,6 +1,6 @@
 -- The step: an expression over its statement's own leaves gives NULL only where its type is nullable, or where a column
 -- stands in it, outside subselects, under no nullable, whose row may be missing, or the group has no row.
-use Rattle.std.proofs.Common.{◌≡◌, ℕ, pos, length, Bool, false, true, ◌||◌, ◌⊎◌, if◌then◌else◌, List, [], ◌∷◌, ◌++◌, map, Option, Some, None, refl, sym, ap, ◌∙◌, inl, inr, subst, not}
+use Rattle.std.proofs.Common.{◌≡◌, ℕ, pos, length, Bool, false, true, ◌⊎◌, if◌then◌else◌, List, [], ◌∷◌, ◌++◌, map, Option, Some, None, refl, sym, ap, ◌∙◌, inl, inr, subst, not}
 use Rattle.std.specs.Cmp.Lexicographic.{pointwise}
 use Rattle.std.specs.Option.{option_eq}
 use Rattle.sql_schema.specs.Equality.{same_type}

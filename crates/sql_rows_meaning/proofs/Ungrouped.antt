@@ -1,8 +1,8 @@
 -- Where nothing is grouped or counted, each row that is taken is a group by itself.
-use Rattle.std.proofs.Common.{◌≡◌, ◌↔◌, Bool, true, false, List, [], ◌∷◌, map, refl, sym, ap, subst, ◌∙◌}
+use Rattle.std.proofs.Common.{◌≡◌, ◌↔◌, Bool, false, List, [], ◌∷◌, map, refl, sym, ap, subst, ◌∙◌}
 use Rattle.std.specs.List.{AllZip}
 use Rattle.std.proofs.lemmas.Bool.{false≢true}
-use Rattle.sql_node.specs.Tree.{Expr, MaybeExpr, no_expr, an_expr, Distinct, Order, Statement, select, combination}
+use Rattle.sql_node.specs.Tree.{Expr, no_expr, an_expr, Distinct, Order, Statement, select, combination}
 use Rattle.sql_rows_meaning.specs.Answers.{Line, Gives, Holds, GroupedBy, KeyGives, OrderGives, Answers}
 use Rattle.sql_rows_meaning.specs.Frames.{Database, Frame}
 use Rattle.sql_rows_meaning.specs.Groups.{Group, alone, counts}

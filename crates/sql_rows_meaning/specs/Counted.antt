@@ -1,5 +1,5 @@
 -- An example of groups, over the same rows: how many posts each user has, and how many rows there are.
-use Rattle.std.specs.Prelude.{ℕ, pos, false, List, [], ◌∷◌, None}
+use Rattle.std.specs.Prelude.{ℕ, pos, false, [], ◌∷◌, None}
 use Rattle.sql_pass.specs.declared.value.Value.TheVariants as V
 use Rattle.sql_leaf.specs.declared.locking.LockingClause.TheVariants.{NoLockingClause}
 use Rattle.sql_leaf.specs.Marking.{unmarked}

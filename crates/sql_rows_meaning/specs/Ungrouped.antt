@@ -1,5 +1,5 @@
 -- What a statement answers in which nothing is grouped or counted: each row that is taken gives a line.
-use Rattle.std.specs.Prelude.{◌≡◌, false, List, [], ◌∷◌, map}
+use Rattle.std.specs.Prelude.{◌≡◌, false, List, map}
 use Rattle.std.specs.List.{AllZip}
 use Rattle.sql_node.specs.Tree.{Statement, select, combination}
 use Rattle.sql_rules.specs.Rules.{Present}
