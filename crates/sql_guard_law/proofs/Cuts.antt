@@ -110,9 +110,12 @@ module _ {A : Type 0} (T U : A → Bool → Type 0) (q : A → Bool) where
           → (U x true × ((rest : List A) × (out ≡ x ∷ rest) × Filtered U (filter q xs) rest))
           ⊎ (U x false × Filtered U (filter q xs) out) → Whole (x ∷ xs) out
       split e next (inl (u, (rest, is, g))) =
-          let (whole, h, are) = next rest g in
-          (x ∷ whole, kept (on x true u) h, ap (λ b. cond b (x ∷ filter q whole) (filter q whole)) e
-          ∙ (ap (λ l. x ∷ l) are ∙ sym is))
+          let (whole, h, are) = next rest g in (
+            x ∷ whole,
+            kept (on x true u) h,
+            ap (λ b. cond b (x ∷ filter q whole) (filter q whole)) e
+                ∙ (ap (λ l. x ∷ l) are ∙ sym is),
+          )
       split e next (inr (u, g)) = let (whole, h, are) = next out g in (whole, dropped (on x false u) h, are)
 
       unmet : q x ≡ false → ((b : Bool) × T x b) → Whole xs out → Whole (x ∷ xs) out

@@ -380,8 +380,7 @@ module _ (places : NullPlaces) (t : TableDecl) (p : Expr) (fit : IsFit t p) (db 
         let k5 = Clean-right schema d (in_maybe own g) _ k4 in
         let kf = Clean-left schema d (in_from f) _ k2 in
         let kw = Clean-left schema d (in_maybe wide w) _ k3 in
-        let plain = plain-of v default e f u w o rows g h form marks k in
-        (
+        let plain = plain-of v default e f u w o rows g h form marks k in (
           filter (pass p (open_from t f)) a.0,
           a.1,
           a.2,

@@ -386,11 +386,17 @@ module _ (t : TableDecl) (p : Expr) where
   inner-kept schema d outer s R.Grouping (inr (inr (inl (inr h)))) =
       inr (inr (inl (inr (sym (distinct_verdict-same t p s.group_by s.distinctness) ∙ h))))
   inner-kept schema d outer s R.Grouping (inr (inr (inr (x, inl h)))) =
-      inr (inr (inr (x, inl (sym (ap₂ mix (verdict-same t p s.group_by s.selection)
-      (order_verdict-same t p s.group_by s.order)) ∙ h))))
+      inr (inr (inr (
+        x,
+        inl (sym (ap₂ mix (verdict-same t p s.group_by s.selection)
+            (order_verdict-same t p s.group_by s.order)) ∙ h),
+      )))
   inner-kept schema d outer s R.Grouping (inr (inr (inr (x, inr h)))) =
-      inr (inr (inr (x, inr (sym (ap₂ mix (verdict-same t p s.group_by s.selection)
-      (distinct_verdict-same t p s.group_by s.distinctness)) ∙ h))))
+      inr (inr (inr (
+        x,
+        inr (sym (ap₂ mix (verdict-same t p s.group_by s.selection)
+            (distinct_verdict-same t p s.group_by s.distinctness)) ∙ h),
+      )))
   inner-kept schema d outer s R.InvalidDistinctOrder h = differs s.form s.distinctness s.order h
   inner-kept schema d outer s R.Unsupported (inl (n, inl h)) = inl (n, inl (distinct_on-is s.distinctness h))
   inner-kept schema d outer s R.Unsupported (inl (n, inr h)) = inl (n, inr (marked-from s.source h))

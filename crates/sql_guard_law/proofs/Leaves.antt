@@ -253,9 +253,12 @@ module _ (places : NullPlaces) (p : Expr) (test : IsTest p) (db : Database) (row
       → (a : Bool) × Holds places c db rows a × (b ≡ (a && pass p os (one_row rows)))
   with_all-of [] c b h = (b, h, sym (and_yes b))
   with_all-of (o ∷ os) no_expr b h =
-      let (a, held, is) = with_all-of os (an_expr (aimed p o)) b h in
-      (true, refl, is ∙ ap (λ x. x && pass p os (one_row rows))
-      (holds-true places (an_expr (aimed p o)) db rows a (aimed-test p o test) held))
+      let (a, held, is) = with_all-of os (an_expr (aimed p o)) b h in (
+        true,
+        refl,
+        is ∙ ap (λ x. x && pass p os (one_row rows))
+            (holds-true places (an_expr (aimed p o)) db rows a (aimed-test p o test) held),
+      )
   with_all-of (o ∷ os) (an_expr e) b h =
       let (a, (v, (x, y, gx, gy, v_is), a_is), is) = with_all-of os (an_expr (joined And e (aimed p o))) b h in (
         is_true x,

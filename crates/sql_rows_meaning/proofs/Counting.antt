@@ -212,11 +212,17 @@ counted-tight e u o form h n m beside loose = go (holds_aggregate e) refl h
         → holds_aggregate e ≡ false → (distinct_counts u || order_counts o) ≡ true
         → (distinct_counts u ≡ true) ⊎ (order_counts o ≡ true) → ⊥
     compared_with (unboxed l) k b q c (inl d) =
-        k (tt, inr (clash (verdict no_expr e) (distinct_verdict no_expr u) (loose-rowwise e loose)
-        (distinct-groupwise no_expr u d)))
+        k (
+          tt,
+          inr (clash (verdict no_expr e) (distinct_verdict no_expr u) (loose-rowwise e loose)
+              (distinct-groupwise no_expr u d)),
+        )
     compared_with (unboxed l) k b q c (inr d) =
-        k (tt, inl (clash (verdict no_expr e) (order_verdict no_expr o) (loose-rowwise e loose)
-        (order-groupwise no_expr o d)))
+        k (
+          tt,
+          inl (clash (verdict no_expr e) (order_verdict no_expr o) (loose-rowwise e loose)
+              (order-groupwise no_expr o d)),
+        )
     compared_with (boxed d x) k b q c i = b (λ y. y, q, c)
 
     go : (b : Bool) → holds_aggregate e ≡ b → (b || (distinct_counts u || order_counts o)) ≡ true → ⊥

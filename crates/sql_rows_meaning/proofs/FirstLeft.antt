@@ -338,8 +338,11 @@ module _ (key : Line → Row) (before : Line → Line → Bool) where
           → Each (Leads (x ∷ xs)) (if b then first_of_each key seen xs else x ∷ first_of_each key (x ∷ seen) xs)
       go true e a b =
           Each-weaken (λ c. (is_keyed key (key c) seen ≡ false) × Leads xs c) (Leads (x ∷ xs))
-          (λ c k. (λ s. absurd (false≢true (sym k.0
-          ∙ (ap (λ row. is_keyed key row seen) (exact-row (key c) (key x) s) ∙ e))), k.1))
+          (λ c k. (
+            λ s. absurd (false≢true (sym k.0
+                ∙ (ap (λ row. is_keyed key row seen) (exact-row (key c) (key x) s) ∙ e))),
+            k.1,
+          ))
           (first_of_each key seen xs)
           (each-both _ (Leads xs) (first_of_each key seen xs) (unkeyed seen xs) a)
       go false e a b = (

@@ -51,12 +51,12 @@ module _ (places : NullPlaces) (db : Database) where
         alone-zip (GivesLine e u o) taken lines
         (subst (λ gs. AllZip (GivesLine e u o) gs lines) (kept-all having ∙ groups_are) zip),
     λ zip. (
-          map alone taken,
-          map alone taken,
-          subst (λ b. GroupedBy places no_expr b db taken (map alone taken)) (sym counted) refl,
-          all-kept (map alone taken),
-          zip-alone (GivesLine e u o) taken lines zip,
-        ),
+      map alone taken,
+      map alone taken,
+      subst (λ b. GroupedBy places no_expr b db taken (map alone taken)) (sym counted) refl,
+      all-kept (map alone taken),
+      zip-alone (GivesLine e u o) taken lines zip,
+    ),
   )
 
 pub ungrouped-same : (places : NullPlaces) (s : Statement) → IsUngrouped s → (db : Database) (outer : Frame)
@@ -65,17 +65,17 @@ ungrouped-same places (select default e f u w o rows (an_expr g) h form marks) n
 ungrouped-same places (select default e f u w o rows no_expr (an_expr h) form marks) n db outer answer = absurd (n.2 tt)
 ungrouped-same places (select default e f u w o rows no_expr no_expr form marks) n db outer answer = (
   λ a. (
-        a.0,
-        a.1,
-        a.2,
-        a.5,
-        a.6,
-        a.7,
-        a.8,
-        (select-same places db default e u o n.0 a.2 a.5).0 (a.3, a.4, a.9, a.10, a.11),
-        a.12,
-        a.13,
-      ),
+    a.0,
+    a.1,
+    a.2,
+    a.5,
+    a.6,
+    a.7,
+    a.8,
+    (select-same places db default e u o n.0 a.2 a.5).0 (a.3, a.4, a.9, a.10, a.11),
+    a.12,
+    a.13,
+  ),
   λ a.
       let back = (select-same places db default e u o n.0 a.2 a.3).1 a.7 in
       (a.0, a.1, a.2, back.0, back.1, a.3, a.4, a.5, a.6, back.2, back.3, back.4, a.8, a.9),
