@@ -99,14 +99,16 @@ module _ (places : NullPlaces) (qs : List Policy) (db db' : Database)
     holds-agree no_expr v n rows b g = g
     holds-agree (an_expr e) v n rows b g = (g.0, gives-agree e v n rows (g.0 ∷ []) g.1, g.2)
 
-    source-agree : (s : Source) → ¬ AnyOf (LacksPolicy qs) (in_source s) → Agree db db' (source_leaves s) → (rows : List Frame)
+    source-agree : (s : Source) → ¬ AnyOf (LacksPolicy qs) (in_source s) → Agree db db' (source_leaves s)
+        → (rows : List Frame)
         → SourceRows places s db rows → SourceRows places s db' rows
     source-agree (of_table t only sample) n k rows g =
         subst (λ xs. IsPart (is_partial only sample) (rows_as (a_table t) xs) rows) k.0 g
     source-agree (of_alias a t) n k rows g = subst (λ xs. IsPart false (rows_as (an_alias a t) xs) rows) k.0 g
     source-agree (join kind l r on) n k rows g =
         let here = in_maybe (origins l ++ origins r) on in
-        let n' : ¬ AnyOf (LacksPolicy qs) (in_source r ++ here) = free_right (LacksPolicy qs) (in_source l) (in_source r ++ here) n in (
+        let n' : ¬ AnyOf (LacksPolicy qs) (in_source r ++ here) = free_right (LacksPolicy qs) (in_source l)
+        (in_source r ++ here) n in (
           g.0,
           g.1,
           source-agree l (free_left (LacksPolicy qs) (in_source l) (in_source r ++ here) n)
@@ -123,7 +125,8 @@ module _ (places : NullPlaces) (qs : List Policy) (db db' : Database)
     from-agree no_source n k rows g = g
     from-agree (from s) n k rows g = source-agree s n (from_agree qs db db' s k) rows g
 
-    grouped-agree : (g : MaybeExpr) (v : View) → ¬ AnyOf (LacksPolicy qs) (in_maybe v g) → (counted : Bool) (rows : List Frame)
+    grouped-agree : (g : MaybeExpr) (v : View) → ¬ AnyOf (LacksPolicy qs) (in_maybe v g)
+        → (counted : Bool) (rows : List Frame)
         (groups : List Group) → GroupedBy places g counted db rows groups → GroupedBy places g counted db' rows groups
     grouped-agree (an_expr e) v n counted rows groups g =
         (g.0, AllZip-weaken _ _ (λ row key m. gives-agree e v n (alone row) key m) rows g.0 g.1, g.2)
@@ -152,7 +155,8 @@ module _ (places : NullPlaces) (qs : List Policy) (db db' : Database)
     order-agree no_order v n rows vs g = g
     order-agree (order_by is) v n rows vs g = items-agree is v n rows vs g
 
-    pub answers-agree : (s : Statement) (v : View) → ¬ AnyOf (LacksPolicy qs) (parts v s) → (outer : Frame) (answer : List Row)
+    pub answers-agree : (s : Statement) (v : View) → ¬ AnyOf (LacksPolicy qs) (parts v s)
+        → (outer : Frame) (answer : List Row)
         → Answers places s db outer answer → Answers places s db' outer answer
     answers-agree (select default e f u w o rows g h form marks) v n outer answer a =
         let own = origins_of f in
@@ -171,7 +175,8 @@ module _ (places : NullPlaces) (qs : List Policy) (db db' : Database)
           a.3,
           a.4,
           a.5,
-          from-agree f (free_left (LacksPolicy qs) (in_from f) _ n2) (all-agree qs db db' same own (λ i. n (inl i))) a.0 a.6,
+          from-agree f (free_left (LacksPolicy qs) (in_from f) _ n2)
+              (all-agree qs db db' same own (λ i. n (inl i))) a.0 a.6,
           Filtered-weaken _ _
               (λ row b m. holds-agree w wide (free_left (LacksPolicy qs) (in_maybe wide w) _ n3)
               (alone (where_sees form f row outer)) b m) a.7,

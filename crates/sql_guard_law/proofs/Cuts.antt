@@ -48,7 +48,8 @@ Joined-weaken kind padding T U g ys (a_row f j) = a_row (Filtered-weaken T U g f
 
 module _ {A : Type 0} (T U : A → Bool → Type 0) (q : A → Bool) where
   -- A test that is another and a condition keeps of all what the other keeps of those that meet the condition.
-  pub narrowed : ((x : A) (b : Bool) → T x b → q x ≡ true → U x b) → ((x : A) (b : Bool) → T x b → q x ≡ false → b ≡ false)
+  pub narrowed : ((x : A) (b : Bool) → T x b → q x ≡ true → U x b)
+      → ((x : A) (b : Bool) → T x b → q x ≡ false → b ≡ false)
       → {xs out : List A} → Filtered T xs out → Filtered U (filter q xs) out
   narrowed on off none = none
   narrowed on off (kept {x = x} {xs = xs} {out = out} t f) = go (q x) refl (narrowed on off f)
@@ -130,7 +131,8 @@ module _ {A : Type 0} (T U : A → Bool → Type 0) (q : A → Bool) where
 
 -- ---- joins
 
--- What is known of the rows on both sides, and which of them meet the conditions: `pass` is the join's, `pa` and `pb` are its sides'.
+-- What is known of the rows on both sides, and which of them meet the conditions: `pass` is the join's, `pa` and `pb` are its
+-- sides'.
 module _ (P Q : Frame → Type 0) (padding : Frame) (T U : Frame → Bool → Type 0) (pass pa pb : Frame → Bool) where
   -- a join of the whole sides of which these rows meet the condition
   abbrev Back : JoinKind → List Frame → List Frame → List Frame → Type 0
@@ -162,7 +164,8 @@ module _ (P Q : Frame → Type 0) (padding : Frame) (T U : Frame → Bool → Ty
             → Joined Inner padding U (filter pb ys) (cond b (x ∷ filter pa left) (filter pa left))
             (filter pass pairs ++ filter pass rows)
         go true e rest =
-            a_row (subst (λ zs. Filtered U zs (filter pass pairs)) (right-pairs x h.0 e ys k) (thinned-out T U pass on f)) rest
+            a_row (subst (λ zs. Filtered U zs (filter pass pairs)) (right-pairs x h.0 e ys k)
+            (thinned-out T U pass on f)) rest
         go false e rest =
             subst (λ l. Joined Inner padding U (filter pb ys) (filter pa left) (l ++ filter pass rows))
             (sym (filter-none pass pairs (Filtered-each (λ z. pass z ≡ false) f (no-pairs x h.0 e ys k)))) rest
@@ -174,9 +177,11 @@ module _ (P Q : Frame → Type 0) (padding : Frame) (T U : Frame → Bool → Ty
     inner-back on some ys k [] kept_rows h j = ([], no_rows, sym (joined-nil j))
     inner-back on some ys k (x ∷ xs) kept_rows h j = go (pa x) refl (λ r g. inner-back on some ys k xs r h.1 g) j
       where
-        met : pa x ≡ true → ((r : List Frame) → Joined Inner padding U (filter pb ys) (filter pa xs) r → Back Inner ys xs r)
+        met : pa x ≡ true
+            → ((r : List Frame) → Joined Inner padding U (filter pb ys) (filter pa xs) r → Back Inner ys xs r)
             → ((pairs rest : List Frame) × Filtered U (map (λ y. x ++ y) (filter pb ys)) pairs
-            × Joined Inner padding U (filter pb ys) (filter pa xs) rest × (kept_rows ≡ pairs ++ rest)) → Back Inner ys (x ∷ xs) kept_rows
+            × Joined Inner padding U (filter pb ys) (filter pa xs) rest × (kept_rows ≡ pairs ++ rest))
+            → Back Inner ys (x ∷ xs) kept_rows
         met e next (pairs, rest, f, g, are) =
             let (rows, j', rows_are) = next rest g in
             let (whole, f', whole_is) = filled-in T U pass on some (map (λ y. x ++ y) ys) pairs
@@ -195,14 +200,16 @@ module _ (P Q : Frame → Type 0) (padding : Frame) (T U : Frame → Bool → Ty
 
         go : (b : Bool) → pa x ≡ b
             → ((r : List Frame) → Joined Inner padding U (filter pb ys) (filter pa xs) r → Back Inner ys xs r)
-            → Joined Inner padding U (filter pb ys) (cond b (x ∷ filter pa xs) (filter pa xs)) kept_rows → Back Inner ys (x ∷ xs) kept_rows
+            → Joined Inner padding U (filter pb ys) (cond b (x ∷ filter pa xs) (filter pa xs)) kept_rows
+            → Back Inner ys (x ∷ xs) kept_rows
         go true e next g = met e next (joined-cons g)
         go false e next g = unmet e (next kept_rows g)
 
-  -- A left outer join whose ON asks for the right side's condition too. What its rows meet is the left side's condition; `pr` is the
-  -- right side's at a pair.
+  -- A left outer join whose ON asks for the right side's condition too. What its rows meet is the left side's condition; `pr` is
+  -- the right side's at a pair.
   module _ (pr : Frame → Bool) (left : (x y : Frame) → P x → Q y → pass (x ++ y) ≡ pa x)
-      (pad : (x : Frame) → P x → pass (x ++ padding) ≡ pa x) (right : (x y : Frame) → P x → Q y → pr (x ++ y) ≡ pb y) where
+      (pad : (x : Frame) → P x → pass (x ++ padding) ≡ pa x)
+      (right : (x y : Frame) → P x → Q y → pr (x ++ y) ≡ pb y) where
     outer-pairs : (x : Frame) → P x → (ys : List Frame) → Each Q ys
         → filter pr (map (λ y. x ++ y) ys) ≡ map (λ y. x ++ y) (filter pb ys)
     outer-pairs x h ys k =
@@ -254,7 +261,8 @@ module _ (P Q : Frame → Type 0) (padding : Frame) (T U : Frame → Bool → Ty
     outer-back on off some ys k (x ∷ xs) kept_rows h j =
         go (pa x) refl (λ r g. outer-back on off some ys k xs r h.1 g) j
       where
-        met : pa x ≡ true → ((r : List Frame) → Joined LeftOuter padding U (filter pb ys) (filter pa xs) r → Back LeftOuter ys xs r)
+        met : pa x ≡ true
+            → ((r : List Frame) → Joined LeftOuter padding U (filter pb ys) (filter pa xs) r → Back LeftOuter ys xs r)
             → ((pairs rest : List Frame) × Filtered U (map (λ y. x ++ y) (filter pb ys)) pairs
             × Joined LeftOuter padding U (filter pb ys) (filter pa xs) rest
             × (kept_rows ≡ or_padded LeftOuter padding x pairs ++ rest)) → Back LeftOuter ys (x ∷ xs) kept_rows

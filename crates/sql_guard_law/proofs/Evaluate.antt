@@ -106,7 +106,8 @@ first_is x vs e = ap first_value e
 
 -- what is given is that
 mutual
-  pub gives-eval : (places : NullPlaces) (e : Expr) (db : Database) (f : Group) (vs : List Value) → IsFlat e → Gives places e db f vs → vs ≡ eval e (one_row f)
+  pub gives-eval : (places : NullPlaces) (e : Expr) (db : Database) (f : Group) (vs : List Value) → IsFlat e
+      → Gives places e db f vs → vs ≡ eval e (one_row f)
   gives-eval places (column o c) db f vs h g = g
   gives-eval places (value t x) db f vs h g = g
   gives-eval places (list es) db f vs h g = gives_all-eval places es db f vs h g
@@ -127,7 +128,8 @@ mutual
       g.2 ∙ ap (λ x. among_value n x xs ∷ []) (first_is g.0 _ (gives-eval places e db f (g.0 ∷ []) h g.1))
   gives-eval places (among_rows n e q) db f vs h g = absurd h
 
-  gives_all-eval : (places : NullPlaces) (es : Exprs) (db : Database) (f : Group) (vs : List Value) → AreFlat es → AllGive places es db f vs → vs
+  gives_all-eval : (places : NullPlaces) (es : Exprs) (db : Database) (f : Group) (vs : List Value) → AreFlat es
+      → AllGive places es db f vs → vs
       ≡ eval_all es (one_row f)
   gives_all-eval places no_exprs db f vs h g = g
   gives_all-eval places (more_exprs e es) db f vs h g =
@@ -155,7 +157,8 @@ no_types [] e = refl
 no_types (t ∷ ts) e = absurd cc
 
 mutual
-  pub eval-given : (places : NullPlaces) (e : Expr) (db : Database) (f : Group) (ts : List SqlType) → IsFlat e → element_types (given e)
+  pub eval-given : (places : NullPlaces) (e : Expr) (db : Database) (f : Group) (ts : List SqlType) → IsFlat e
+      → element_types (given e)
       ≡ map Some ts → HasAll places e db f ts
   eval-given places (column o c) db f ts h t = let (u, is, are) = one-typed (Some c.ty) ts t in (refl, one_long ts u are)
   eval-given places (value ty x) db f ts h t = let (u, is, are) = one-typed (Some ty) ts t in (refl, one_long ts u are)
@@ -168,7 +171,12 @@ mutual
   eval-given places (unary o e) db f ts h t =
       let (u, is, are) = one-typed (unary_type o (only_type (given e))) ts t in
       let (w, w_is) = unary-typed o (only_type (given e)) u is in (
-        (first_value (eval e (one_row f)), one-given places e db f w (eval-given places e db f (w ∷ []) h (only-typed (given e) w w_is)), refl),
+        (
+          first_value (eval e (one_row f)),
+          one-given places e db f w
+              (eval-given places e db f (w ∷ []) h (only-typed (given e) w w_is)),
+          refl,
+        ),
         one_long ts u are,
       )
   eval-given places (count e) db f ts h t = absurd h
@@ -202,12 +210,18 @@ mutual
       let (u, is, are) = one-typed (among_type (only_type (given e)) ty xs) ts t in
       let parts = among-typed (only_type (given e)) ty xs u is in
       let (w, e_is, ty_is, u_is) = compared-typed (only_type (given e)) (Some ty) u parts.1 in (
-        (first_value (eval e (one_row f)), one-given places e db f w (eval-given places e db f (w ∷ []) h (only-typed (given e) w e_is)), refl),
+        (
+          first_value (eval e (one_row f)),
+          one-given places e db f w
+              (eval-given places e db f (w ∷ []) h (only-typed (given e) w e_is)),
+          refl,
+        ),
         one_long ts u are,
       )
   eval-given places (among_rows n e q) db f ts h t = absurd h
 
-  eval_all-given : (places : NullPlaces) (es : Exprs) (db : Database) (f : Group) (ts : List SqlType) → AreFlat es → given_each es
+  eval_all-given : (places : NullPlaces) (es : Exprs) (db : Database) (f : Group) (ts : List SqlType) → AreFlat es
+      → given_each es
       ≡ map Some ts
       → AllGive places es db f (eval_all es (one_row f)) × (length (eval_all es (one_row f)) ≡ length ts)
   eval_all-given places no_exprs db f ts h t = (refl, no_types ts t)
@@ -234,12 +248,14 @@ abbrev pub true_at : MaybeExpr → Frame → Bool
 true_at no_expr f = true
 true_at (an_expr e) f = is_true (first_value (eval e f))
 
-pub holds-true : (places : NullPlaces) (c : MaybeExpr) (db : Database) (f : Group) (t : Bool) → IsPlainCondition c → Holds places c db f t → t
+pub holds-true : (places : NullPlaces) (c : MaybeExpr) (db : Database) (f : Group) (t : Bool) → IsPlainCondition c
+    → Holds places c db f t → t
     ≡ true_at c (one_row f)
 holds-true places no_expr db f t h g = g
 holds-true places (an_expr e) db f t h g = g.2 ∙ ap is_true (first_is g.0 _ (gives-eval places e db f (g.0 ∷ []) h.0 g.1))
 
-pub true-holds : (places : NullPlaces) (c : MaybeExpr) (db : Database) (f : Group) → IsPlainCondition c → Holds places c db f (true_at c (one_row f))
+pub true-holds : (places : NullPlaces) (c : MaybeExpr) (db : Database) (f : Group) → IsPlainCondition c
+    → Holds places c db f (true_at c (one_row f))
 true-holds places no_expr db f h = refl
 true-holds places (an_expr e) db f h =
     let got = eval-given places e db f (h.1.0 ∷ []) h.0 (only-typed (given e) h.1.0 h.1.1) in

@@ -180,7 +180,8 @@ module _ (places : NullPlaces) (t : TableDecl) (p : Expr) (fit : IsFit t p) (db 
 
   where-back : (form : Form) (f : From) (w : MaybeExpr) (outer : Frame)
       → ((rows : Group) (b : Bool) → Holds places w cut rows b → Holds places (guarded_maybe t p w) db rows b)
-      → ((rows : Group) → (b : Bool) × Holds places w cut rows b) → (all passing : List Frame) → Each (λ row. names row ≡ from_leaves f) all
+      → ((rows : Group) → (b : Bool) × Holds places w cut rows b) → (all passing : List Frame)
+      → Each (λ row. names row ≡ from_leaves f) all
       → Filtered (λ row b. Holds places w cut (alone (where_sees form f row outer)) b)
       (filter (pass p (open_from t f)) all) passing
       → Filtered (λ row b. Holds places (with_all (predicates_from t p f) (guarded_maybe t p w)) db
@@ -219,7 +220,8 @@ module _ (places : NullPlaces) (t : TableDecl) (p : Expr) (fit : IsFit t p) (db 
   plain-of v default e f u w o rows g h form marks k =
       from-plain f
       (free_left IsIllTypedClause (ons_of f) _
-      (λ i. free_right IsIllTypedClause (distinct_clause (origins_of f) u) _ (λ j. k R.TypeMismatch (inl (inl j))) (inr i)))
+      (λ i. free_right IsIllTypedClause (distinct_clause (origins_of f) u) _ (λ j. k R.TypeMismatch (inl (inl j)))
+      (inr i)))
       (λ i. k R.Ambiguous (inl (in_widest (λ a b. a ≡ b) form f v i)))
 
   mutual
@@ -316,7 +318,8 @@ module _ (places : NullPlaces) (t : TableDecl) (p : Expr) (fit : IsFit t p) (db 
     source-to (of_table u only sample) k h rows g =
         subst (λ ws. IsPart (is_partial only sample) ws (filter (passes_open t p (of_table u only sample)) rows))
         (sym (leaf_rows (a_table u)))
-        (part-filtered (is_partial only sample) (passes_open t p (of_table u only sample)) (rows_as (a_table u) (db u)) rows g)
+        (part-filtered (is_partial only sample) (passes_open t p (of_table u only sample))
+        (rows_as (a_table u) (db u)) rows g)
     source-to (of_alias a u) k h rows g =
         subst (λ ws. IsPart false ws (filter (passes_open t p (of_alias a u)) rows)) (sym (leaf_rows (an_alias a u)))
         (part-filtered false (passes_open t p (of_alias a u)) (rows_as (an_alias a u) (db u)) rows g)
@@ -332,7 +335,8 @@ module _ (places : NullPlaces) (t : TableDecl) (p : Expr) (fit : IsFit t p) (db 
               (passes_open t p (join Inner a b on)) (passes_open t p a) (passes_open t p b) (both_pass a b h.3 on)
               (λ z c m. holds-to on (origins a ++ origins b) (Clean-right schema d (in_source b) here k') (alone z) c m)
               g.1 (source-named b g.1 g.3) (source-named a g.0 g.2)
-              (subst (λ ls. Joined Inner (nulls ls) (λ row c. Holds places (guarded_maybe t p on) db (alone row) c) g.1 g.0 rows)
+              (subst (λ ls. Joined Inner (nulls ls)
+              (λ row c. Holds places (guarded_maybe t p on) db (alone row) c) g.1 g.0 rows)
               (leaves-same t p b) g.4),
         )
     source-to (join LeftOuter a b on) k h rows g =
@@ -348,10 +352,13 @@ module _ (places : NullPlaces) (t : TableDecl) (p : Expr) (fit : IsFit t p) (db 
               (passes_open t p (join LeftOuter a b on)) (passes_open t p a) (passes_open t p b) (passes_open t p b)
               (λ x y m n. left_pass a x y m) (λ x m. left_pass a x (nulls (leaves b)) m)
               (λ x y m n. right_pass a b x y h.3 m)
-              (λ z c m e. let (i, held, is) = added-of places p fit.test db (alone z) t fit.own b (guarded_maybe t p on) c m in
+              (λ z c m e. let (i, held, is) = added-of places p fit.test db (alone z) t fit.own b
+              (guarded_maybe t p on) c m in
               holds-to on (origins a ++ origins b) (Clean-right schema d (in_source b) here k') (alone z) c
-              (subst (λ x. Holds places (guarded_maybe t p on) db (alone z) x) (sym (is ∙ and_met i (passes_open t p b z) e)) held))
-              (λ z c m e. let (i, held, is) = added-of places p fit.test db (alone z) t fit.own b (guarded_maybe t p on) c m in
+              (subst (λ x. Holds places (guarded_maybe t p on) db (alone z) x)
+              (sym (is ∙ and_met i (passes_open t p b z) e)) held))
+              (λ z c m e. let (i, held, is) = added-of places p fit.test db (alone z) t fit.own b
+              (guarded_maybe t p on) c m in
               is ∙ and_unmet i (passes_open t p b z) e)
               g.1 (source-named b g.1 g.3) (source-named a g.0 g.2)
               (subst (λ ls. Joined LeftOuter (nulls ls)
@@ -392,7 +399,8 @@ module _ (places : NullPlaces) (t : TableDecl) (p : Expr) (fit : IsFit t p) (db 
           a.8,
           grouped-to g own (Clean-left schema d (in_maybe own g) _ k4) (counts e u o) a.2 a.3
               (subst (λ b. GroupedBy places (guarded_maybe t p g) b db a.2 a.3) (counts-same t p e u o) a.9),
-          Filtered-weaken _ _ (λ group b m. holds-to h own (Clean-left schema d (in_maybe own h) (in_order own o) k5) group b m)
+          Filtered-weaken _ _
+              (λ group b m. holds-to h own (Clean-left schema d (in_maybe own h) (in_order own o) k5) group b m)
               a.10,
           AllZip-weaken _ _
               (λ group line m. (
@@ -512,7 +520,8 @@ module _ (places : NullPlaces) (t : TableDecl) (p : Expr) (fit : IsFit t p) (db 
         → (rows : List Frame) × SourceRows places (guarded_source t p s) db rows
         × (filter (passes_open t p s) rows ≡ found)
     source-back (of_table u only sample) k h ty found g =
-        part-widened (is_partial only sample) (passes_open t p (of_table u only sample)) (rows_as (a_table u) (db u)) found
+        part-widened (is_partial only sample) (passes_open t p (of_table u only sample))
+        (rows_as (a_table u) (db u)) found
         (subst (λ ws. IsPart (is_partial only sample) ws found) (leaf_rows (a_table u)) g)
     source-back (of_alias a u) k h ty found g =
         part-widened false (passes_open t p (of_alias a u)) (rows_as (an_alias a u) (db u)) found
@@ -521,7 +530,8 @@ module _ (places : NullPlaces) (t : TableDecl) (p : Expr) (fit : IsFit t p) (db 
         let here = in_maybe (origins a ++ origins b) on in
         let k' : Clean schema d (in_source b ++ here) = Clean-right schema d (in_source a) (in_source b ++ here) k in
         let kon : Clean schema d here = Clean-right schema d (in_source b) here k' in
-        let (xs, gx, xs_are) = source-back a (Clean-left schema d (in_source a) (in_source b ++ here) k) h.0 ty.0 g.0 g.2 in
+        let (xs, gx, xs_are) = source-back a
+        (Clean-left schema d (in_source a) (in_source b ++ here) k) h.0 ty.0 g.0 g.2 in
         let (ys, gy, ys_are) = source-back b (Clean-left schema d (in_source b) here k') h.1 ty.1 g.1 g.3 in
         let (rows, j, are) = inner-back (Named a) (Named b) (nulls (leaves b))
         (λ row c. Holds places (guarded_maybe t p on) db (alone row) c) (λ row c. Holds places on cut (alone row) c)
@@ -530,16 +540,19 @@ module _ (places : NullPlaces) (t : TableDecl) (p : Expr) (fit : IsFit t p) (db 
         (λ z. let (c, m) = holds-some places schema d cut on (origins a ++ origins b) kon ty.2 (alone z) in
         (c, holds-back on (origins a ++ origins b) kon (alone z) c m))
         ys (source-named b ys gy) xs found (source-named a xs gx)
-        (subst (λ l. Joined Inner (nulls (leaves b)) (λ row c. Holds places on cut (alone row) c) l (filter (passes_open t p a) xs) found)
+        (subst (λ l. Joined Inner (nulls (leaves b)) (λ row c. Holds places on cut (alone row) c) l
+        (filter (passes_open t p a) xs) found)
         (sym ys_are)
-        (subst (λ l. Joined Inner (nulls (leaves b)) (λ row c. Holds places on cut (alone row) c) g.1 l found) (sym xs_are) g.4)) in (
+        (subst (λ l. Joined Inner (nulls (leaves b)) (λ row c. Holds places on cut (alone row) c) g.1 l found)
+        (sym xs_are) g.4)) in (
           rows,
           (
             xs,
             ys,
             gx,
             gy,
-            subst (λ ls. Joined Inner (nulls ls) (λ row c. Holds places (guarded_maybe t p on) db (alone row) c) ys xs rows)
+            subst (λ ls. Joined Inner (nulls ls)
+                (λ row c. Holds places (guarded_maybe t p on) db (alone row) c) ys xs rows)
                 (sym (leaves-same t p b)) j,
           ),
           are,
@@ -548,7 +561,8 @@ module _ (places : NullPlaces) (t : TableDecl) (p : Expr) (fit : IsFit t p) (db 
         let here = in_maybe (origins a ++ origins b) on in
         let k' : Clean schema d (in_source b ++ here) = Clean-right schema d (in_source a) (in_source b ++ here) k in
         let kon : Clean schema d here = Clean-right schema d (in_source b) here k' in
-        let (xs, gx, xs_are) = source-back a (Clean-left schema d (in_source a) (in_source b ++ here) k) h.0 ty.0 g.0 g.2 in
+        let (xs, gx, xs_are) = source-back a
+        (Clean-left schema d (in_source a) (in_source b ++ here) k) h.0 ty.0 g.0 g.2 in
         let (ys, gy, ys_are) = source-back b (Clean-left schema d (in_source b) here k') h.1 ty.1 g.1 g.3 in
         let some : (z : Frame) → (c : Bool) × Holds places (guarded_maybe t p on) db (alone z) c =
         λ z. (let (c, m) = holds-some places schema d cut on (origins a ++ origins b) kon ty.2 (alone z) in
@@ -572,7 +586,8 @@ module _ (places : NullPlaces) (t : TableDecl) (p : Expr) (fit : IsFit t p) (db 
         ys (source-named b ys gy) xs found (source-named a xs gx)
         (subst (λ l. Joined LeftOuter (nulls (leaves b)) (λ row c. Holds places on cut (alone row) c) l
         (filter (passes_open t p a) xs) found) (sym ys_are)
-        (subst (λ l. Joined LeftOuter (nulls (leaves b)) (λ row c. Holds places on cut (alone row) c) g.1 l found) (sym xs_are) g.4)) in (
+        (subst (λ l. Joined LeftOuter (nulls (leaves b)) (λ row c. Holds places on cut (alone row) c) g.1 l found)
+        (sym xs_are) g.4)) in (
           rows,
           (
             xs,
@@ -638,7 +653,8 @@ module _ (places : NullPlaces) (t : TableDecl) (p : Expr) (fit : IsFit t p) (db 
               a.4 a.5 a.11,
           subst (λ ls. IsOrdered places (directions (guarded_order t p o)) (map (λ line. line.order) ls))
               (sym (ordered-same t p u a.5))
-              (subst (λ ds. IsOrdered places ds (map (λ line. line.order) (ordered_by u a.5))) (sym (directions-same t p o))
+              (subst (λ ds. IsOrdered places ds (map (λ line. line.order) (ordered_by u a.5)))
+              (sym (directions-same t p o))
               a.12),
           a.13 ∙ sym (ap (λ ls. page rows (map (λ line. line.shown) ls)) (left-same t p u a.5)),
         )

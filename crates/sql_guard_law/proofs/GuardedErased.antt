@@ -116,7 +116,8 @@ module _ (many : List Value → List Value) where
       erased_from-guarded (from s) = ap from (erased_source-guarded s)
 
       erased_distinct-guarded : (u : Distinct)
-          → erased_distinct many (guarded_distinct t p u) ≡ guarded_distinct t (erased_expr many p) (erased_distinct many u)
+          → erased_distinct many (guarded_distinct t p u) ≡ guarded_distinct t (erased_expr many p)
+          (erased_distinct many u)
       erased_distinct-guarded every = refl
       erased_distinct-guarded distinct = refl
       erased_distinct-guarded (distinct_on e) = ap distinct_on (erased-guarded e)
@@ -134,4 +135,5 @@ module _ (many : List Value → List Value) where
           ∙ ap₂ with_all (erased-predicates_from t p f) (erased_maybe-guarded w)) i)
           (erased_order-guarded o i) (blank_rows rows) (erased_maybe-guarded g i) (erased_maybe-guarded h i) form marks
       erased_statement-guarded (combination by all a b o rows) =
-          ap₂ (λ l r. combination by all l r o (blank_rows rows)) (erased_statement-guarded a) (erased_statement-guarded b)
+          ap₂ (λ l r. combination by all l r o (blank_rows rows)) (erased_statement-guarded a)
+          (erased_statement-guarded b)

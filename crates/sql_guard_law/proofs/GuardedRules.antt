@@ -134,7 +134,8 @@ module _ (schema : Declarations) (d : Dialect) (t : TableDecl) (p : Expr) (predi
       → Clean schema d (parts outer (guarded t p a)) → Clean schema d (parts outer (guarded t p b))
       → Clean schema d (parts outer (guarded t p (combination by all a b o rows)))
   whole-combination outer by all a b o rows head ca cb r (inl i) =
-      combination-kept (record { combinator = by; duplicates = all; left = a; right = b; order = o; rows = rows }) head r i
+      combination-kept
+      (record { combinator = by; duplicates = all; left = a; right = b; order = o; rows = rows }) head r i
   whole-combination outer by all a b o rows head ca cb r (inr i) =
       clean-append (parts outer (guarded t p a)) (parts outer (guarded t p b)) ca cb r i
 
@@ -189,7 +190,8 @@ module _ (schema : Declarations) (d : Dialect) (t : TableDecl) (p : Expr) (predi
     clean-source (of_alias a u) h = h
     clean-source (join Inner l r on) h =
         let v = origins l ++ origins r in
-        let h1 : Clean schema d (in_source r ++ in_maybe v on) = Clean-right schema d (in_source l) (in_source r ++ in_maybe v on) h in
+        let h1 : Clean schema d (in_source r ++ in_maybe v on) = Clean-right schema d (in_source l)
+        (in_source r ++ in_maybe v on) h in
         clean-append (in_source (guarded_source t p l)) _
         (clean-source l (Clean-left schema d (in_source l) (in_source r ++ in_maybe v on) h))
         (clean-append (in_source (guarded_source t p r)) _
@@ -199,7 +201,8 @@ module _ (schema : Declarations) (d : Dialect) (t : TableDecl) (p : Expr) (predi
         (clean-maybe v on (Clean-right schema d (in_source r) (in_maybe v on) h1))))
     clean-source (join LeftOuter l r on) h =
         let v = origins l ++ origins r in
-        let h1 : Clean schema d (in_source r ++ in_maybe v on) = Clean-right schema d (in_source l) (in_source r ++ in_maybe v on) h in
+        let h1 : Clean schema d (in_source r ++ in_maybe v on) = Clean-right schema d (in_source l)
+        (in_source r ++ in_maybe v on) h in
         clean-append (in_source (guarded_source t p l)) _
         (clean-source l (Clean-left schema d (in_source l) (in_source r ++ in_maybe v on) h))
         (clean-append (in_source (guarded_source t p r)) _

@@ -1,4 +1,5 @@
--- A select statement whose expressions are guarded, without a predicate of its own: it breaks no rule that the statement does not break.
+-- A select statement whose expressions are guarded, without a predicate of its own: it breaks no rule that the statement does not
+-- break.
 use Rattle.std.proofs.Common.{◌≡◌, List, [], ◌∷◌, ◌++◌, map, None, refl, sym, ap, ap₂, subst, ◌∙◌, inl, inr, IsTrue}
 use Rattle.std.proofs.lemmas.List.{map-append}
 use Rattle.sql_schema.specs.Declarations.{Declarations}
@@ -77,7 +78,8 @@ module _ (t : TableDecl) (p : Expr) where
   restricted-inner (join Inner l r on) =
       ap₂ (λ x y. join Inner x y (guarded_maybe t p on)) (restricted-inner l) (restricted-inner r)
   restricted-inner (join LeftOuter l r on) = λ i.
-      join LeftOuter (restricted-inner l i) (restricted-inner r i) (with_all (predicates-inner r i) (guarded_maybe t p on))
+      join LeftOuter (restricted-inner l i) (restricted-inner r i)
+      (with_all (predicates-inner r i) (guarded_maybe t p on))
 
   pub restricted_from-inner : (f : From) → restricted_from t p (inner_from f) ≡ guarded_from t p f
   restricted_from-inner no_source = refl
@@ -335,7 +337,8 @@ module _ (t : TableDecl) (p : Expr) where
       shapes (flat e) (flat_items is)
       (subst (λ l. Differ (λ x y. ¬ (expr_shape x ≡ expr_shape y)) l (map (guarded_expr t p) (flat_items is)))
       (flat-same t p e)
-      (subst (λ l. Differ (λ x y. ¬ (expr_shape x ≡ expr_shape y)) (flat (guarded_expr t p e)) l) (flat_items-same t p is) h))
+      (subst (λ l. Differ (λ x y. ¬ (expr_shape x ≡ expr_shape y)) (flat (guarded_expr t p e)) l)
+      (flat_items-same t p is) h))
   differs (unboxed l) every o h = h
   differs (unboxed l) distinct o h = h
   differs (unboxed l) (distinct_on e) no_order h = h

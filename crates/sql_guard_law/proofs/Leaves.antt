@@ -98,7 +98,8 @@ leaf-named : (s : Source) (o : Origin) → source_leaves s ≡ o ∷ [] → (row
 leaf-named s o e [] = tt
 leaf-named s o e (row ∷ rows) = (sym e, leaf-named s o e rows)
 
-pub rows-named : (places : NullPlaces) (db : Database) (s : Source) (rows : List Frame) → SourceRows places s db rows → Each (Named s) rows
+pub rows-named : (places : NullPlaces) (db : Database) (s : Source) (rows : List Frame)
+    → SourceRows places s db rows → Each (Named s) rows
 rows-named places db (of_table t only sample) rows g =
     IsPart-each (Named (of_table t only sample)) (is_partial only sample) _ rows g
     (leaf-named (of_table t only sample) (a_table t) refl (db t))
@@ -249,7 +250,8 @@ pub record IsFit (t : TableDecl) (p : Expr) : Type 0 where
 
 module _ (places : NullPlaces) (p : Expr) (test : IsTest p) (db : Database) (rows : Group) where
   -- the condition with the predicates at some leaves is true where it is, and they are
-  with_all-of : (os : List Origin) (c : MaybeExpr) (b : Bool) → Holds places (with_all (map (λ o. aimed p o) os) c) db rows b
+  with_all-of : (os : List Origin) (c : MaybeExpr) (b : Bool)
+      → Holds places (with_all (map (λ o. aimed p o) os) c) db rows b
       → (a : Bool) × Holds places c db rows a × (b ≡ (a && pass p os (one_row rows)))
   with_all-of [] c b h = (b, h, sym (and_yes b))
   with_all-of (o ∷ os) no_expr b h =

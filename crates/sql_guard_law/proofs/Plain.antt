@@ -106,7 +106,8 @@ source-plain (join kind l r on) k n =
       across (source_leaves l) (source_leaves r) n,
     )
 
-pub from-plain : (f : From) → ¬ AnyOf IsIllTypedClause (ons_of f) → ¬ AnyPair (λ a b. a ≡ b) (origins_of f) → IsPlainFrom f
+pub from-plain : (f : From) → ¬ AnyOf IsIllTypedClause (ons_of f) → ¬ AnyPair (λ a b. a ≡ b) (origins_of f)
+    → IsPlainFrom f
 from-plain no_source k n = tt
 from-plain (from s) k n = source-plain s k (subst (λ os. ¬ AnyPair (λ a b. a ≡ b) os) (leaves-source_leaves s) n)
 

@@ -103,7 +103,8 @@ different t u n = go (same_table t u) (table-decides t u).0
 seen-other : (t u : TableDecl) (c : MaybeExpr) (qs : List Policy) (row : Row) → t ≢ u
     → seen (policy t c ∷ qs) u row ≡ seen qs u row
 seen-other t u c qs row n =
-    ap (λ b. all_true (if b then c ∷ predicates_on u qs else predicates_on u qs) ((a_table u, row) ∷ [])) (different t u n)
+    ap (λ b. all_true (if b then c ∷ predicates_on u qs else predicates_on u qs) ((a_table u, row) ∷ []))
+    (different t u n)
 
 -- no predicate takes nothing away
 seen-all : (t u : TableDecl) (qs : List Policy) (row : Row) → seen (policy t no_expr ∷ qs) u row ≡ seen qs u row
@@ -116,16 +117,20 @@ seen-all t u qs row = go (same_table t u)
     go false = refl
 
 last-cut : (places : NullPlaces) (t : TableDecl) (p : Expr) (qs : List Policy) → IsPredicate t p → (db cut : Database)
-    → ((u : TableDecl) → cut u ≡ filter (seen (policy t (an_expr p) ∷ qs) u) (db u)) → IsCut places t p (between qs db) cut
+    → ((u : TableDecl) → cut u ≡ filter (seen (policy t (an_expr p) ∷ qs) u) (db u))
+    → IsCut places t p (between qs db) cut
 last-cut places t p qs predicate db cut e = record {
   kept =
-      subst (λ rows. Filtered (λ row b. Holds places (an_expr p) (between qs db) (alone ((a_table t, row) ∷ [])) b) (between qs db t) rows)
+      subst (λ rows. Filtered (λ row b. Holds places (an_expr p) (between qs db) (alone ((a_table t, row) ∷ [])) b)
+      (between qs db t) rows)
       (sym own)
       (is-Filtered (λ row b. Holds places (an_expr p) (between qs db) (alone ((a_table t, row) ∷ [])) b)
       (λ row. true_at (an_expr p) ((a_table t, row) ∷ []))
-      (λ row. true-holds places (an_expr p) (between qs db) (alone ((a_table t, row) ∷ [])) (predicate-fit t p predicate).test)
+      (λ row. true-holds places (an_expr p) (between qs db) (alone ((a_table t, row) ∷ []))
+      (predicate-fit t p predicate).test)
       (between qs db t));
-  others = λ u n. e u ∙ filter-same _ (seen qs u) (db u) (Each-always _ (λ row. seen-other t u (an_expr p) qs row n) (db u));
+  others = λ u n. e u
+      ∙ filter-same _ (seen qs u) (db u) (Each-always _ (λ row. seen-other t u (an_expr p) qs row n) (db u));
 }
   where
     own : cut t ≡ filter (λ row. true_at (an_expr p) ((a_table t, row) ∷ [])) (between qs db t)
@@ -160,7 +165,8 @@ all-exact schema d s [] h q places db cut c answer =
     (λ a. subst (λ x. Answers places s x [] answer) (sym same) a, λ a. subst (λ x. Answers places s x [] answer) same a)
 all-exact schema d s (x ∷ qs) h q places db cut c answer =
     let rest = all-exact schema d (guarded_maybe_by x.table x.predicate s) qs
-    (maybe-kept schema d s x.table x.predicate h q.0) q.1 places db (between qs db) (is-between places qs q.1 db) answer in
+    (maybe-kept schema d s x.table x.predicate h q.0) q.1 places db (between qs db)
+    (is-between places qs q.1 db) answer in
     let last = by_one x.table x.predicate q.0 (cut-is places (x ∷ qs) q db cut c) in
     (λ a. last.0 (rest.0 a), λ a. rest.1 (last.1 a))
   where
@@ -215,4 +221,5 @@ pub guarded-answers : (schema : Declarations) (d : Dialect) (s : Statement) (qs 
     → BreaksAtMostTooManyBinds schema d s → Each IsPolicy qs → (places : NullPlaces) (db : Database)
     → (answer : List Row) × Answers places (guarded_all qs s) db [] answer
 guarded-answers schema d s qs h q places db =
-    answers-some places schema d db (guarded_all qs s) [] (at_most-clean schema d (guarded_all qs s) (all-kept schema d s qs h q)) []
+    answers-some places schema d db (guarded_all qs s) []
+    (at_most-clean schema d (guarded_all qs s) (all-kept schema d s qs h q)) []

@@ -145,7 +145,8 @@ plain-aimed schema t v o g (exists q) h n = h n
 plain-aimed schema t v o g (single q) h n = h n
 plain-aimed schema t v o g (among_rows m e q) h n = h n
 
-pub unaggregated-aimed : (schema : Declarations) (t : TableDecl) (v : View) (o : Origin) → IsGood schema t v o → (e : Expr)
+pub unaggregated-aimed : (schema : Declarations) (t : TableDecl) (v : View) (o : Origin) → IsGood schema t v o
+    → (e : Expr)
     → IsAimed t o e → ¬ (is_aggregate e ≡ true)
 unaggregated-aimed schema t v o g e h = aggregate-beyond e (plain-aimed schema t v o g e h)
 

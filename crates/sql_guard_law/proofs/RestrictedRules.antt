@@ -258,7 +258,8 @@ module _ (schema : Declarations) (d : Dialect) (t : TableDecl) (p : Expr) (predi
       by R.UnknownName (inr i) =
           guarded-clauses schema t p predicate.own (λ c. AnyOf (IsUnknownColumn schema) (nodes c.expr))
           (λ v e. ¬ AnyOf (IsUnknownColumn schema) (nodes e))
-          (node-guard (λ v. IsUnknownColumn schema) (λ v by a b q. q) (known-aimed schema t)) outer s source condition known
+          (node-guard (λ v. IsUnknownColumn schema) (λ v by a b q. q)
+          (known-aimed schema t)) outer s source condition known
           (λ j. h R.UnknownName (inr j)) i
       by R.Incompatible i = h R.Incompatible i
       by R.EmptyList (inl i) =
@@ -272,9 +273,11 @@ module _ (schema : Declarations) (d : Dialect) (t : TableDecl) (p : Expr) (predi
       by R.NotInScope i =
           guarded-clauses schema t p predicate.own (λ c. AnyOf (IsOutOfScope c.view) (nodes c.expr))
           (λ v e. ¬ AnyOf (IsOutOfScope v) (nodes e))
-          (node-guard IsOutOfScope (λ v by a b q. q) (seen-aimed schema t)) outer s source condition known (h R.NotInScope) i
+          (node-guard IsOutOfScope (λ v by a b q. q) (seen-aimed schema t)) outer s source condition known
+          (h R.NotInScope) i
       by R.TypeMismatch (inl i) =
-          guarded-clauses schema t p predicate.own IsIllTypedClause (λ v e. Fine e) fine-guard outer s source condition known
+          guarded-clauses schema t p predicate.own IsIllTypedClause
+          (λ v e. Fine e) fine-guard outer s source condition known
           (λ j. h R.TypeMismatch (inl j)) i
       by R.TypeMismatch (inr i) = h R.TypeMismatch (inr i)
       by R.NeedsNullable i =

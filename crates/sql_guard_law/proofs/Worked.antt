@@ -148,7 +148,8 @@ where_drops places answer g = g.9 ∙ ap (map (λ l. l.shown)) lines_are
   where
     fail : Each (Fails places) g.0
     fail =
-        Joined-each IsUser (λ y. y ≡ post) (Fails places) LeftOuter no_post g.4.1 (pair_fails places) (padded_fails places)
+        Joined-each IsUser (λ y. y ≡ post) (Fails places) LeftOuter no_post g.4.1 (pair_fails places)
+        (padded_fails places)
         (IsPart-each (λ y. y ≡ post) false (post ∷ []) g.4.1 g.4.3 (refl, tt)) g.4.4
         (IsPart-each IsUser false (user 1 (codes "a") ∷ (user 2 (codes "b") ∷ [])) g.4.0 g.4.2
         (inl refl, (inr refl, tt)))
@@ -172,7 +173,8 @@ in_where h =
     ((ungrouped-same some_places (joined_on relation (an_expr owned)) (refl, λ g. g, λ k. k) database []
     (alone ∷ (other ∷ []))).0
     ((h some_places database cut (is_cut some_places) (alone ∷ (other ∷ []))).1
-    ((ungrouped-same some_places statement (refl, λ g. g, λ k. k) cut [] (alone ∷ (other ∷ []))).1 (over_cut some_places)))))
+    ((ungrouped-same some_places statement (refl, λ g. g, λ k. k) cut [] (alone ∷ (other ∷ []))).1
+    (over_cut some_places)))))
 
 -- ---- in ON
 

@@ -1,5 +1,5 @@
--- A statement guarded at every depth: it and each statement inside it, in a subselect or on a side of a combination, is restricted to the
--- rows of a table for which a predicate is true.
+-- A statement guarded at every depth: it and each statement inside it, in a subselect or on a side of a combination, is
+-- restricted to the rows of a table for which a predicate is true.
 use Rattle.sql_schema.specs.declared.declaration.TableDecl.{TableDecl}
 use Rattle.sql_node.specs.Tree.{Expr, column, value, list, count_star, nullable, unary, count, compared, joined, exists, single, among_values, among_rows, Exprs, no_exprs, more_exprs, Items, no_items, more_items, MaybeExpr, no_expr, an_expr, Source, of_table, of_alias, join, From, no_source, from, Distinct, every, distinct, distinct_on, Order, no_order, order_by, Statement, select, combination}
 use Rattle.sql_guard_law.specs.Restricted.{predicates_from, with_all, restricted_on}
@@ -55,6 +55,7 @@ module _ (t : TableDecl) (p : Expr) where
     pub guarded : Statement → Statement
     guarded (select default e f u w o rows g h form marks) =
         select default (guarded_expr e) (guarded_from f) (guarded_distinct u)
-        (with_all (predicates_from t p f) (guarded_maybe w)) (guarded_order o) rows (guarded_maybe g) (guarded_maybe h) form
+        (with_all (predicates_from t p f) (guarded_maybe w)) (guarded_order o) rows (guarded_maybe g)
+        (guarded_maybe h) form
         marks
     guarded (combination by all a b o rows) = combination by all (guarded a) (guarded b) o rows

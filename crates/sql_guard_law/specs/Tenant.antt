@@ -78,7 +78,8 @@ AnswersAsCut r s t p =
 -- Of two databases whose cuts are one database the statement answers the same: the rows that are cut away do not matter.
 abbrev pub IsBlindToOthers : Statement → TableDecl → Expr → Type 0
 IsBlindToOthers r t p =
-    (places : NullPlaces) (db db' cut : Database) → IsCut places t p db cut → IsCut places t p db' cut → (answer : List Row)
+    (places : NullPlaces) (db db' cut : Database) → IsCut places t p db cut → IsCut places t p db' cut
+    → (answer : List Row)
     → Answers places r db [] answer ↔ Answers places r db' [] answer
 
 -- no rule is broken, but that the values may be too many

@@ -1,5 +1,5 @@
--- Where a relation has some outcome for each element, it has one for a list; and outcomes in another order are those of the elements in
--- another order.
+-- Where a relation has some outcome for each element, it has one for a list; and outcomes in another order are those of the
+-- elements in another order.
 use Rattle.std.proofs.Common.{◌≡◌, Bool, true, false, List, [], ◌∷◌, ◌++◌, map, refl, sym, ap, subst, IsPermutation}
 use Rattle.std.specs.List.{AllZip}
 use Rattle.std.proofs.lemmas.List.Sorted.{IsPermutation-refl, IsPermutation-trans, IsPermutation-cons, IsPermutation-map, IsPermutation-append_left}
@@ -87,7 +87,8 @@ sorted-out Test (dropped {x = x} {xs = xs} {out = out} t f) =
       (t, fail),
     )
 
-none-kept : {A : Type 0} (Test : A → Bool → Type 0) (rest : List A) → Each (λ x. Test x false) rest → Filtered Test rest []
+none-kept : {A : Type 0} (Test : A → Bool → Type 0) (rest : List A) → Each (λ x. Test x false) rest
+    → Filtered Test rest []
 none-kept Test [] h = none
 none-kept Test (x ∷ rest) h = dropped h.0 (none-kept Test rest h.1)
 

@@ -41,7 +41,8 @@ passes_on f = is_true (compared_value Eq (value_of (a_table posts) it.user_id f)
 one_head : (a b : Value) → a ∷ [] ≡ b ∷ [] → a ≡ b
 one_head a b e = cc
 
-on_is : (places : NullPlaces) (f : Frame) (t : Bool) → Holds places (an_expr relation) database (f ∷ []) t → t ≡ passes_on f
+on_is : (places : NullPlaces) (f : Frame) (t : Bool) → Holds places (an_expr relation) database (f ∷ []) t
+    → t ≡ passes_on f
 unfolding passes_on
 on_is places f t (v, (x, y, x_is, y_is, v_is), t_is) =
     t_is ∙ ap is_true (one_head v _ v_is ∙ ap₂ (compared_value Eq) (one_head x _ x_is) (one_head y _ y_is))
@@ -54,7 +55,8 @@ on_has places f = (
   refl,
 )
 
-selection_is : (places : NullPlaces) (f : Frame) (vs : Row) → Gives places selection database (f ∷ []) vs → vs ≡ shown_of f
+selection_is : (places : NullPlaces) (f : Frame) (vs : Row) → Gives places selection database (f ∷ []) vs
+    → vs ≡ shown_of f
 unfolding shown_of
 selection_is places f vs (xs, ys, x_is, (us, ws, u_is, w_is, ys_is), vs_is) =
     vs_is ∙ ap₂ ◌++◌ x_is (ys_is ∙ ap₂ ◌++◌ u_is w_is)
@@ -90,7 +92,8 @@ source_rows places rows (xs, ys, xs_are, ys_are, j) = go (two-orders _ _ xs (who
   where
     joined : (us : List Frame) → xs ≡ us → rows ≡ joined_rows LeftOuter no_post passes_on (post ∷ []) us
     joined us e =
-        Joined-is LeftOuter no_post (λ row t. Holds places (an_expr relation) database (row ∷ []) t) passes_on (on_is places) ys j
+        Joined-is LeftOuter no_post (λ row t. Holds places (an_expr relation) database (row ∷ []) t) passes_on
+        (on_is places) ys j
         ∙ ap₂ (joined_rows LeftOuter no_post passes_on) (one-order post ys (whole-permutation _ ys ys_are)) e
 
     go : (xs ≡ user 1 (codes "a") ∷ user 2 (codes "b") ∷ []) ⊎ (xs ≡ user 2 (codes "b") ∷ user 1 (codes "a") ∷ [])
@@ -114,7 +117,8 @@ shown_second : shown_of second_frame ≡ it.second
 unfolding shown_of
 shown_second = refl
 
-only_these : (places : NullPlaces) (rows : List Row) → RowAnswers places statement database [] rows → (rows ≡ it.first ∷ it.second ∷ [])
+only_these : (places : NullPlaces) (rows : List Row) → RowAnswers places statement database [] rows
+    → (rows ≡ it.first ∷ it.second ∷ [])
     ⊎ (rows ≡ it.second ∷ it.first ∷ [])
 only_these places rows g = go (two-orders _ _ g.2 taken_is)
   where
@@ -130,7 +134,8 @@ only_these places rows g = go (two-orders _ _ g.2 taken_is)
     rows_are : rows ≡ map shown_of g.2
     rows_are =
         g.9 ∙ AllZip-map_is (λ row line. Gives places selection database (row ∷ []) line.shown
-        × KeyGives places every database (row ∷ []) line.key × OrderGives places no_order database (row ∷ []) line.order) shown_of (λ line. line.shown)
+        × KeyGives places every database (row ∷ []) line.key × OrderGives places no_order database
+        (row ∷ []) line.order) shown_of (λ line. line.shown)
         (λ row line h. selection_is places row line.shown h.0) g.2 g.3 g.7
 
     go : (g.2 ≡ first_frame ∷ second_frame ∷ []) ⊎ (g.2 ≡ second_frame ∷ first_frame ∷ [])
@@ -155,7 +160,8 @@ example_rows places = (
   permutation-whole false _ _ (IsPermutation-refl _),
   subst (λ rows. Joined LeftOuter no_post (λ row t. Holds places (an_expr relation) database (row ∷ []) t) (post ∷ [])
       (user 1 (codes "a") ∷ user 2 (codes "b") ∷ []) rows) in_users_order
-      (is-Joined LeftOuter no_post (λ row t. Holds places (an_expr relation) database (row ∷ []) t) passes_on (on_has places) (post ∷ [])
+      (is-Joined LeftOuter no_post (λ row t. Holds places (an_expr relation) database (row ∷ []) t) passes_on
+      (on_has places) (post ∷ [])
       (user 1 (codes "a") ∷ user 2 (codes "b") ∷ [])),
 )
 

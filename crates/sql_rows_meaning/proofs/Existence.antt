@@ -129,7 +129,8 @@ module _ (places : NullPlaces) (db : Database) where
       let (lines0, zip0) = zip-some (λ group l. GivesLine e u o group l) line kept0 in
       let (lines, chosen, order_is, ordered) = ordered-sorted u (line_before places o) lines0 in
       let (kept', kept_is, zip') = zip-permuted (λ group l. GivesLine e u o group l) kept0 lines0 lines zip0 order_is in
-      let (groups', groups_are, keeps') = filtered-permuted (λ group t. Holds places h db group t) groups0 kept0 kept' keeps0 kept_is in
+      let (groups', groups_are, keeps') = filtered-permuted
+      (λ group t. Holds places h db group t) groups0 kept0 kept' keeps0 kept_is in
       let (taken, taken_is, grouped') = regrouped g (counts e u o) passing groups0 groups' grouped0 groups_are in (
         page rows (map (λ l. l.shown) (left_by u lines)),
         (
@@ -209,17 +210,21 @@ module _ (places : NullPlaces) (schema : Declarations) (d : Dialect) (db : Datab
         let (u, is, are) = one-typed (compared_type (only_type (given a)) (only_type (given b))) ts t in
         let (w, a_is, b_is, u_is) = compared-typed (only_type (given a)) (only_type (given b)) u is in
         let (x, g) = single-of places db a rows w
-        (gives-some a v (w ∷ []) (Clean-left schema d (in_expr v a) (in_expr v b) p) (only-typed (given a) w a_is) rows) in
+        (gives-some a v (w ∷ []) (Clean-left schema d (in_expr v a) (in_expr v b) p)
+        (only-typed (given a) w a_is) rows) in
         let (y, k) = single-of places db b rows w
-        (gives-some b v (w ∷ []) (Clean-right schema d (in_expr v a) (in_expr v b) p) (only-typed (given b) w b_is) rows) in
+        (gives-some b v (w ∷ []) (Clean-right schema d (in_expr v a) (in_expr v b) p)
+        (only-typed (given b) w b_is) rows) in
         (compared_value by x y ∷ [], (x, y, g, k, refl), one_long ts u are)
     gives-some (joined by a b) v ts p t rows =
         let (u, is, are) = one-typed (joined_type (only_type (given a)) (only_type (given b))) ts t in
         let (w, z, a_is, b_is, u_is) = joined-typed (only_type (given a)) (only_type (given b)) u is in
         let (x, g) = single-of places db a rows w
-        (gives-some a v (w ∷ []) (Clean-left schema d (in_expr v a) (in_expr v b) p) (only-typed (given a) w a_is) rows) in
+        (gives-some a v (w ∷ []) (Clean-left schema d (in_expr v a) (in_expr v b) p)
+        (only-typed (given a) w a_is) rows) in
         let (y, k) = single-of places db b rows z
-        (gives-some b v (z ∷ []) (Clean-right schema d (in_expr v a) (in_expr v b) p) (only-typed (given b) z b_is) rows) in
+        (gives-some b v (z ∷ []) (Clean-right schema d (in_expr v a) (in_expr v b) p)
+        (only-typed (given b) z b_is) rows) in
         (joined_value by x y ∷ [], (x, y, g, k, refl), one_long ts u are)
     gives-some (exists q) v ts p t rows =
         let (u, is, are) = one-typed (bool_type false) ts t in
@@ -329,7 +334,8 @@ module _ (places : NullPlaces) (schema : Declarations) (d : Dialect) (db : Datab
         (keyed-some g own (Clean-left schema d (in_maybe own g) _ p4) t.group)
         (holds-some h own (Clean-left schema d (in_maybe own h) (in_order own o) p5) t.having)
         (λ group.
-        let (shown, gs, long) = gives-some e own t.selection.0 (Clean-left schema d (in_expr own e) _ p1) t.selection.1 group in
+        let (shown, gs, long) = gives-some e own t.selection.0
+        (Clean-left schema d (in_expr own e) _ p1) t.selection.1 group in
         let (key, gk) = key-some u own (Clean-left schema d (in_distinct own u) _ p0) t.key group in
         let (order, go) = order-some o own (Clean-right schema d (in_maybe own h) (in_order own o) p5) t.order group in
         (record { shown = shown; key = key; order = order }, (gs, gk, go)))

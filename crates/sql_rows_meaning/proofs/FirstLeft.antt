@@ -1,5 +1,5 @@
--- Of lines in an order DISTINCT ON leaves the first of each key, and what is left is in that order: rows whose values are of one type item by
--- item are ordered as a weak order orders them.
+-- Of lines in an order DISTINCT ON leaves the first of each key, and what is left is in that order: rows whose values are of one
+-- type item by item are ordered as a weak order orders them.
 use Rattle.std.proofs.Common.{◌≡◌, ℕ, suc, ◌+◌, ℤ, Bool, true, false, not, ◌&&◌, ◌||◌, List, [], ◌∷◌, map, get_or, refl, sym, ap, subst, ◌∙◌, inl, inr, ◌⊎◌, if◌then◌else◌, int_lt, arith, Ordering, Less, Equal, Greater, IsSortedBy}
 use Rattle.std.specs.Cmp.Lexicographic.{slice_cmp}
 use Rattle.std.specs.Ordering.{ordering_reverse, nat_cmp, is_lt}
@@ -147,7 +147,8 @@ module _ (places : NullPlaces) (by : Direction) where
 
   made-over : (b : Base) (u v w : Value) → IsOf b u → IsOf b v → IsOf b w → comes_before places by u v ≡ false
       → comes_before places by v w ≡ false → comes_before places by u w ≡ false
-  made-over b u v w (inl p) (inl q) (inl r) h k = subst (λ z. comes_before places by z w ≡ false) (sym p) (subst (λ z. comes_before places by z w ≡ false) q k)
+  made-over b u v w (inl p) (inl q) (inl r) h k = subst (λ z. comes_before places by z w ≡ false) (sym p)
+      (subst (λ z. comes_before places by z w ≡ false) q k)
   made-over b u v w (inl p) (inl q) (inr (z, r)) h k =
       subst (λ x. comes_before places by x w ≡ false) (q ∙ sym p) k
   made-over b u v w (inl p) (inr (y, q)) (inl r) h k =
@@ -162,19 +163,26 @@ module _ (places : NullPlaces) (by : Direction) where
       subst (λ z. comes_before places by u z ≡ false) (q ∙ sym r) h
   made-over b u v w (inr (x, p)) (inl q) (inr (z, r)) h k =
       absurd (never-both (nulls_first places by)
-      (sym (before-null b x) ∙ subst (λ y. comes_before places by y V.Null ≡ false) p (subst (λ y. comes_before places by u y ≡ false) q h))
-      (sym (null-before b z) ∙ subst (λ y. comes_before places by V.Null y ≡ false) r (subst (λ y. comes_before places by y w ≡ false) q k)))
+      (sym (before-null b x)
+      ∙ subst (λ y. comes_before places by y V.Null ≡ false) p (subst (λ y. comes_before places by u y ≡ false) q h))
+      (sym (null-before b z)
+      ∙ subst (λ y. comes_before places by V.Null y ≡ false) r (subst (λ y. comes_before places by y w ≡ false) q k)))
   made-over b u v w (inr (x, p)) (inr (y, q)) (inl r) h k =
       subst (λ z. comes_before places by z w ≡ false) (sym p)
       (subst (λ z. comes_before places by (made b x) z ≡ false) (sym r)
       (before-null b x ∙ (sym (before-null b y)
-      ∙ subst (λ z. comes_before places by (made b y) z ≡ false) r (subst (λ z. comes_before places by z w ≡ false) q k))))
+      ∙ subst (λ z. comes_before places by (made b y) z ≡ false) r
+      (subst (λ z. comes_before places by z w ≡ false) q k))))
   made-over b u v w (inr (x, p)) (inr (y, q)) (inr (z, r)) h k =
       subst (λ l. comes_before places by l w ≡ false) (sym p)
       (subst (λ l. comes_before places by (made b x) l ≡ false) (sym r)
       (before-made b x z ∙ either-over (descends by) b x y z
-      (sym (before-made b x y) ∙ subst (λ l. comes_before places by (made b x) l ≡ false) q (subst (λ l. comes_before places by l v ≡ false) p h))
-      (sym (before-made b y z) ∙ subst (λ l. comes_before places by (made b y) l ≡ false) r (subst (λ l. comes_before places by l w ≡ false) q k))))
+      (sym (before-made b x y)
+      ∙ subst (λ l. comes_before places by (made b x) l ≡ false) q
+      (subst (λ l. comes_before places by l v ≡ false) p h))
+      (sym (before-made b y z)
+      ∙ subst (λ l. comes_before places by (made b y) l ≡ false) r
+      (subst (λ l. comes_before places by l w ≡ false) q k))))
 
 -- the same of rows, by the first item in which they differ
 first_false : (a c : Bool) → (a || c) ≡ false → a ≡ false
@@ -221,8 +229,10 @@ row-over places (by ∷ items) (t ∷ types) (x ∷ xs) (y ∷ ys) (z ∷ zs) fx
         → (row_before places items xs ys ≡ false → row_before places items ys zs ≡ false
         → row_before places items xs zs ≡ false) → row_before places items xs zs ≡ false
     later e next =
-        both (or_later (comes_before places by y x) (row_before places items xs ys) (then_false (comes_before places by x y) _ h))
-        (or_later (comes_before places by z y) (row_before places items ys zs) (then_false (comes_before places by y z) _ k))
+        both (or_later (comes_before places by y x) (row_before places items xs ys)
+        (then_false (comes_before places by x y) _ h))
+        (or_later (comes_before places by z y) (row_before places items ys zs)
+        (then_false (comes_before places by y z) _ k))
       where
         both : (comes_before places by y x ≡ true) ⊎ (row_before places items xs ys ≡ false)
             → (comes_before places by z y ≡ true) ⊎ (row_before places items ys zs ≡ false)
@@ -289,7 +299,8 @@ module _ (key : Line → Row) (before : Line → Line → Bool) where
   left-pairwise seen (x ∷ xs) h =
       go (is_keyed key (key x) seen) (left-pairwise seen xs h.1) (left-pairwise (x ∷ seen) xs h.1)
     where
-      go : (b : Bool) → IsPairwise before (first_of_each key seen xs) → IsPairwise before (first_of_each key (x ∷ seen) xs)
+      go : (b : Bool) → IsPairwise before (first_of_each key seen xs)
+          → IsPairwise before (first_of_each key (x ∷ seen) xs)
           → IsPairwise before (if b then first_of_each key seen xs else x ∷ first_of_each key (x ∷ seen) xs)
       go true a b = a
       go false a b = (first_of_each-each (λ y. before y x ≡ false) key (x ∷ seen) xs h.0, b)
@@ -363,8 +374,10 @@ pub first-left : FirstIsLeft
 first-left places items types lines fit ordered = (
   in-order (row_before places items) (map (λ l. l.order) (first_of_each (λ l. l.key) [] lines))
       (path-map (λ l. l.order) (row_before places items) (first_of_each (λ l. l.key) [] lines)
-      (path-pairwise (λ l m. row_before places items l.order m.order) (first_of_each (λ l. l.key) [] lines) (left-pairwise (λ l. l.key) (λ l m. row_before places items l.order m.order) [] lines pairwise))),
-  leads (λ l. l.key) (λ l m. row_before places items l.order m.order) (λ l. itself l.order (row_before places items l.order l.order) refl) [] lines pairwise,
+      (path-pairwise (λ l m. row_before places items l.order m.order) (first_of_each (λ l. l.key) [] lines)
+      (left-pairwise (λ l. l.key) (λ l m. row_before places items l.order m.order) [] lines pairwise))),
+  leads (λ l. l.key) (λ l m. row_before places items l.order m.order)
+      (λ l. itself l.order (row_before places items l.order l.order) refl) [] lines pairwise,
 )
   where
     itself : (row : Row) (b : Bool) → row_before places items row row ≡ b → b ≡ false

@@ -110,9 +110,11 @@ row-asymmetric places [] x y e = absurd (false≢true e)
 row-asymmetric places (by ∷ items) [] y e = absurd (false≢true e)
 row-asymmetric places (by ∷ items) (x ∷ xs) [] e = absurd (false≢true e)
 row-asymmetric places (by ∷ items) (x ∷ xs) (y ∷ ys) e =
-    go (comes_before places by x y) (comes_before places by y x) (comes-asymmetric places by x y) (row-asymmetric places items xs ys) e
+    go (comes_before places by x y) (comes_before places by y x) (comes-asymmetric places by x y)
+    (row-asymmetric places items xs ys) e
   where
-    go : (a b : Bool) → (a ≡ true → b ≡ false) → (row_before places items xs ys ≡ true → row_before places items ys xs ≡ false)
+    go : (a b : Bool) → (a ≡ true → b ≡ false)
+        → (row_before places items xs ys ≡ true → row_before places items ys xs ≡ false)
         → (a || (not b && row_before places items xs ys)) ≡ true → (b || (not a && row_before places items ys xs)) ≡ false
     go true true f r h = absurd (false≢true (sym (f refl)))
     go true false f r h = refl

@@ -25,7 +25,8 @@ module _ (key : Line → Row) (before : Line → Line → Bool) where
   keyed-insert row x [] = refl
   keyed-insert row x (y ∷ ys) = go (before y x) (keyed-insert row x ys)
     where
-      exchanged : (a b c : Bool) → (if a then true else (if b then true else c)) ≡ (if b then true else (if a then true else c))
+      exchanged : (a b c : Bool)
+          → (if a then true else (if b then true else c)) ≡ (if b then true else (if a then true else c))
       exchanged true true c = refl
       exchanged true false c = refl
       exchanged false b c = refl

@@ -26,7 +26,8 @@ sorted before [] = []
 sorted before (x ∷ xs) = insert before x (sorted before xs)
 
 module _ {A : Type 0} (before : A → A → Bool) where
-  follows-insert : (x y : A) (ys : List A) → before x y ≡ false → Follows before y ys → Follows before y (insert before x ys)
+  follows-insert : (x y : A) (ys : List A) → before x y ≡ false → Follows before y ys
+      → Follows before y (insert before x ys)
   follows-insert x y [] e h = e
   follows-insert x y (z ∷ zs) e h = go (before z x)
     where

@@ -109,7 +109,8 @@ keyed-good : (P : Frame → Type 0) (keys : List Row) (rows : List Frame) → Ea
     → AreGood P (keyed_groups keys rows)
 keyed-good P [] rows h = tt
 keyed-good P (key ∷ keys) [] h = tt
-keyed-good P (key ∷ keys) (row ∷ rows) h = with_row-good P key row h.0 (keyed_groups keys rows) (keyed-good P keys rows h.1)
+keyed-good P (key ∷ keys) (row ∷ rows) h = with_row-good P key row h.0 (keyed_groups keys rows)
+    (keyed-good P keys rows h.1)
 
 alone-good : (P : Frame → Type 0) (Empty : Type 0) (rows : List Frame) → Each P rows
     → Each (IsGood P Empty) (map alone rows)
@@ -117,7 +118,8 @@ alone-good P Empty [] h = tt
 alone-good P Empty (row ∷ rows) h = (((h.0, tt), λ e. absurd cc), alone-good P Empty rows h.1)
 
 groups-good : (places : NullPlaces) (db : Database) (P : Frame → Type 0) (Empty : Type 0) (g : MaybeExpr) (counted : Bool)
-    (rows : List Frame) (groups : List Group) → (¬ Present g → counted ≡ true → Empty) → GroupedBy places g counted db rows groups
+    (rows : List Frame) (groups : List Group) → (¬ Present g → counted ≡ true → Empty)
+    → GroupedBy places g counted db rows groups
     → Each P rows → Each (IsGood P Empty) groups
 groups-good places db P Empty (an_expr g) counted rows groups tight (keys, zip, groups_are) h =
     Each-permutation (IsGood P Empty) (map (λ group. group.rows) (keyed_groups keys rows)) groups groups_are
@@ -192,7 +194,8 @@ module _ (places : NullPlaces) (schema : Declarations) (d : Dialect) (db : Datab
   mutual
     gives-fit : (e : Expr) (ls : List Leaf) (f : Group) (ts : List SqlType) (vs : List Value)
         → Each (NodeFits (map (λ l. l.origin) ls)) (nodes e)
-        → IsFine schema d (in_expr (map (λ l. l.origin) ls) e) → Each (FrameFits ls) f → element_types (given e) ≡ map Some ts
+        → IsFine schema d (in_expr (map (λ l. l.origin) ls) e) → Each (FrameFits ls) f
+        → element_types (given e) ≡ map Some ts
         → Gives places e db f vs
         → AllFit (Cause ls f (bare e) (IsLoose e)) ts vs
     gives-fit (column o c) ls f ts vs n p fits t g =
@@ -206,16 +209,19 @@ module _ (places : NullPlaces) (schema : Declarations) (d : Dialect) (db : Datab
         one-step (Cause ls f [] ⊥) big_type (V.BigInt (pos (length f))) ts vs t g
         (λ u is. inl (counted-fits (Some big) (length f) u is))
     gives-fit (nullable e) ls f ts vs n p fits t g =
-        nullable-step (Cause ls f (bare e) (IsLoose e)) (Cause ls f [] ⊥) (given e) ts vs t (λ us is. gives-fit e ls f us vs n.1 p fits is g)
+        nullable-step (Cause ls f (bare e) (IsLoose e)) (Cause ls f [] ⊥) (given e) ts vs t
+        (λ us is. gives-fit e ls f us vs n.1 p fits is g)
     gives-fit (unary o e) ls f ts vs n p fits t g =
         one-step (Cause ls f (bare e) (IsLoose e)) (unary_type o (only_type (given e))) (unary_value o g.0) ts vs t g.2
         (λ u is. unary-step (Cause ls f (bare e) (IsLoose e)) o g.0 (only_type (given e)) u is
         (λ w w_is. (gives-fit e ls f (w ∷ []) (g.0 ∷ []) n.1 p fits (only-typed (given e) w w_is) g.1).0))
     gives-fit (count e) ls f ts vs n p fits t g =
-        one-step (Cause ls f (bare e) ⊥) (if_typed (only_type (given e)) big_type) (V.BigInt (pos (not_nulls g.0))) ts vs t g.2
+        one-step (Cause ls f (bare e) ⊥) (if_typed (only_type (given e)) big_type)
+        (V.BigInt (pos (not_nulls g.0))) ts vs t g.2
         (λ u is. inl (counted-fits (only_type (given e)) (not_nulls g.0) u is))
     gives-fit (compared by a b) ls f ts vs n p fits t g =
-        one-step (Cause ls f (bare a ++ bare b) (IsLoose a ⊎ IsLoose b)) (compared_type (only_type (given a)) (only_type (given b)))
+        one-step (Cause ls f (bare a ++ bare b) (IsLoose a ⊎ IsLoose b))
+        (compared_type (only_type (given a)) (only_type (given b)))
         (compared_value by g.0 g.1) ts vs t g.4
         (λ u is. compared-step (Cause ls f (bare a ++ bare b) (IsLoose a ⊎ IsLoose b)) by g.0 g.1 (only_type (given a))
         (only_type (given b)) u is
@@ -228,9 +234,11 @@ module _ (places : NullPlaces) (schema : Declarations) (d : Dialect) (db : Datab
         (fine-right schema d (in_expr (map (λ l. l.origin) ls) a) (in_expr (map (λ l. l.origin) ls) b) p) fits
         (only-typed (given b) w w_is) g.3).0)))
     gives-fit (joined by a b) ls f ts vs n p fits t g =
-        one-step (Cause ls f (bare a ++ bare b) (IsLoose a ⊎ IsLoose b)) (joined_type (only_type (given a)) (only_type (given b)))
+        one-step (Cause ls f (bare a ++ bare b) (IsLoose a ⊎ IsLoose b))
+        (joined_type (only_type (given a)) (only_type (given b)))
         (joined_value by g.0 g.1) ts vs t g.4
-        (λ u is. joined-step (Cause ls f (bare a ++ bare b) (IsLoose a ⊎ IsLoose b)) by g.0 g.1 (only_type (given a)) (only_type (given b)) u is
+        (λ u is. joined-step (Cause ls f (bare a ++ bare b) (IsLoose a ⊎ IsLoose b)) by g.0 g.1
+        (only_type (given a)) (only_type (given b)) u is
         (λ w w_is. Fit-weaken w g.0 (cause_left ls f (bare a) (bare b) (IsLoose a) (IsLoose b))
         ((gives-fit a ls f (w ∷ []) (g.0 ∷ []) (Each-front _ (nodes a) (nodes b) n.1)
         (fine-left schema d (in_expr (map (λ l. l.origin) ls) a) (in_expr (map (λ l. l.origin) ls) b) p) fits
@@ -247,7 +255,8 @@ module _ (places : NullPlaces) (schema : Declarations) (d : Dialect) (db : Datab
         (λ u is. single-step (Cause ls f [] ⊥) g.0 (columns q) u is
         (λ us are. answers-fit q (map (λ l. l.origin) ls) (one_row f) us g.0 p are g.1))
     gives-fit (among_values neg e ty xs) ls f ts vs n p fits t g =
-        one-step (Cause ls f (bare e) (IsLoose e)) (among_type (only_type (given e)) ty xs) (among_value neg g.0 xs) ts vs t g.2
+        one-step (Cause ls f (bare e) (IsLoose e)) (among_type (only_type (given e)) ty xs)
+        (among_value neg g.0 xs) ts vs t g.2
         (λ u is. among_values-step (Cause ls f (bare e) (IsLoose e)) neg g.0 xs ty (only_type (given e)) u is
         (λ w w_is. (gives-fit e ls f (w ∷ []) (g.0 ∷ []) n.1 p fits (only-typed (given e) w w_is) g.1).0))
     gives-fit (among_rows neg e q) ls f ts vs n p fits t g =
@@ -267,13 +276,16 @@ module _ (places : NullPlaces) (schema : Declarations) (d : Dialect) (db : Datab
         → AllFit (Cause ls f (bare_of es) (AreLoose es)) ts vs
     all-fit no_exprs ls f ts vs n p fits t g = no_exprs-step (Cause ls f [] ⊥) ts vs t g
     all-fit (more_exprs e es) ls f ts vs n p fits t g =
-        more_exprs-step (Cause ls f (bare e ++ bare_of es) (IsLoose e ⊎ AreLoose es)) (element_types (given e)) (given_each es) ts g.0 g.1 vs t g.4
-        (λ us are. all-weaken (Cause ls f (bare e) (IsLoose e)) (Cause ls f (bare e ++ bare_of es) (IsLoose e ⊎ AreLoose es)) us g.0
+        more_exprs-step (Cause ls f (bare e ++ bare_of es) (IsLoose e ⊎ AreLoose es)) (element_types (given e))
+        (given_each es) ts g.0 g.1 vs t g.4
+        (λ us are. all-weaken (Cause ls f (bare e) (IsLoose e))
+        (Cause ls f (bare e ++ bare_of es) (IsLoose e ⊎ AreLoose es)) us g.0
         (cause_left ls f (bare e) (bare_of es) (IsLoose e) (AreLoose es))
         (gives-fit e ls f us g.0 (Each-front _ (nodes e) (nodes_of es) n)
         (fine-left schema d (in_expr (map (λ l. l.origin) ls) e) (in_exprs (map (λ l. l.origin) ls) es) p) fits are
         g.2))
-        (λ ws are. all-weaken (Cause ls f (bare_of es) (AreLoose es)) (Cause ls f (bare e ++ bare_of es) (IsLoose e ⊎ AreLoose es)) ws g.1
+        (λ ws are. all-weaken (Cause ls f (bare_of es) (AreLoose es))
+        (Cause ls f (bare e ++ bare_of es) (IsLoose e ⊎ AreLoose es)) ws g.1
         (cause_right ls f (bare e) (bare_of es) (IsLoose e) (AreLoose es))
         (all-fit es ls f ws g.1 (Each-end _ (nodes e) (nodes_of es) n)
         (fine-right schema d (in_expr (map (λ l. l.origin) ls) e) (in_exprs (map (λ l. l.origin) ls) es) p) fits are
@@ -287,14 +299,16 @@ module _ (places : NullPlaces) (schema : Declarations) (d : Dialect) (db : Datab
         let kept = is-kept schema d outer (the_select e f u w o rows g h form marks) (λ r i. p.0 r (inl i)) in
         let inside : IsFine schema d
         (in_distinct (origins_of f) u ++ (in_expr (origins_of f) e ++ (in_from f ++ (in_maybe (widest form f outer) w
-        ++ (in_maybe (origins_of f) g ++ (in_maybe (origins_of f) h ++ in_order (origins_of f) o)))))) = (λ r i. p.0 r (inr i), λ i. p.1 (inr i)) in
+        ++ (in_maybe (origins_of f) g ++ (in_maybe (origins_of f) h ++ in_order (origins_of f) o)))))) =
+        (λ r i. p.0 r (inr i), λ i. p.1 (inr i)) in
         select-fits default e f u w o rows g h form marks frame us ts answer kept (tight g p)
         (λ row vs fits gives. gives-fit e (leaves_of f) row us vs kept.nodes
         (fine-left schema d (in_expr (origins_of f) e) _
         (fine-right schema d (in_distinct (origins_of f) u) _ inside)) fits are gives)
         shown a
       where
-        tight : (k : MaybeExpr) → IsFine schema d (parts outer (select default e f u w o rows k h form marks)) → ¬ Present k
+        tight : (k : MaybeExpr) → IsFine schema d (parts outer (select default e f u w o rows k h form marks))
+            → ¬ Present k
             → counts e u o ≡ true → ¬ IsLoose e
         tight (an_expr k) q absent counted = absurd (absent tt)
         tight no_expr q absent counted =

@@ -92,7 +92,8 @@ leaf-rows db o may_lack l e rows h =
     (λ row fits. (record { same = sym e; row = inl (subst (λ p. RowFits (types_in p.table) row) (sym e) fits) }, tt))
     (db o.table) h
 
-pub source-fits : (places : NullPlaces) (schema : Declarations) (db : Database) → Conforms schema db → (s : Source) (rows : List Frame)
+pub source-fits : (places : NullPlaces) (schema : Declarations) (db : Database) → Conforms schema db
+    → (s : Source) (rows : List Frame)
     → AreDeclared schema (leaves s) → SourceRows places s db rows → Each (FrameFits (leaves s)) rows
 source-fits places schema db ok (of_table t only sample) rows h g =
     IsPart-each _ (is_partial only sample) _ rows g
@@ -117,7 +118,8 @@ source-fits places schema db ok (join kind l r on) rows h g =
     g.4
     (source-fits places schema db ok l g.0 left g.2)
 
-pub from-fits : (places : NullPlaces) (schema : Declarations) (db : Database) → Conforms schema db → (s : From) (rows : List Frame)
+pub from-fits : (places : NullPlaces) (schema : Declarations) (db : Database) → Conforms schema db
+    → (s : From) (rows : List Frame)
     → AreDeclared schema (leaves_of s) → FromRows places s db rows → Each (FrameFits (leaves_of s)) rows
 from-fits places schema db ok no_source rows h g = rw g (tt, tt)
 from-fits places schema db ok (from s) rows h g = source-fits places schema db ok s rows h g

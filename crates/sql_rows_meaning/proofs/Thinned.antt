@@ -39,7 +39,8 @@ thinned (z ∷ zs) c h = go (nat_lt (count_row z zs) (c z)) refl (λ fewer_of k.
         → (out : List Row) × ((row : Row) → count_row row out ≡ k row))
         → (out : List Row) × ((row : Row) → count_row row out ≡ c row)
     go true e thin =
-        let rest = thin (λ row. if same_row row z then c row - 1 else c row) (λ row. fewer row (same_row row z) refl (h row)) in
+        let rest = thin (λ row. if same_row row z then c row - 1 else c row)
+        (λ row. fewer row (same_row row z) refl (h row)) in
         let l : 0 < c z = grind arith in
         (z ∷ rest.0, λ row. one_more row (count_row row rest.0) (same_row row z) refl l (rest.1 row))
     go false e thin =

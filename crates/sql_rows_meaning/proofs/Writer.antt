@@ -21,7 +21,8 @@ abbrev five : Line
 five = record { shown = V.Integer (pos 5) ∷ []; key = []; order = [] }
 
 -- the first user has the post
-has_post : (places : NullPlaces) → Answers places posts_of_user database (user 1 (codes "a")) ((V.Integer (pos 5) ∷ []) ∷ [])
+has_post : (places : NullPlaces)
+    → Answers places posts_of_user database (user 1 (codes "a")) ((V.Integer (pos 5) ∷ []) ∷ [])
 unfolding compared_value
 has_post places = (
   post ∷ [],

@@ -117,8 +117,8 @@ positional_items (Some is) = is
 module _ (places : NullPlaces) where
   abbrev mutual
     -- An expression gives one value in a group of rows, and a list those of its elements; nullables change no value. A column has
-    -- the value of any one row of the group. COUNT(*) is the number of its rows, COUNT of an expression the number of those in which
-    -- its value isn't NULL. A subselect may give any one of its answers, in the frame of that one row.
+    -- the value of any one row of the group. COUNT(*) is the number of its rows, COUNT of an expression the number of those in
+    -- which its value isn't NULL. A subselect may give any one of its answers, in the frame of that one row.
     pub Gives : Expr → Database → Group → List Value → Type 0
     Gives (column o c) db rows vs = vs ≡ value_of o c (one_row rows) ∷ []
     Gives (value t x) db rows vs = vs ≡ x ∷ []
@@ -166,8 +166,8 @@ module _ (places : NullPlaces) where
     FromRows no_source db rows = rows ≡ [] ∷ []
     FromRows (from f) db rows = SourceRows f db rows
 
-    -- Rows are grouped by the values of GROUP BY, and the groups come in any order. Without it all rows are one group where something
-    -- is counted, also where there are none, and else each row is one.
+    -- Rows are grouped by the values of GROUP BY, and the groups come in any order. Without it all rows are one group where
+    -- something is counted, also where there are none, and else each row is one.
     pub GroupedBy : MaybeExpr → Bool → Database → List Frame → List Group → Type 0
     GroupedBy (an_expr g) counted db rows groups =
         (keys : List Row) × AllZip (λ row key. Gives g db (alone row) key) rows keys
@@ -189,10 +189,10 @@ module _ (places : NullPlaces) where
     OrderGives no_order db rows vs = vs ≡ []
     OrderGives (order_by is) db rows vs = ItemsGive is db rows vs
 
-    -- Of the rows of the source those pass for which WHERE is true; they are taken in any order, under SKIP LOCKED perhaps not all,
-    -- and grouped. Each group for which HAVING is true gives a line. DISTINCT leaves the first of each key. The lines are in the
-    -- order that ORDER BY asks, and LIMIT and OFFSET cut them. In a combination each row is as often as its counts on both sides
-    -- say.
+    -- Of the rows of the source those pass for which WHERE is true; they are taken in any order, under SKIP LOCKED perhaps not
+    -- all, and grouped. Each group for which HAVING is true gives a line. DISTINCT leaves the first of each key. The lines are in
+    -- the order that ORDER BY asks, and LIMIT and OFFSET cut them. In a combination each row is as often as its counts on both
+    -- sides say.
     pub Answers : Statement → Database → Frame → List Row → Type 0
     Answers (select default e f u w o rows g h form marks) db outer answer =
         (all passing taken : List Frame) × (groups kept : List Group) × (lines : List Line)
@@ -201,7 +201,8 @@ module _ (places : NullPlaces) where
         × IsPart (may_skip form) passing taken
         × GroupedBy g (counts e u o) db taken groups
         × Filtered (λ group t. Holds h db group t) groups kept
-        × AllZip (λ group line. Gives e db group line.shown × KeyGives u db group line.key × OrderGives o db group line.order)
+        × AllZip
+        (λ group line. Gives e db group line.shown × KeyGives u db group line.key × OrderGives o db group line.order)
         kept lines
         × IsOrdered places (directions o) (map (λ line. line.order) (ordered_by u lines))
         × (answer ≡ page rows (map (λ line. line.shown) (left_by u lines)))

@@ -20,7 +20,8 @@ grouping e g =
 -- `SELECT users.id, COUNT(posts.id) FROM users LEFT OUTER JOIN posts ON .. GROUP BY users.id`
 abbrev pub posts_of_each : Statement
 posts_of_each =
-    grouping (list (more_exprs (of_users id) (more_exprs (count (nullable (of_posts id))) no_exprs))) (an_expr (of_users id))
+    grouping (list (more_exprs (of_users id) (more_exprs (count (nullable (of_posts id))) no_exprs)))
+    (an_expr (of_users id))
 
 -- `SELECT COUNT(*), COUNT(posts.id) FROM users LEFT OUTER JOIN posts ON ..`
 abbrev pub in_all : Statement

@@ -24,9 +24,9 @@ RowFits types row = AllZip (λ t x. fits t x ≡ true) types row
 abbrev pub Conforms : Declarations → Database → Type 0
 Conforms schema db = Each (λ t. Each (RowFits (map (λ c. c.ty) t.columns)) (db t)) schema.tables
 
--- A boxed statement counts in its ORDER BY or DISTINCT ON alone, and has no GROUP BY. The rule Grouping does not compare these with what
--- such a statement selects. Where no row passes, its one group has none, and a column that is selected is NULL (SQLite, SELECT,
--- Bare columns in an aggregate query).
+-- A boxed statement counts in its ORDER BY or DISTINCT ON alone, and has no GROUP BY. The rule Grouping does not compare these
+-- with what such a statement selects. Where no row passes, its one group has none, and a column that is selected is NULL (SQLite,
+-- SELECT, Bare columns in an aggregate query).
 abbrev pub CountsBeside : Part → Type 0
 CountsBeside (a_select outer s) =
     (¬ IsUnboxed s.form) × (¬ Present s.group_by) × (holds_aggregate s.selection ≡ false)

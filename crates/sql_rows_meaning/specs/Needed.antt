@@ -33,4 +33,5 @@ pub record RuleIsNeeded : Type 0 where
   pub alone : (d : Dialect) (r : Rule) → Broken r blog d bare_statement ↔ (r ≡ NeedsNullable)
   pub uncounted : ¬ AnyOf CountsBeside (parts [] bare_statement)
   pub types : map Some bare_types ≡ columns bare_statement
-  pub unfit : (places : NullPlaces) → (answer : List Row) × Answers places bare_statement database [] answer × ¬ Each (RowFits bare_types) answer
+  pub unfit : (places : NullPlaces)
+      → (answer : List Row) × Answers places bare_statement database [] answer × ¬ Each (RowFits bare_types) answer

@@ -56,8 +56,8 @@ as_greatest = record { ascending = false; descending = true }
 abbrev pub as_least : NullPlaces
 as_least = record { ascending = true; descending = false }
 
--- PostgreSQL takes NULL for greater than every value (Sorting Rows), MySQL (Working with NULL Values), SQLite (SELECT, The ORDER BY
--- clause) and Bracket for less.
+-- PostgreSQL takes NULL for greater than every value (Sorting Rows), MySQL (Working with NULL Values), SQLite (SELECT, The ORDER
+-- BY clause) and Bracket for less.
 abbrev pub null_places : Dialect → NullPlaces
 null_places Pg = as_greatest
 null_places Mysql = as_least

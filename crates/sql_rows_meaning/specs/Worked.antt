@@ -76,8 +76,8 @@ abbrev pub IsFirst : NullPlaces → List Direction → List Line → Line → Ty
 IsFirst places items lines c =
     Each (λ l. same_row c.key l.key ≡ true → row_before places items l.order c.order ≡ false) lines
 
--- Of lines in an order DISTINCT ON leaves the first by that order of each key, and these are in that order: where the values of each item
--- are of one type.
+-- Of lines in an order DISTINCT ON leaves the first by that order of each key, and these are in that order: where the values of
+-- each item are of one type.
 abbrev pub FirstIsLeft : Type 0
 FirstIsLeft =
     (places : NullPlaces) (items : List Direction) (types : List SqlType) (lines : List Line)
