@@ -22,8 +22,8 @@ ghost use Rattle.sql_rows_meaning.specs.Rows.{NullPlaces, Row};
 ghost use Rattle.sql_rows_meaning.specs.Ungrouped.{IsUngrouped, RowAnswers};
 ghost use Rattle.sql_rows_meaning.specs.Worked.{AreWorked, FirstIsAny, FirstIsLeft};
 
-/// A statement that breaks no rule answers, over every database that conforms, only rows that fit the types of its columns: a column
-/// whose type is not nullable never gives NULL. COUNT gives a number, also where it counts nothing.
+/// A statement that breaks no rule answers, over every database that conforms, only rows that fit the types of its columns: a
+/// column whose type is not nullable never gives NULL. COUNT gives a number, also where it counts nothing.
 pub fn types_are_sound()
     ensures { (schema : Declarations) (d : Dialect) (s : Statement) (types : List SqlType)
         → Accepted schema d s → map Some types ≡ columns s → AnswersFit schema s types }
@@ -61,8 +61,8 @@ pub fn first_is_any()
     ensures { FirstIsAny }
 {}
 
-/// `DISTINCT ON` with an order leaves the first row by that order of each key, as PostgreSQL does: no row of its key comes before it. What is
-/// left is in that order too, so each answer is one of those where any row of each key may be left.
+/// `DISTINCT ON` with an order leaves the first row by that order of each key, as PostgreSQL does: no row of its key comes before
+/// it. What is left is in that order too, so each answer is one of those where any row of each key may be left.
 pub fn first_by_the_order_is_left()
     ensures { FirstIsLeft }
 {}
@@ -73,8 +73,8 @@ pub fn ungrouped_answers_are_the_same()
         → Answers places s db outer answer ↔ RowAnswers places s db outer answer }
 {}
 
-/// The laws are of something: a statement that breaks no rule has an answer over every database, whether or not that conforms, wherever
-/// NULL comes in orders.
+/// The laws are of something: a statement that breaks no rule has an answer over every database, whether or not that conforms,
+/// wherever NULL comes in orders.
 pub fn accepted_statements_have_answers()
     ensures { (schema : Declarations) (d : Dialect) (s : Statement) → Accepted schema d s
         → (places : NullPlaces) (db : Database) → (answer : List Row) × Answers places s db [] answer }
