@@ -141,15 +141,20 @@ pub use Rattle.sql_rows.specs.Entries
 pub use Rattle.sql_rows.specs.declared.cache.RequestKey
 -- What statements answer.
 pub use Rattle.sql_rows_meaning.specs.Answers
+pub use Rattle.sql_rows_meaning.specs.Counted as CountedAnswers
 pub use Rattle.sql_rows_meaning.specs.Example as AnswerExample
 pub use Rattle.sql_rows_meaning.specs.Fitting as AnswerFitting
 pub use Rattle.sql_rows_meaning.specs.Frames
+pub use Rattle.sql_rows_meaning.specs.Groups as AnswerGroups
 pub use Rattle.sql_rows_meaning.specs.LastWriter
 pub use Rattle.sql_rows_meaning.specs.Needed
 pub use Rattle.sql_rows_meaning.specs.Rows
+pub use Rattle.sql_rows_meaning.specs.Ungrouped as UngroupedAnswers
 pub use Rattle.sql_rows_meaning.specs.Values
 pub use Rattle.sql_rows_meaning.specs.Worked as WorkedAnswers
 -- Statements restricted to one tenant.
+pub use Rattle.sql_guard_law.specs.Guarded as GuardedStatements
+pub use Rattle.sql_guard_law.specs.Policies
 pub use Rattle.sql_guard_law.specs.Restricted
 pub use Rattle.sql_guard_law.specs.Tenant
 pub use Rattle.sql_guard_law.specs.Worked as WorkedRestriction

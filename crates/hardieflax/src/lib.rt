@@ -87,14 +87,18 @@ pub use sql_check::{
 
 // `compile` with column types that are right for NULL, a cache of its answers, and what statements answer.
 pub use sql_rows::{
-    RequestKey, StatementCache, answered_pairs_come_first, calls_are_answered_alone, compile_sound,
-    compile_sound_by, equal_ids, first_is_any, last_writer_is_an_answer, left_join_has_two_answers,
-    needs_nullable_is_needed, one_answer, operators_work, the_example_is_accepted, types_are_sound,
+    RequestKey, StatementCache, accepted_statements_have_answers, answered_pairs_come_first,
+    calls_are_answered_alone, compile_sound, compile_sound_by, equal_ids,
+    first_by_the_order_is_left, first_is_any, last_writer_is_an_answer, left_join_has_two_answers,
+    needs_nullable_is_needed, one_answer, operators_work, posts_are_counted,
+    the_example_is_accepted, types_are_sound, ungrouped_answers_are_the_same,
 };
 
 // The tenant guard.
 pub use sql_guard::{
-    RestrictError, on_is_needed, restrict, restriction_is_exact, restriction_keeps_the_rules,
+    RestrictError, guard_is_exact, guard_keeps_the_rules, guarded_statements_have_answers,
+    on_is_needed, only_seen_rows_matter, other_rows_do_not_matter, restrict, restriction_is_exact,
+    restriction_keeps_the_rules, without_subselects_restricting_is_enough,
 };
 
 // The laws: of the grammar, of what statements are read as, and of statements that break no rule or have one shape.

@@ -11,4 +11,8 @@ mod restriction;
 
 pub use error::RestrictError;
 pub use restriction::restrict;
-pub use sql_guard_law::{on_is_needed, restriction_is_exact, restriction_keeps_the_rules};
+pub use sql_guard_law::{
+    guard_is_exact, guard_keeps_the_rules, guarded_statements_have_answers, on_is_needed,
+    only_seen_rows_matter, other_rows_do_not_matter, restriction_is_exact,
+    restriction_keeps_the_rules, without_subselects_restricting_is_enough,
+};

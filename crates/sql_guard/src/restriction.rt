@@ -2,7 +2,6 @@ ghost use Rattle.std.specs.Prelude.{◌≡◌, IfOk, IfErr};
 ghost use Rattle.sql_schema.specs.Declarations.{Declarations};
 ghost use Rattle.sql_dialect.specs.declared.backend.Dialect.{Dialect};
 ghost use Rattle.sql_node.specs.View.{expr_tree, statement_tree};
-ghost use Rattle.sql_rules.specs.Rules.{Accepted};
 ghost use Rattle.sql_guard_law.specs.Restricted.{restricted};
 ghost use Rattle.sql_guard_law.specs.Tenant.{AnswersAsCut, BreaksAtMostTooManyBinds};
 ghost use Rattle.sql_guard.specs.Refused.{IsRefusal, MayRestrict};
@@ -33,11 +32,11 @@ pub fn restrict(
     ensures kind { IfOk result (λ r. MayRestrict table.now (expr_tree predicate.now)
         (statement_tree statement.now)) }
     ensures exact { IfOk result (λ r. (schema : Declarations) (d : Dialect)
-        → Accepted schema d (statement_tree statement.now)
+        → BreaksAtMostTooManyBinds schema d (statement_tree statement.now)
         → AnswersAsCut (statement_tree r) (statement_tree statement.now) table.now
         (expr_tree predicate.now)) }
     ensures rules { IfOk result (λ r. (schema : Declarations) (d : Dialect)
-        → Accepted schema d (statement_tree statement.now)
+        → BreaksAtMostTooManyBinds schema d (statement_tree statement.now)
         → BreaksAtMostTooManyBinds schema d (statement_tree r)) }
     ensures refused { IfErr result (λ e. IsRefusal e table.now (expr_tree predicate.now)
         (statement_tree statement.now)) }

@@ -1,5 +1,5 @@
 -- Expressions without aggregates and subselects have one value, whatever the database.
-use Rattle.std.proofs.Common.{◌≡◌, ℕ, ◌+◌, Bool, true, false, List, [], ◌∷◌, ◌++◌, map, length, Option, Some, None, refl, sym, ap, ap₂, subst, ◌∙◌, arith, inl, inr, if◌then◌else◌}
+use Rattle.std.proofs.Common.{◌≡◌, ℕ, ◌+◌, Bool, true, List, [], ◌∷◌, ◌++◌, map, length, Option, Some, None, refl, sym, ap, ap₂, subst, ◌∙◌, arith, inl, inr, if◌then◌else◌}
 use Rattle.std.proofs.lemmas.List.{length-append, length-map}
 use Rattle.sql_schema.specs.declared.types.SqlType.{SqlType}
 use Rattle.sql_schema.specs.declared.declaration.ColumnDecl.{ColumnDecl}
@@ -18,6 +18,8 @@ use Rattle.sql_rows_meaning.specs.Answers.{Gives, AllGive, Holds, first_value}
 use Rattle.sql_rows_meaning.specs.Frames.{Database, Frame, row_of, value_in, value_of}
 use Rattle.sql_guard_law.specs.Restricted.{predicate_under, predicate_of}
 use Rattle.sql_guard_law.specs.Tenant.{IsBeyond, IsOwn}
+use Rattle.sql_rows_meaning.specs.Groups.{Group, one_row}
+use Rattle.sql_rows_meaning.specs.Rows.{NullPlaces}
 use Rattle.sql_rows_meaning.specs.Values.{is_true, compared_value, joined_value, unary_value, among_value}
 use Rattle.sql_rows_meaning.proofs.Facts.{nulled}
 use Rattle.sql_rows_meaning.proofs.Lists.{Each-front, Each-end}
@@ -104,72 +106,48 @@ first_is x vs e = ap first_value e
 
 -- what is given is that
 mutual
-  pub gives-eval : (e : Expr) (db : Database) (f : Frame) (vs : List Value) → IsFlat e → Gives e db f vs → vs ≡ eval e f
-  gives-eval (column o c) db f vs h g = g
-  gives-eval (value t x) db f vs h g = g
-  gives-eval (list es) db f vs h g = gives_all-eval es db f vs h g
-  gives-eval count_star db f vs h g = absurd h
-  gives-eval (nullable e) db f vs h g = gives-eval e db f vs h g
-  gives-eval (unary u e) db f vs h g =
-      g.2 ∙ ap (λ x. unary_value u x ∷ []) (first_is g.0 _ (gives-eval e db f (g.0 ∷ []) h g.1))
-  gives-eval (count e) db f vs h g = absurd h
-  gives-eval (compared by a b) db f vs h g =
-      g.4 ∙ ap₂ (λ x y. compared_value by x y ∷ []) (first_is g.0 _ (gives-eval a db f (g.0 ∷ []) h.0 g.2))
-      (first_is g.1 _ (gives-eval b db f (g.1 ∷ []) h.1 g.3))
-  gives-eval (joined by a b) db f vs h g =
-      g.4 ∙ ap₂ (λ x y. joined_value by x y ∷ []) (first_is g.0 _ (gives-eval a db f (g.0 ∷ []) h.0 g.2))
-      (first_is g.1 _ (gives-eval b db f (g.1 ∷ []) h.1 g.3))
-  gives-eval (exists q) db f vs h g = absurd h
-  gives-eval (single q) db f vs h g = absurd h
-  gives-eval (among_values n e t xs) db f vs h g =
-      g.2 ∙ ap (λ x. among_value n x xs ∷ []) (first_is g.0 _ (gives-eval e db f (g.0 ∷ []) h g.1))
-  gives-eval (among_rows n e q) db f vs h g = absurd h
+  pub gives-eval : (places : NullPlaces) (e : Expr) (db : Database) (f : Group) (vs : List Value) → IsFlat e
+      → Gives places e db f vs → vs ≡ eval e (one_row f)
+  gives-eval places (column o c) db f vs h g = g
+  gives-eval places (value t x) db f vs h g = g
+  gives-eval places (list es) db f vs h g = gives_all-eval places es db f vs h g
+  gives-eval places count_star db f vs h g = absurd h
+  gives-eval places (nullable e) db f vs h g = gives-eval places e db f vs h g
+  gives-eval places (unary u e) db f vs h g =
+      g.2 ∙ ap (λ x. unary_value u x ∷ []) (first_is g.0 _ (gives-eval places e db f (g.0 ∷ []) h g.1))
+  gives-eval places (count e) db f vs h g = absurd h
+  gives-eval places (compared by a b) db f vs h g =
+      g.4 ∙ ap₂ (λ x y. compared_value by x y ∷ []) (first_is g.0 _ (gives-eval places a db f (g.0 ∷ []) h.0 g.2))
+      (first_is g.1 _ (gives-eval places b db f (g.1 ∷ []) h.1 g.3))
+  gives-eval places (joined by a b) db f vs h g =
+      g.4 ∙ ap₂ (λ x y. joined_value by x y ∷ []) (first_is g.0 _ (gives-eval places a db f (g.0 ∷ []) h.0 g.2))
+      (first_is g.1 _ (gives-eval places b db f (g.1 ∷ []) h.1 g.3))
+  gives-eval places (exists q) db f vs h g = absurd h
+  gives-eval places (single q) db f vs h g = absurd h
+  gives-eval places (among_values n e t xs) db f vs h g =
+      g.2 ∙ ap (λ x. among_value n x xs ∷ []) (first_is g.0 _ (gives-eval places e db f (g.0 ∷ []) h g.1))
+  gives-eval places (among_rows n e q) db f vs h g = absurd h
 
-  gives_all-eval : (es : Exprs) (db : Database) (f : Frame) (vs : List Value) → AreFlat es → AllGive es db f vs → vs
-      ≡ eval_all es f
-  gives_all-eval no_exprs db f vs h g = g
-  gives_all-eval (more_exprs e es) db f vs h g =
-      g.4 ∙ ap₂ ◌++◌ (gives-eval e db f g.0 h.0 g.2) (gives_all-eval es db f g.1 h.1 g.3)
-
--- what they give over one database they give over each
-mutual
-  pub gives-anywhere : (e : Expr) (db db' : Database) (f : Frame) (vs : List Value) → IsFlat e → Gives e db f vs
-      → Gives e db' f vs
-  gives-anywhere (column o c) db db' f vs h g = g
-  gives-anywhere (value t x) db db' f vs h g = g
-  gives-anywhere (list es) db db' f vs h g = gives_all-anywhere es db db' f vs h g
-  gives-anywhere count_star db db' f vs h g = absurd h
-  gives-anywhere (nullable e) db db' f vs h g = gives-anywhere e db db' f vs h g
-  gives-anywhere (unary n e) db db' f vs h g = (g.0, gives-anywhere e db db' f (g.0 ∷ []) h g.1, g.2)
-  gives-anywhere (count e) db db' f vs h g = absurd h
-  gives-anywhere (compared by a b) db db' f vs h g =
-      (g.0, g.1, gives-anywhere a db db' f (g.0 ∷ []) h.0 g.2, gives-anywhere b db db' f (g.1 ∷ []) h.1 g.3, g.4)
-  gives-anywhere (joined by a b) db db' f vs h g =
-      (g.0, g.1, gives-anywhere a db db' f (g.0 ∷ []) h.0 g.2, gives-anywhere b db db' f (g.1 ∷ []) h.1 g.3, g.4)
-  gives-anywhere (exists q) db db' f vs h g = absurd h
-  gives-anywhere (single q) db db' f vs h g = absurd h
-  gives-anywhere (among_values n e t xs) db db' f vs h g = (g.0, gives-anywhere e db db' f (g.0 ∷ []) h g.1, g.2)
-  gives-anywhere (among_rows n e q) db db' f vs h g = absurd h
-
-  gives_all-anywhere : (es : Exprs) (db db' : Database) (f : Frame) (vs : List Value) → AreFlat es → AllGive es db f vs
-      → AllGive es db' f vs
-  gives_all-anywhere no_exprs db db' f vs h g = g
-  gives_all-anywhere (more_exprs e es) db db' f vs h g =
-      (g.0, g.1, gives-anywhere e db db' f g.0 h.0 g.2, gives_all-anywhere es db db' f g.1 h.1 g.3, g.4)
+  gives_all-eval : (places : NullPlaces) (es : Exprs) (db : Database) (f : Group) (vs : List Value) → AreFlat es
+      → AllGive places es db f vs → vs
+      ≡ eval_all es (one_row f)
+  gives_all-eval places no_exprs db f vs h g = g
+  gives_all-eval places (more_exprs e es) db f vs h g =
+      g.4 ∙ ap₂ ◌++◌ (gives-eval places e db f g.0 h.0 g.2) (gives_all-eval places es db f g.1 h.1 g.3)
 
 -- ---- typed ones have a value, and as many as types
 
-abbrev HasAll : Expr → Database → Frame → List SqlType → Type 0
-HasAll e db f ts = Gives e db f (eval e f) × (length (eval e f) ≡ length ts)
+abbrev HasAll : NullPlaces → Expr → Database → Group → List SqlType → Type 0
+HasAll places e db f ts = Gives places e db f (eval e (one_row f)) × (length (eval e (one_row f)) ≡ length ts)
 
 one_value : (vs : List Value) → length vs ≡ 1 → vs ≡ first_value vs ∷ []
 one_value [] e = absurd (grind arith)
 one_value (v ∷ []) e = refl
 one_value (v ∷ (w ∷ vs)) e = absurd (grind arith)
 
-one-given : (e : Expr) (db : Database) (f : Frame) (t : SqlType) → HasAll e db f (t ∷ [])
-    → Gives e db f (first_value (eval e f) ∷ [])
-one-given e db f t h = subst (λ vs. Gives e db f vs) (one_value (eval e f) h.1) h.0
+pub one-given : (places : NullPlaces) (e : Expr) (db : Database) (f : Group) (t : SqlType) → HasAll places e db f (t ∷ [])
+    → Gives places e db f (first_value (eval e (one_row f)) ∷ [])
+one-given places e db f t h = subst (λ vs. Gives places e db f vs) (one_value (eval e (one_row f)) h.1) h.0
 
 one_long : (ts : List SqlType) (t : SqlType) → ts ≡ t ∷ [] → 1 ≡ length ts
 one_long ts t e = sym (ap length e)
@@ -179,68 +157,80 @@ no_types [] e = refl
 no_types (t ∷ ts) e = absurd cc
 
 mutual
-  pub eval-given : (e : Expr) (db : Database) (f : Frame) (ts : List SqlType) → IsFlat e → element_types (given e)
-      ≡ map Some ts → HasAll e db f ts
-  eval-given (column o c) db f ts h t = let (u, is, are) = one-typed (Some c.ty) ts t in (refl, one_long ts u are)
-  eval-given (value ty x) db f ts h t = let (u, is, are) = one-typed (Some ty) ts t in (refl, one_long ts u are)
-  eval-given (list es) db f ts h t = eval_all-given es db f ts h t
-  eval-given count_star db f ts h t = absurd h
-  eval-given (nullable e) db f ts h t =
+  pub eval-given : (places : NullPlaces) (e : Expr) (db : Database) (f : Group) (ts : List SqlType) → IsFlat e
+      → element_types (given e)
+      ≡ map Some ts → HasAll places e db f ts
+  eval-given places (column o c) db f ts h t = let (u, is, are) = one-typed (Some c.ty) ts t in (refl, one_long ts u are)
+  eval-given places (value ty x) db f ts h t = let (u, is, are) = one-typed (Some ty) ts t in (refl, one_long ts u are)
+  eval-given places (list es) db f ts h t = eval_all-given places es db f ts h t
+  eval-given places count_star db f ts h t = absurd h
+  eval-given places (nullable e) db f ts h t =
       let (us, are, ts_are) = all_nulled-typed (element_types (given e)) ts (sym (nulled_elements (given e)) ∙ t) in
-      let got = eval-given e db f us h are in
+      let got = eval-given places e db f us h are in
       (got.0, got.1 ∙ (sym (length-map us nulled) ∙ ap length (sym ts_are)))
-  eval-given (unary o e) db f ts h t =
+  eval-given places (unary o e) db f ts h t =
       let (u, is, are) = one-typed (unary_type o (only_type (given e))) ts t in
       let (w, w_is) = unary-typed o (only_type (given e)) u is in (
-        (first_value (eval e f), one-given e db f w (eval-given e db f (w ∷ []) h (only-typed (given e) w w_is)), refl),
+        (
+          first_value (eval e (one_row f)),
+          one-given places e db f w
+              (eval-given places e db f (w ∷ []) h (only-typed (given e) w w_is)),
+          refl,
+        ),
         one_long ts u are,
       )
-  eval-given (count e) db f ts h t = absurd h
-  eval-given (compared by a b) db f ts h t =
+  eval-given places (count e) db f ts h t = absurd h
+  eval-given places (compared by a b) db f ts h t =
       let (u, is, are) = one-typed (compared_type (only_type (given a)) (only_type (given b))) ts t in
       let (w, a_is, b_is, u_is) = compared-typed (only_type (given a)) (only_type (given b)) u is in (
         (
-          first_value (eval a f),
-          first_value (eval b f),
-          one-given a db f w (eval-given a db f (w ∷ []) h.0 (only-typed (given a) w a_is)),
-          one-given b db f w (eval-given b db f (w ∷ []) h.1 (only-typed (given b) w b_is)),
+          first_value (eval a (one_row f)),
+          first_value (eval b (one_row f)),
+          one-given places a db f w (eval-given places a db f (w ∷ []) h.0 (only-typed (given a) w a_is)),
+          one-given places b db f w (eval-given places b db f (w ∷ []) h.1 (only-typed (given b) w b_is)),
           refl,
         ),
         one_long ts u are,
       )
-  eval-given (joined by a b) db f ts h t =
+  eval-given places (joined by a b) db f ts h t =
       let (u, is, are) = one-typed (joined_type (only_type (given a)) (only_type (given b))) ts t in
       let (w, x, a_is, b_is, u_is) = joined-typed (only_type (given a)) (only_type (given b)) u is in (
         (
-          first_value (eval a f),
-          first_value (eval b f),
-          one-given a db f w (eval-given a db f (w ∷ []) h.0 (only-typed (given a) w a_is)),
-          one-given b db f x (eval-given b db f (x ∷ []) h.1 (only-typed (given b) x b_is)),
+          first_value (eval a (one_row f)),
+          first_value (eval b (one_row f)),
+          one-given places a db f w (eval-given places a db f (w ∷ []) h.0 (only-typed (given a) w a_is)),
+          one-given places b db f x (eval-given places b db f (x ∷ []) h.1 (only-typed (given b) x b_is)),
           refl,
         ),
         one_long ts u are,
       )
-  eval-given (exists q) db f ts h t = absurd h
-  eval-given (single q) db f ts h t = absurd h
-  eval-given (among_values n e ty xs) db f ts h t =
+  eval-given places (exists q) db f ts h t = absurd h
+  eval-given places (single q) db f ts h t = absurd h
+  eval-given places (among_values n e ty xs) db f ts h t =
       let (u, is, are) = one-typed (among_type (only_type (given e)) ty xs) ts t in
       let parts = among-typed (only_type (given e)) ty xs u is in
       let (w, e_is, ty_is, u_is) = compared-typed (only_type (given e)) (Some ty) u parts.1 in (
-        (first_value (eval e f), one-given e db f w (eval-given e db f (w ∷ []) h (only-typed (given e) w e_is)), refl),
+        (
+          first_value (eval e (one_row f)),
+          one-given places e db f w
+              (eval-given places e db f (w ∷ []) h (only-typed (given e) w e_is)),
+          refl,
+        ),
         one_long ts u are,
       )
-  eval-given (among_rows n e q) db f ts h t = absurd h
+  eval-given places (among_rows n e q) db f ts h t = absurd h
 
-  eval_all-given : (es : Exprs) (db : Database) (f : Frame) (ts : List SqlType) → AreFlat es → given_each es
+  eval_all-given : (places : NullPlaces) (es : Exprs) (db : Database) (f : Group) (ts : List SqlType) → AreFlat es
+      → given_each es
       ≡ map Some ts
-      → AllGive es db f (eval_all es f) × (length (eval_all es f) ≡ length ts)
-  eval_all-given no_exprs db f ts h t = (refl, no_types ts t)
-  eval_all-given (more_exprs e es) db f ts h t =
+      → AllGive places es db f (eval_all es (one_row f)) × (length (eval_all es (one_row f)) ≡ length ts)
+  eval_all-given places no_exprs db f ts h t = (refl, no_types ts t)
+  eval_all-given places (more_exprs e es) db f ts h t =
       let (us, ws, u_is, w_is, both) = split-typed (element_types (given e)) (given_each es) ts t in
-      let head = eval-given e db f us h.0 u_is in
-      let rest = eval_all-given es db f ws h.1 w_is in (
-        (eval e f, eval_all es f, head.0, rest.0, refl),
-        length-append (eval e f) (eval_all es f)
+      let head = eval-given places e db f us h.0 u_is in
+      let rest = eval_all-given places es db f ws h.1 w_is in (
+        (eval e (one_row f), eval_all es (one_row f), head.0, rest.0, refl),
+        length-append (eval e (one_row f)) (eval_all es (one_row f))
             ∙ (ap₂ ◌+◌ head.1 rest.1 ∙ (sym (length-append us ws) ∙ ap length (sym both))),
       )
 
@@ -258,16 +248,18 @@ abbrev pub true_at : MaybeExpr → Frame → Bool
 true_at no_expr f = true
 true_at (an_expr e) f = is_true (first_value (eval e f))
 
-pub holds-true : (c : MaybeExpr) (db : Database) (f : Frame) (t : Bool) → IsPlainCondition c → Holds c db f t → t
-    ≡ true_at c f
-holds-true no_expr db f t h g = g
-holds-true (an_expr e) db f t h g = g.2 ∙ ap is_true (first_is g.0 _ (gives-eval e db f (g.0 ∷ []) h.0 g.1))
+pub holds-true : (places : NullPlaces) (c : MaybeExpr) (db : Database) (f : Group) (t : Bool) → IsPlainCondition c
+    → Holds places c db f t → t
+    ≡ true_at c (one_row f)
+holds-true places no_expr db f t h g = g
+holds-true places (an_expr e) db f t h g = g.2 ∙ ap is_true (first_is g.0 _ (gives-eval places e db f (g.0 ∷ []) h.0 g.1))
 
-pub true-holds : (c : MaybeExpr) (db : Database) (f : Frame) → IsPlainCondition c → Holds c db f (true_at c f)
-true-holds no_expr db f h = refl
-true-holds (an_expr e) db f h =
-    let got = eval-given e db f (h.1.0 ∷ []) h.0 (only-typed (given e) h.1.0 h.1.1) in
-    (first_value (eval e f), one-given e db f h.1.0 got, refl)
+pub true-holds : (places : NullPlaces) (c : MaybeExpr) (db : Database) (f : Group) → IsPlainCondition c
+    → Holds places c db f (true_at c (one_row f))
+true-holds places no_expr db f h = refl
+true-holds places (an_expr e) db f h =
+    let got = eval-given places e db f (h.1.0 ∷ []) h.0 (only-typed (given e) h.1.0 h.1.1) in
+    (first_value (eval e (one_row f)), one-given places e db f h.1.0 got, refl)
 
 -- ---- an expression whose columns are all taken from one leaf
 
@@ -349,7 +341,7 @@ mutual
       ap₂ (λ g ts. element_types g ++ ts) (aimed-given e o h.0) (aimed_all-given es o h.1)
 
 mutual
-  aimed-flat : (e : Expr) (o : Origin) → IsFlat e → IsFlat (aimed e o)
+  pub aimed-flat : (e : Expr) (o : Origin) → IsFlat e → IsFlat (aimed e o)
   aimed-flat (column k c) o h = tt
   aimed-flat (value ty x) o h = tt
   aimed-flat (list es) o h = aimed_all-flat es o h

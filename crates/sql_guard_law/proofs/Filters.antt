@@ -1,14 +1,10 @@
--- Filters, and a join whose rows are filtered.
+-- Filters of lists.
 use Rattle.std.proofs.Common.{◌≡◌, Bool, true, false, not, ◌&&◌, List, [], ◌∷◌, ◌++◌, map, refl, sym, ap, ap₂, subst, ◌∙◌, arith, IsPermutation, filter, cond, append_assoc, append-nil}
 use Rattle.std.proofs.lemmas.List.Sorted.{IsPermutation-trans, IsPermutation-append_left, IsPermutation-append_right, IsPermutation-append_comm, IsPermutation-filter_both}
-use Rattle.sql_leaf.specs.declared.table_source.JoinKind.TheVariants.{Inner, LeftOuter}
 use Rattle.sql_rules.specs.Lists.{Each}
-use Rattle.sql_rows_meaning.specs.Answers.{or_padded}
-use Rattle.sql_rows_meaning.specs.Frames.{Frame}
 use Rattle.sql_rows_meaning.specs.Rows.{IsPart}
-use Rattle.sql_rows_meaning.proofs.Functional.{joined_rows}
 use Rattle.sql_rows_meaning.proofs.Lists.{Each-front, Each-weaken, Each-permutation}
-use Rattle.sql_guard_law.proofs.Permutations.{filter-append, filter-permutation}
+use Rattle.sql_rows_meaning.proofs.Permutations.{filter-append, filter-permutation}
 
 pub filter-map : {A B : Type 0} (q : B → Bool) (h : A → B) (xs : List A) → filter q (map h xs)
     ≡ map h (filter (λ x. q (h x)) xs)
@@ -51,14 +47,6 @@ filtered-pass q (x ∷ xs) = go (q x) refl (filtered-pass q xs)
         → Each (λ x. q x ≡ true) (cond b (x ∷ filter q xs) (filter q xs))
     go true e h = (e, h)
     go false e h = h
-
-pub Each-filter : {A : Type 0} (P : A → Type 0) (q : A → Bool) (xs : List A) → Each P xs → Each P (filter q xs)
-Each-filter P q [] h = tt
-Each-filter P q (x ∷ xs) h = go (q x) (Each-filter P q xs h.1)
-  where
-    go : (b : Bool) → Each P (filter q xs) → Each P (cond b (x ∷ filter q xs) (filter q xs))
-    go true r = (h.0, r)
-    go false r = r
 
 pub Each-always : {A : Type 0} (P : A → Type 0) → ((a : A) → P a) → (xs : List A) → Each P xs
 Each-always P f [] = tt
@@ -105,89 +93,3 @@ part-filtered may_lack q ws zs p = record {
       (filter-permutation q ws (zs ++ p.rest) p.order);
   whole = λ e. ap (filter q) (p.whole e);
 }
-
-and_comm : (a b : Bool) → (a && b) ≡ (b && a)
-and_comm true true = refl
-and_comm true false = refl
-and_comm false true = refl
-and_comm false false = refl
-
--- An inner join of filtered sides is the join, filtered.
-pub inner-filtered : (P Q : Frame → Type 0) (padding : Frame) (g pass pa pb : Frame → Bool)
-    → ((x y : Frame) → P x → Q y → pass (x ++ y) ≡ (pa x && pb y)) →
-    (ys xs : List Frame) → Each Q ys → Each P xs → filter pass (joined_rows Inner padding g ys xs)
-    ≡ joined_rows Inner padding g (filter pb ys) (filter pa xs)
-inner-filtered P Q padding g pass pa pb split ys [] hy hx = refl
-inner-filtered P Q padding g pass pa pb split ys (x ∷ xs) hy hx =
-    go (pa x) refl (inner-filtered P Q padding g pass pa pb split ys xs hy hx.1)
-  where
-    swapped : filter pass (filter g (map (λ y. x ++ y) ys))
-        ≡ filter g (map (λ y. x ++ y) (filter (λ y. pass (x ++ y)) ys))
-    swapped =
-        filter-both pass g (map (λ y. x ++ y) ys) ∙
-        (filter-same (λ z. g z && pass z) (λ z. pass z && g z) (map (λ y. x ++ y) ys)
-        (Each-always _ (λ z. and_comm (g z) (pass z)) (map (λ y. x ++ y) ys)) ∙
-        (sym (filter-both g pass (map (λ y. x ++ y) ys)) ∙ ap (filter g) (filter-map pass (λ y. x ++ y) ys)))
-
-    by_right : filter (λ y. pass (x ++ y)) ys ≡ filter (λ y. pa x && pb y) ys
-    by_right = filter-same _ _ ys (Each-weaken Q _ (λ y q. split x y hx.0 q) ys hy)
-
-    go : (b : Bool) → pa x ≡ b → filter pass (joined_rows Inner padding g ys xs)
-        ≡ joined_rows Inner padding g (filter pb ys) (filter pa xs) →
-        filter pass (joined_rows Inner padding g ys (x ∷ xs))
-        ≡ joined_rows Inner padding g (filter pb ys) (cond b (x ∷ filter pa xs) (filter pa xs))
-    go true e rest =
-        filter-append pass (filter g (map (λ y. x ++ y) ys)) (joined_rows Inner padding g ys xs) ∙
-        ap₂ ◌++◌ (swapped ∙ ap (λ zs. filter g (map (λ y. x ++ y) zs))
-        (by_right ∙ filter-same (λ y. pa x && pb y) pb ys (Each-always _ (λ y. rw e refl) ys))) rest
-    go false e rest =
-        filter-append pass (filter g (map (λ y. x ++ y) ys)) (joined_rows Inner padding g ys xs) ∙
-        ap₂ ◌++◌ (swapped ∙ ap (λ zs. filter g (map (λ y. x ++ y) zs))
-        (by_right ∙ filter-none (λ y. pa x && pb y) ys (Each-always _ (λ y. rw e refl) ys))) rest
-
--- A left outer join of a filtered left side with a filtered right side is the join whose ON asks for the right side's
--- test, filtered by the left side's.
-pub outer-filtered : (P Q : Frame → Type 0) (padding : Frame) (g g' pass pa pb : Frame → Bool) →
-    ((x y : Frame) → P x → Q y → pass (x ++ y) ≡ pa x) → ((x : Frame) → P x → pass (x ++ padding) ≡ pa x)
-    → ((x y : Frame) → P x → Q y → g' (x ++ y) ≡ (g (x ++ y) && pb y)) →
-    (ys xs : List Frame) → Each Q ys → Each P xs → filter pass (joined_rows LeftOuter padding g' ys xs)
-    ≡ joined_rows LeftOuter padding g (filter pb ys) (filter pa xs)
-outer-filtered P Q padding g g' pass pa pb left pad split ys [] hy hx = refl
-outer-filtered P Q padding g g' pass pa pb left pad split ys (x ∷ xs) hy hx =
-    go (pa x) refl (outer-filtered P Q padding g g' pass pa pb left pad split ys xs hy hx.1)
-  where
-    pairs : filter g' (map (λ y. x ++ y) ys) ≡ filter g (map (λ y. x ++ y) (filter pb ys))
-    pairs =
-        filter-map g' (λ y. x ++ y) ys ∙
-        (ap (map (λ y. x ++ y))
-        (filter-same (λ y. g' (x ++ y)) (λ y. pb y && g (x ++ y)) ys
-        (Each-weaken Q _ (λ y q. split x y hx.0 q ∙ and_comm (g (x ++ y)) (pb y)) ys hy)
-        ∙ sym (filter-both (λ y. g (x ++ y)) pb ys)) ∙
-        sym (filter-map g (λ y. x ++ y) (filter pb ys)))
-
-    Each-map' : (zs : List Frame) → Each Q zs → Each (λ f. pass f ≡ pa x) (map (λ y. x ++ y) zs)
-    Each-map' [] h = tt
-    Each-map' (z ∷ zs) h = (left x z hx.0 h.0, Each-map' zs h.1)
-
-    padded : (ps : List Frame) → Each (λ f. pass f ≡ pa x) ps
-        → Each (λ f. pass f ≡ pa x) (or_padded LeftOuter padding x ps)
-    padded [] h = (pad x hx.0, tt)
-    padded (p ∷ ps) h = h
-
-    like_left : Each (λ f. pass f ≡ pa x) (or_padded LeftOuter padding x (filter g' (map (λ y. x ++ y) ys)))
-    like_left = padded _ (Each-filter _ g' (map (λ y. x ++ y) ys) (Each-map' ys hy))
-
-    go : (b : Bool) → pa x ≡ b → filter pass (joined_rows LeftOuter padding g' ys xs)
-        ≡ joined_rows LeftOuter padding g (filter pb ys) (filter pa xs) →
-        filter pass (joined_rows LeftOuter padding g' ys (x ∷ xs))
-        ≡ joined_rows LeftOuter padding g (filter pb ys) (cond b (x ∷ filter pa xs) (filter pa xs))
-    go true e rest =
-        filter-append pass (or_padded LeftOuter padding x (filter g' (map (λ y. x ++ y) ys)))
-        (joined_rows LeftOuter padding g' ys xs) ∙
-        ap₂ ◌++◌ (filter-all pass _ (Each-weaken (λ f. pass f ≡ pa x) (λ f. pass f ≡ true) (λ f d. d ∙ e) _ like_left)
-        ∙ ap (or_padded LeftOuter padding x) pairs) rest
-    go false e rest =
-        filter-append pass (or_padded LeftOuter padding x (filter g' (map (λ y. x ++ y) ys)))
-        (joined_rows LeftOuter padding g' ys xs) ∙
-        ap₂ ◌++◌ (filter-none pass _
-        (Each-weaken (λ f. pass f ≡ pa x) (λ f. pass f ≡ false) (λ f d. d ∙ e) _ like_left)) rest

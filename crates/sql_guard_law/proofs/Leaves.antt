@@ -1,5 +1,5 @@
 -- Which leaf's row a predicate reads.
-use Rattle.std.proofs.Common.{◌≡◌, Bool, true, false, ◌&&◌, ◌||◌, List, [], ◌∷◌, ◌++◌, map, None, refl, sym, ap, ap₂, ◌∙◌, subst, inl, inr, ◌⊎◌, arith, if◌then◌else◌}
+use Rattle.std.proofs.Common.{◌≡◌, Bool, true, false, ◌&&◌, ◌||◌, List, [], ◌∷◌, ◌++◌, map, refl, sym, ap, ap₂, ◌∙◌, subst, inl, inr, ◌⊎◌, arith, if◌then◌else◌}
 use Rattle.std.proofs.lemmas.List.{map-append}
 use Rattle.sql_schema.specs.Equality.{same_table}
 use Rattle.sql_schema.specs.declared.declaration.TableDecl.{TableDecl}
@@ -15,16 +15,16 @@ use Rattle.sql_schema.proofs.EqualityLaws.{exact-table}
 use Rattle.sql_origin.proofs.OriginLaws.{same-origin_itself}
 use Rattle.sql_rules.specs.Lists.{Each}
 use Rattle.sql_rules.specs.Scope.{nodes}
-use Rattle.sql_rules.specs.Types.{bool_type, joined_type}
-use Rattle.sql_rows_meaning.specs.Answers.{SourceRows, rows_as, is_partial, first_value}
+use Rattle.sql_rows_meaning.specs.Answers.{SourceRows, Holds, rows_as, is_partial, first_value}
 use Rattle.sql_rows_meaning.specs.Frames.{Database, Frame, row_of, nulls}
 use Rattle.sql_guard_law.specs.Restricted.{predicates, predicate_of, with_all, open_leaves, if_same}
 use Rattle.sql_guard_law.specs.Tenant.{IsOwn}
-use Rattle.sql_rows_meaning.specs.Rows.{Row}
+use Rattle.sql_rows_meaning.specs.Groups.{Group, one_row}
+use Rattle.sql_rows_meaning.specs.Rows.{Row, NullPlaces}
 use Rattle.sql_rows_meaning.specs.Values.{is_null, is_true, is_false, joined_value}
-use Rattle.sql_rows_meaning.proofs.Facts.{or_true, truth}
+use Rattle.sql_rows_meaning.proofs.Facts.{or_true}
 use Rattle.sql_rows_meaning.proofs.Lists.{Each-append, Each-front, Each-end, Each-weaken, IsPart-each, Joined-each}
-use Rattle.sql_guard_law.proofs.Evaluate.{eval, true_at, IsTest, IsPlainCondition, aimed, aimed-eval, aimed-test, predicate-aimed}
+use Rattle.sql_guard_law.proofs.Evaluate.{true_at, holds-true, true-holds, IsTest, aimed, aimed-eval, aimed-test, predicate-aimed}
 
 abbrev pub names : Frame → List Origin
 names f = map (λ entry. entry.0) f
@@ -98,17 +98,18 @@ leaf-named : (s : Source) (o : Origin) → source_leaves s ≡ o ∷ [] → (row
 leaf-named s o e [] = tt
 leaf-named s o e (row ∷ rows) = (sym e, leaf-named s o e rows)
 
-pub rows-named : (db : Database) (s : Source) (rows : List Frame) → SourceRows s db rows → Each (Named s) rows
-rows-named db (of_table t only sample) rows g =
+pub rows-named : (places : NullPlaces) (db : Database) (s : Source) (rows : List Frame)
+    → SourceRows places s db rows → Each (Named s) rows
+rows-named places db (of_table t only sample) rows g =
     IsPart-each (Named (of_table t only sample)) (is_partial only sample) _ rows g
     (leaf-named (of_table t only sample) (a_table t) refl (db t))
-rows-named db (of_alias a t) rows g =
+rows-named places db (of_alias a t) rows g =
     IsPart-each (Named (of_alias a t)) false _ rows g (leaf-named (of_alias a t) (an_alias a t) refl (db t))
-rows-named db (join kind a b on) rows g =
+rows-named places db (join kind a b on) rows g =
     Joined-each (Named a) (Named b) (Named (join kind a b on)) kind (nulls (leaves b)) g.1
     (λ x y h k. pair-named a b x y h k)
-    (λ x outer h. pair-named a b x (nulls (leaves b)) h (padding-named b)) (rows-named db b g.1 g.3) g.4
-    (rows-named db a g.0 g.2)
+    (λ x outer h. pair-named a b x (nulls (leaves b)) h (padding-named b)) (rows-named places db b g.1 g.3) g.4
+    (rows-named places db a g.0 g.2)
 
 among-append_right : (o : Origin) (ls ms : List Origin) → is_among o ms ≡ true → is_among o (ls ++ ms) ≡ true
 among-append_right o [] ms h = h
@@ -242,45 +243,61 @@ and_value_true x y false false d e = rw (d, e) refl
 and_value-true : (x y : Value) → is_true (joined_value And x y) ≡ (is_true x && is_true y)
 and_value-true x y = and_value_true x y _ _ refl refl
 
-with_all-true : (p : Expr) (os : List Origin) (c : MaybeExpr) (f : Frame)
-    → true_at (with_all (map (λ o. aimed p o) os) c) f ≡ (true_at c f && pass p os f)
-with_all-true p [] c f = sym (and_yes (true_at c f))
-with_all-true p (o ∷ os) no_expr f = with_all-true p os (an_expr (aimed p o)) f
-with_all-true p (o ∷ os) (an_expr e) f =
-    with_all-true p os (an_expr (joined And e (aimed p o))) f
-    ∙ (ap (λ b. b && pass p os f) (and_value-true (first_value (eval e f)) (first_value (eval (aimed p o) f)))
-    ∙ and_assoc (true_at (an_expr e) f) (true_at (an_expr (aimed p o)) f) (pass p os f))
-
-pub and-test : (e q : Expr) → IsTest e → IsTest q → IsTest (joined And e q)
-and-test e q h k = (
-  (h.0, k.0),
-  (
-    truth (h.1.0.nullable || k.1.0.nullable),
-    ap₂ joined_type h.1.1 k.1.1 ∙ ap (λ b. if b then bool_type (h.1.0.nullable || k.1.0.nullable) else None)
-        (ap₂ ◌&&◌ h.1.2 k.1.2),
-    refl,
-  ),
-)
-
-with_all-plain : (p : Expr) → IsTest p → (os : List Origin) (c : MaybeExpr) → IsPlainCondition c
-    → IsPlainCondition (with_all (map (λ o. aimed p o) os) c)
-with_all-plain p h [] c k = k
-with_all-plain p h (o ∷ os) no_expr k = with_all-plain p h os (an_expr (aimed p o)) (aimed-test p o h)
-with_all-plain p h (o ∷ os) (an_expr e) k =
-    with_all-plain p h os (an_expr (joined And e (aimed p o))) (and-test e (aimed p o) k (aimed-test p o h))
-
 -- a predicate of the table's own columns
 pub record IsFit (t : TableDecl) (p : Expr) : Type 0 where
   pub test : IsTest p
   pub own : Each (IsOwn t) (nodes p)
 
-pub added-true : (t : TableDecl) (p : Expr) → IsFit t p → (s : Source) (c : MaybeExpr) (f : Frame)
-    → true_at (with_all (predicates t p s) c) f ≡ (true_at c f && pass p (open_leaves t s) f)
-added-true t p h s c f =
-    ap (λ ps. true_at (with_all ps c) f) (predicates-aimed t p h.own s) ∙ with_all-true p (open_leaves t s) c f
+module _ (places : NullPlaces) (p : Expr) (test : IsTest p) (db : Database) (rows : Group) where
+  -- the condition with the predicates at some leaves is true where it is, and they are
+  with_all-of : (os : List Origin) (c : MaybeExpr) (b : Bool)
+      → Holds places (with_all (map (λ o. aimed p o) os) c) db rows b
+      → (a : Bool) × Holds places c db rows a × (b ≡ (a && pass p os (one_row rows)))
+  with_all-of [] c b h = (b, h, sym (and_yes b))
+  with_all-of (o ∷ os) no_expr b h =
+      let (a, held, is) = with_all-of os (an_expr (aimed p o)) b h in (
+        true,
+        refl,
+        is ∙ ap (λ x. x && pass p os (one_row rows))
+            (holds-true places (an_expr (aimed p o)) db rows a (aimed-test p o test) held),
+      )
+  with_all-of (o ∷ os) (an_expr e) b h =
+      let (a, (v, (x, y, gx, gy, v_is), a_is), is) = with_all-of os (an_expr (joined And e (aimed p o))) b h in (
+        is_true x,
+        (x, gx, refl),
+        is ∙ (ap (λ z. z && pass p os (one_row rows))
+            (a_is ∙ (ap (λ vs. is_true (first_value vs)) v_is ∙ (and_value-true x y ∙ ap (λ z. is_true x && z)
+            (holds-true places (an_expr (aimed p o)) db rows (is_true y) (aimed-test p o test) (y, gy, refl)))))
+            ∙ and_assoc (is_true x) (true_at (an_expr (aimed p o)) (one_row rows)) (pass p os (one_row rows))),
+      )
 
-pub added-plain : (t : TableDecl) (p : Expr) → IsFit t p → (s : Source) (c : MaybeExpr) → IsPlainCondition c
-    → IsPlainCondition (with_all (predicates t p s) c)
-added-plain t p h s c k =
-    subst (λ ps. IsPlainCondition (with_all ps c)) (sym (predicates-aimed t p h.own s))
-    (with_all-plain p h.test (open_leaves t s) c k)
+  with_all-to : (os : List Origin) (c : MaybeExpr) (a : Bool) → Holds places c db rows a
+      → Holds places (with_all (map (λ o. aimed p o) os) c) db rows (a && pass p os (one_row rows))
+  with_all-to [] c a h = subst (λ b. Holds places c db rows b) (sym (and_yes a)) h
+  with_all-to (o ∷ os) no_expr a h =
+      subst (λ b. Holds places (with_all (map (λ k. aimed p k) os) (an_expr (aimed p o))) db rows b)
+      (sym (ap (λ z. z && pass p (o ∷ os) (one_row rows)) h))
+      (with_all-to os (an_expr (aimed p o)) (true_at (an_expr (aimed p o)) (one_row rows))
+      (true-holds places (an_expr (aimed p o)) db rows (aimed-test p o test)))
+  with_all-to (o ∷ os) (an_expr e) a (x, gx, a_is) =
+      let (y, gy, t_is) = true-holds places (an_expr (aimed p o)) db rows (aimed-test p o test) in
+      subst (λ b. Holds places (with_all (map (λ k. aimed p k) os) (an_expr (joined And e (aimed p o)))) db rows b)
+      (ap (λ z. z && pass p os (one_row rows))
+      (and_value-true x y ∙ ap₂ ◌&&◌ (sym a_is) (sym t_is))
+      ∙ and_assoc a (true_at (an_expr (aimed p o)) (one_row rows)) (pass p os (one_row rows)))
+      (with_all-to os (an_expr (joined And e (aimed p o))) (is_true (joined_value And x y))
+      (joined_value And x y, (x, y, gx, gy, refl), refl))
+
+  pub added-of : (t : TableDecl) → Each (IsOwn t) (nodes p) → (s : Source) (c : MaybeExpr) (b : Bool)
+      → Holds places (with_all (predicates t p s) c) db rows b
+      → (a : Bool) × Holds places c db rows a × (b ≡ (a && pass p (open_leaves t s) (one_row rows)))
+  added-of t own s c b h =
+      with_all-of (open_leaves t s) c b
+      (subst (λ ps. Holds places (with_all ps c) db rows b) (predicates-aimed t p own s) h)
+
+  pub added-to : (t : TableDecl) → Each (IsOwn t) (nodes p) → (s : Source) (c : MaybeExpr) (a : Bool)
+      → Holds places c db rows a
+      → Holds places (with_all (predicates t p s) c) db rows (a && pass p (open_leaves t s) (one_row rows))
+  added-to t own s c a h =
+      subst (λ ps. Holds places (with_all ps c) db rows (a && pass p (open_leaves t s) (one_row rows)))
+      (sym (predicates-aimed t p own s)) (with_all-to (open_leaves t s) c a h)

@@ -3,26 +3,24 @@ use Rattle.std.proofs.Common.{◌≡◌, true, not, List, [], ◌∷◌, ◌++�
 use Rattle.std.proofs.lemmas.Bool.{false≢true}
 use Rattle.sql_schema.specs.Declarations.{Declarations}
 use Rattle.sql_schema.specs.declared.declaration.TableDecl.{TableDecl}
-use Rattle.sql_schema.specs.declared.types.Base.TheVariants as base
 use Rattle.sql_leaf.specs.declared.table_source.JoinKind.TheVariants.{Inner, LeftOuter}
-use Rattle.sql_node.specs.Tree.{Origin, Form, unboxed, boxed, Expr, column, value, list, count_star, nullable, unary, count, compared, joined, exists, single, among_values, among_rows, Exprs, no_exprs, more_exprs, Items, no_items, more_items, MaybeExpr, no_expr, an_expr, Source, of_table, of_alias, join, From, no_source, from, Distinct, every, distinct, distinct_on, Order, no_order, order_by}
 use Rattle.sql_leaf.specs.declared.operator.Logic.TheVariants.{And}
-use Rattle.sql_origin.specs.Leaves.{leaves}
+use Rattle.sql_node.specs.Tree.{Origin, Form, unboxed, boxed, Expr, column, value, list, count_star, nullable, unary, count, compared, joined, exists, single, among_values, among_rows, Exprs, no_exprs, more_exprs, MaybeExpr, no_expr, an_expr, Source, of_table, of_alias, join, From, no_source, from}
+use Rattle.sql_origin.specs.Leaves.{leaves, in_right_side}
 use Rattle.sql_rules.specs.Lists.{AnyOf, Each}
-use Rattle.sql_rules.specs.Rules.{IsTable, IsColumn, IsSeen, IsUnknownColumn, IsOutOfScope, Present, CountsAggregate, HasAggregate}
-use Rattle.sql_rules.specs.Scope.{View, Part, Select, Clause, Place, in_selection, in_on, in_where, in_group_by, in_having, clauses, clauses_by, own, origins, origins_of, leaves_of, ons, ons_of, maybe_clause, distinct_clause, order_clauses, nodes, nodes_of, widest, in_expr, in_exprs, in_items, in_maybe, in_source, in_from, in_distinct, in_order}
+use Rattle.sql_rules.specs.Rules.{IsTable, IsColumn, IsSeen, IsUnknownColumn, IsOutOfScope, CountsAggregate}
+use Rattle.sql_rules.specs.Scope.{View, Part, Select, Clause, Place, in_selection, in_on, in_where, in_group_by, in_having, clauses, clauses_by, own, origins, origins_of, leaves_of, ons, ons_of, maybe_clause, distinct_clause, order_clauses, nodes, nodes_of, widest, in_expr, in_exprs, in_maybe}
 use Rattle.sql_rules.specs.Types.{fits}
-use Rattle.sql_rules.specs.Verdicts.{holds_aggregate, is_aggregate}
+use Rattle.sql_rules.specs.Verdicts.{is_aggregate}
 use Rattle.sql_rules.proofs.Lists.{any_left, any_right}
 use Rattle.sql_rules.specs.inside.Misfits.{misfit}
-use Rattle.sql_rules.proofs.Loops.{any_split, any-decides}
+use Rattle.sql_rules.proofs.Loops.{any_split}
 use Rattle.sql_guard_law.specs.Restricted.{predicates, predicates_from, with_all, open_leaves, restricted_source, restricted_from}
 use Rattle.sql_guard_law.specs.Tenant.{IsBeyond, IsOwn}
 use Rattle.sql_rows_meaning.proofs.Lists.{Each-append, Each-front, Each-end, Each-map, Each-weaken}
-use Rattle.sql_guard_law.proofs.Evaluate.{IsFlat, AreFlat, IsTest, IsPlainCondition, aimed, aimed_all}
+use Rattle.sql_guard_law.proofs.Evaluate.{IsFlat, AreFlat, aimed, aimed_all, aimed-flat}
 use Rattle.sql_guard_law.proofs.Leaves.{source_leaves, leaves-source_leaves, Each-open, open-table, predicates-aimed}
-use Rattle.sql_guard_law.proofs.RestrictedSources.{IsPlainSource, restricted-leaves}
-use Rattle.sql_guard_law.proofs.Plain.{free_left, free_right, IsPlainFrom, IsPlainKey, ArePlainItems, IsPlainOrder, IsPlainSelect}
+use Rattle.sql_guard_law.proofs.Plain.{free_left, free_right, IsBoolean, IsBooleanMaybe, IsPlainSource, IsPlainFrom}
 
 -- ---- lists
 
@@ -59,65 +57,15 @@ mutual
   none_inside P v (more_exprs e es) h i =
       neither P (in_expr v e) (in_exprs v es) (no_inside P v e h.0) (none_inside P v es h.1) i
 
-pub no_inside_maybe : (P : Part → Type 0) (v : View) (w : MaybeExpr) → IsPlainCondition w → ¬ AnyOf P (in_maybe v w)
-no_inside_maybe P v no_expr h i = i
-no_inside_maybe P v (an_expr e) h i = no_inside P v e h.0 i
-
-no_inside_source : (P : Part → Type 0) (s : Source) → IsPlainSource s → ¬ AnyOf P (in_source s)
-no_inside_source P (of_table t only sample) h i = i
-no_inside_source P (of_alias a t) h i = i
-no_inside_source P (join k l r on) h i =
-    neither P (in_source l) (in_source r ++ in_maybe (origins l ++ origins r) on) (no_inside_source P l h.0)
-    (neither P (in_source r) (in_maybe (origins l ++ origins r) on) (no_inside_source P r h.1)
-    (no_inside_maybe P (origins l ++ origins r) on h.2)) i
-
-pub no_inside_from : (P : Part → Type 0) (f : From) → IsPlainFrom f → ¬ AnyOf P (in_from f)
-no_inside_from P no_source h i = i
-no_inside_from P (from s) h i = no_inside_source P s h i
-
-pub no_inside_key : (P : Part → Type 0) (v : View) (u : Distinct) → IsPlainKey u → ¬ AnyOf P (in_distinct v u)
-no_inside_key P v every h i = i
-no_inside_key P v distinct h i = i
-no_inside_key P v (distinct_on e) h i = no_inside P v e h i
-
-no_inside_items : (P : Part → Type 0) (v : View) (is : Items) → ArePlainItems is → ¬ AnyOf P (in_items v is)
-no_inside_items P v no_items h i = i
-no_inside_items P v (more_items e by is) h i =
-    neither P (in_expr v e) (in_items v is) (no_inside P v e h.0) (no_inside_items P v is h.1) i
-
-pub no_inside_order : (P : Part → Type 0) (v : View) (o : Order) → IsPlainOrder o → ¬ AnyOf P (in_order v o)
-no_inside_order P v no_order h i = i
-no_inside_order P v (order_by is) h i = no_inside_items P v is h i
-
-absent : (w : MaybeExpr) → ¬ Present w → w ≡ no_expr
-absent no_expr h = refl
-absent (an_expr e) h = absurd (h tt)
-
-pub no_inside_absent : (P : Part → Type 0) (v : View) (w : MaybeExpr) → ¬ Present w → ¬ AnyOf P (in_maybe v w)
-no_inside_absent P v no_expr h i = i
-no_inside_absent P v (an_expr e) h i = h tt
-
--- ---- each node of a flat expression
-
-mutual
-  flat-nodes : (e : Expr) → IsFlat e → Each (λ x. ¬ IsBeyond x) (nodes e)
-  flat-nodes (column o c) h = (λ b. b, tt)
-  flat-nodes (value t x) h = (λ b. b, tt)
-  flat-nodes (list es) h = (λ b. b, flat_all-nodes es h)
-  flat-nodes count_star h = absurd h
-  flat-nodes (nullable e) h = (λ b. b, flat-nodes e h)
-  flat-nodes (unary n e) h = (λ b. b, flat-nodes e h)
-  flat-nodes (count e) h = absurd h
-  flat-nodes (compared by a b) h = (λ x. x, Each-append _ (nodes a) (nodes b) (flat-nodes a h.0) (flat-nodes b h.1))
-  flat-nodes (joined by a b) h = (λ x. x, Each-append _ (nodes a) (nodes b) (flat-nodes a h.0) (flat-nodes b h.1))
-  flat-nodes (exists q) h = absurd h
-  flat-nodes (single q) h = absurd h
-  flat-nodes (among_values n e t xs) h = (λ b. b, flat-nodes e h)
-  flat-nodes (among_rows n e q) h = absurd h
-
-  flat_all-nodes : (es : Exprs) → AreFlat es → Each (λ x. ¬ IsBeyond x) (nodes_of es)
-  flat_all-nodes no_exprs h = tt
-  flat_all-nodes (more_exprs e es) h = Each-append _ (nodes e) (nodes_of es) (flat-nodes e h.0) (flat_all-nodes es h.1)
+-- nor inside predicates
+pub no_inside_added : (P : Part → Type 0) (v : View) (p : Expr) → IsFlat p → (os : List Origin) (c : MaybeExpr)
+    → ¬ AnyOf P (in_maybe v c) → ¬ AnyOf P (in_maybe v (with_all (map (λ o. aimed p o) os) c))
+no_inside_added P v p flat [] c h = h
+no_inside_added P v p flat (o ∷ os) no_expr h =
+    no_inside_added P v p flat os (an_expr (aimed p o)) (no_inside P v (aimed p o) (aimed-flat p o flat))
+no_inside_added P v p flat (o ∷ os) (an_expr e) h =
+    no_inside_added P v p flat os (an_expr (joined And e (aimed p o)))
+    (neither P (in_expr v e) (in_expr v (aimed p o)) h (no_inside P v (aimed p o) (aimed-flat p o flat)))
 
 aggregate-beyond : (e : Expr) → ¬ IsBeyond e → is_aggregate e ≡ true → ⊥
 aggregate-beyond count_star n h = n tt
@@ -133,15 +81,6 @@ aggregate-beyond (exists q) n h = false≢true h
 aggregate-beyond (single q) n h = false≢true h
 aggregate-beyond (among_values m e t xs) n h = false≢true h
 aggregate-beyond (among_rows m e q) n h = false≢true h
-
-no_aggregate : (e : Expr) → IsFlat e → holds_aggregate e ≡ true → ⊥
-no_aggregate e h a =
-    none_of (λ x. is_aggregate x ≡ true) (λ x. ¬ IsBeyond x) aggregate-beyond (nodes e) (flat-nodes e h)
-    ((any-decides (λ x. is_aggregate x ≡ true) is_aggregate (λ x. (λ q. q, λ q. q)) (nodes e)).0 a)
-
-pub no_aggregate_maybe : (w : MaybeExpr) → IsPlainCondition w → ¬ HasAggregate w
-no_aggregate_maybe no_expr h a = a
-no_aggregate_maybe (an_expr e) h a = no_aggregate e h.0 a
 
 -- ---- the predicate at a leaf
 
@@ -189,6 +128,27 @@ mutual
 -- a leaf of the table that the view sees
 abbrev pub IsGood : Declarations → TableDecl → View → Origin → Type 0
 IsGood schema t v o = IsTable schema o.table × (t ≡ o.table) × IsSeen v o
+
+plain-aimed : (schema : Declarations) (t : TableDecl) (v : View) (o : Origin) → IsGood schema t v o → (e : Expr)
+    → IsAimed t o e → ¬ IsBeyond e
+plain-aimed schema t v o g (column k c) h n = n
+plain-aimed schema t v o g (value ty x) h n = n
+plain-aimed schema t v o g (list es) h n = n
+plain-aimed schema t v o g (nullable e) h n = n
+plain-aimed schema t v o g (unary m e) h n = n
+plain-aimed schema t v o g (compared by a b) h n = n
+plain-aimed schema t v o g (joined by a b) h n = n
+plain-aimed schema t v o g (among_values m e ty xs) h n = n
+plain-aimed schema t v o g count_star h n = h n
+plain-aimed schema t v o g (count e) h n = h n
+plain-aimed schema t v o g (exists q) h n = h n
+plain-aimed schema t v o g (single q) h n = h n
+plain-aimed schema t v o g (among_rows m e q) h n = h n
+
+pub unaggregated-aimed : (schema : Declarations) (t : TableDecl) (v : View) (o : Origin) → IsGood schema t v o
+    → (e : Expr)
+    → IsAimed t o e → ¬ (is_aggregate e ≡ true)
+unaggregated-aimed schema t v o g e h = aggregate-beyond e (plain-aimed schema t v o g e h)
 
 pub known-aimed : (schema : Declarations) (t : TableDecl) (v : View) (o : Origin) → IsGood schema t v o → (e : Expr)
     → IsAimed t o e → ¬ IsUnknownColumn schema e
@@ -266,7 +226,7 @@ IsGuardedPlace _ = ⊥
 -- AND keeps it.
 pub record Guarded (schema : Declarations) (t : TableDecl) (p : Expr) (P : Clause → Type 0)
     (Inv : View → Expr → Type 0) : Type 0 where
-  pub into : (place : Place) → IsGuardedPlace place → (v : View) (e : Expr) → IsTest e
+  pub into : (place : Place) → IsGuardedPlace place → (v : View) (e : Expr) → IsBoolean e
       → ¬ P (record { place = place; view = v; expr = e }) → Inv v e
   pub out : (place : Place) → IsGuardedPlace place → (v : View) (e : Expr) → Inv v e
       → ¬ P (record { place = place; view = v; expr = e })
@@ -297,6 +257,13 @@ own-seen : (s : Source) → Each (IsSeen (origins s)) (source_leaves s)
 own-seen s =
     subst (λ os. Each (IsSeen os) (source_leaves s)) (sym (leaves-source_leaves s)) (each-seen (source_leaves s))
 
+-- the leaves of the restricted source are the same
+restricted-leaves : (t : TableDecl) (p : Expr) (s : Source) → leaves (restricted_source t p s) ≡ leaves s
+restricted-leaves t p (of_table u only sample) = refl
+restricted-leaves t p (of_alias a u) = refl
+restricted-leaves t p (join kind l r on) =
+    ap₂ (λ xs ys. xs ++ map (in_right_side kind) ys) (restricted-leaves t p l) (restricted-leaves t p r)
+
 origins-same : (t : TableDecl) (p : Expr) (s : Source) → origins (restricted_source t p s) ≡ origins s
 origins-same t p s = ap (map (λ l. l.origin)) (restricted-leaves t p s)
 
@@ -317,11 +284,11 @@ abbrev pub guarded_select : TableDecl → Expr → Select → Select
 guarded_select t p s =
     record s { source = restricted_from t p s.source; where_by = with_all (predicates_from t p s.source) s.where_by }
 
-abbrev open_from : TableDecl → From → List Origin
+abbrev pub open_from : TableDecl → From → List Origin
 open_from t no_source = []
 open_from t (from s) = open_leaves t s
 
-predicates_from-aimed : (t : TableDecl) (p : Expr) → Each (IsOwn t) (nodes p) → (f : From) → predicates_from t p f
+pub predicates_from-aimed : (t : TableDecl) (p : Expr) → Each (IsOwn t) (nodes p) → (f : From) → predicates_from t p f
     ≡ map (λ o. aimed p o) (open_from t f)
 predicates_from-aimed t p own no_source = refl
 predicates_from-aimed t p own (from s) = predicates-aimed t p own s
@@ -333,7 +300,7 @@ source-known schema s k =
     (Each-map (λ x. IsTable schema x.origin.table) (λ o. IsTable schema o.table) (λ x. x.origin) (λ x h. h)
     (leaves s) k)
 
-where-good : (schema : Declarations) (t : TableDecl) (form : Form) (f : From) (outer : View)
+pub where-good : (schema : Declarations) (t : TableDecl) (form : Form) (f : From) (outer : View)
     → Each (λ l. IsTable schema l.origin.table) (leaves_of f)
     → Each (IsGood schema t (widest form f outer)) (open_from t f)
 where-good schema t form no_source outer known = tt
@@ -357,7 +324,7 @@ module _ (schema : Declarations) (t : TableDecl) (p : Expr) (own' : Each (IsOwn 
   all-inv v (o ∷ os) g (an_expr e) h =
       all-inv v os g.1 (an_expr (joined And e (aimed p o))) (guard.both v e (aimed p o) h (guard.leaf v o g.0))
 
-  to-inv : (place : Place) → IsGuardedPlace place → (v : View) (c : MaybeExpr) → IsPlainCondition c
+  to-inv : (place : Place) → IsGuardedPlace place → (v : View) (c : MaybeExpr) → IsBooleanMaybe c
       → ¬ AnyOf P (maybe_clause place v c) → MaybeInv v c
   to-inv place at v no_expr h k = tt
   to-inv place at v (an_expr e) h k = guard.into place at v e h (λ q. k (inl q))
@@ -368,9 +335,9 @@ module _ (schema : Declarations) (t : TableDecl) (p : Expr) (own' : Each (IsOwn 
   of-inv place at v (an_expr e) h (inl q) = guard.out place at v e h q
   of-inv place at v (an_expr e) h (inr i) = i
 
-  guarded-maybe : (place : Place) → IsGuardedPlace place → (v : View) (os : List Origin) → Each (IsGood schema t v) os
+  pub guarded-maybe : (place : Place) → IsGuardedPlace place → (v : View) (os : List Origin) → Each (IsGood schema t v) os
       → (c : MaybeExpr)
-      → IsPlainCondition c → ¬ AnyOf P (maybe_clause place v c)
+      → IsBooleanMaybe c → ¬ AnyOf P (maybe_clause place v c)
       → ¬ AnyOf P (maybe_clause place v (with_all (map (λ o. aimed p o) os) c))
   guarded-maybe place at v os g c h k =
       of-inv place at v (with_all (map (λ o. aimed p o) os) c) (all-inv v os g c (to-inv place at v c h k))
@@ -420,10 +387,10 @@ module _ (schema : Declarations) (t : TableDecl) (p : Expr) (own' : Each (IsOwn 
   guarded-from no_source h known k = k
   guarded-from (from s) h known k = guarded-source s h (source-known schema s known) k
 
-  pub guarded-clauses : (outer : View) (s : Select) → IsPlainSelect s.selection s.source s.distinctness s.where_by s.order
+  pub guarded-clauses : (outer : View) (s : Select) → IsPlainFrom s.source → IsBooleanMaybe s.where_by
       → Each (λ l. IsTable schema l.origin.table) (leaves_of s.source) → ¬ AnyOf P (clauses outer s)
       → ¬ AnyOf P (clauses outer (guarded_select t p s))
-  guarded-clauses outer s plain known k =
+  guarded-clauses outer s source condition known k =
       subst (λ v. ¬ AnyOf P (clauses_by v (widest s.form (restricted_from t p s.source) outer) (guarded_select t p s)))
       (sym (own-same t p s.source))
       (subst (λ x. ¬ AnyOf P (clauses_by (own s) x (guarded_select t p s)))
@@ -446,7 +413,7 @@ module _ (schema : Declarations) (t : TableDecl) (p : Expr) (own' : Each (IsOwn 
           subst (λ ps. ¬ AnyOf P (maybe_clause in_where (widest s.form s.source outer) (with_all ps s.where_by)))
           (sym (predicates_from-aimed t p own' s.source))
           (guarded-maybe in_where tt (widest s.form s.source outer) (open_from t s.source)
-          (where-good schema t s.form s.source outer known) s.where_by plain.condition
+          (where-good schema t s.form s.source outer known) s.where_by condition
           (free_left P (maybe_clause in_where (widest s.form s.source outer) s.where_by) _ k2))
 
       rest : ¬ AnyOf P (record { place = in_selection; view = own s; expr = s.selection }
@@ -457,7 +424,7 @@ module _ (schema : Declarations) (t : TableDecl) (p : Expr) (own' : Each (IsOwn 
       rest (inl q) = k1 (inl q)
       rest (inr i) =
           neither P (ons_of (restricted_from t p s.source)) _
-          (guarded-from s.source plain.source known (free_left P (ons_of s.source) _ (λ j. k1 (inr j))))
+          (guarded-from s.source source known (free_left P (ons_of s.source) _ (λ j. k1 (inr j))))
           (neither P (maybe_clause in_where (widest s.form s.source outer)
           (with_all (predicates_from t p s.source) s.where_by)) _ where'
           (free_right P (maybe_clause in_where (widest s.form s.source outer) s.where_by) _ k2)) i

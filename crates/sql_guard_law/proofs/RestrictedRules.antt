@@ -1,7 +1,8 @@
--- A restricted statement breaks no rule that its statement does not break, but perhaps TooManyBinds.
-use Rattle.std.proofs.Common.{◌≡◌, true, false, not, ◌||◌, List, [], ◌∷◌, ◌++◌, map, Option, Some, None, refl, sym, subst, ◌∙◌, inl, inr, IsTrue}
+-- A select statement with the predicates of its own leaves breaks no rule that the statement does not break.
+use Rattle.std.proofs.Common.{◌≡◌, true, ◌&&◌, ◌||◌, List, [], ◌∷◌, ◌++◌, map, Option, Some, None, refl, sym, ap, ap₂, subst, ◌∙◌, inl, inr, if◌then◌else◌, IsTrue}
 use Rattle.std.specs.List.{list_any}
 use Rattle.std.specs.Option.{is_none}
+use Rattle.std.proofs.lemmas.Bool.{false≢true}
 use Rattle.sql_schema.specs.Declarations.{Declarations}
 use Rattle.sql_schema.specs.declared.declaration.TableDecl.{TableDecl}
 use Rattle.sql_schema.specs.declared.types.Base.TheVariants as base
@@ -9,49 +10,57 @@ use Rattle.sql_schema.specs.declared.types.SqlType.{SqlType}
 use Rattle.sql_schema.proofs.ExactTypes.{exact-base}
 use Rattle.sql_dialect.specs.declared.backend.Dialect.{Dialect}
 use Rattle.sql_leaf.specs.declared.table_source.JoinKind.TheVariants.{Inner, LeftOuter}
-use Rattle.sql_node.specs.Tree.{Origin, Expr, joined, MaybeExpr, no_expr, an_expr, Source, of_table, of_alias, join, From, no_source, from, Statement, select, combination}
 use Rattle.sql_leaf.specs.declared.operator.Logic.{Logic}
 use Rattle.sql_leaf.specs.declared.operator.Logic.TheVariants.{And}
-use Rattle.sql_origin.specs.Leaves.{Leaf, leaves, is_padded}
+use Rattle.sql_node.specs.Tree.{Origin, Expr, joined, MaybeExpr, no_expr, an_expr, Source, of_table, of_alias, join, From, no_source, from}
+use Rattle.sql_origin.specs.Leaves.{Leaf, is_padded}
 use Rattle.sql_rules.specs.Lists.{AnyOf, AnyPair, Each}
-use Rattle.sql_rules.specs.Rules.{Accepted, Broken, PartBreaks, SelectBreaks, CombinationBreaks, IsTable, IsUnknownColumn, IsOutOfScope, IsIllTyped, IsIllTypedClause, IsEmptyList, IsBool, IsSelected, LacksOn, FromLacksOn, Present, LacksNullable, CountsAggregate, HasTableMarks, FromHasMarks, bare}
-use Rattle.sql_rules.specs.Scope.{View, parts, Select, Combination, Clause, Place, in_selection, in_distinct_on, in_on, in_where, in_group_by, in_having, in_order_by, clauses, own, origins_of, leaves_of, nodes, widest, in_expr, in_maybe, in_from, in_distinct}
-use Rattle.sql_rules.specs.Types.{type_of, columns}
+use Rattle.sql_rules.specs.Rules.{SelectBreaks, IsTable, IsUnknownColumn, IsOutOfScope, IsIllTyped, IsIllTypedClause, IsEmptyList, IsBool, IsSelected, LacksOn, FromLacksOn, Present, LacksNullable, CountsAggregate, HasAggregate, HasTableMarks, FromHasMarks, bare}
+use Rattle.sql_rules.specs.Scope.{View, Select, Clause, Place, in_selection, in_distinct_on, in_on, in_where, in_group_by, in_having, in_order_by, clauses, own, leaves_of, ons_of, nodes, widest, maybe_clause, distinct_clause, order_clauses}
+use Rattle.sql_rules.specs.Types.{type_of, bool_type, joined_type}
+use Rattle.sql_rules.specs.Verdicts.{is_aggregate}
 use Rattle.sql_rules.specs.declared.rule.Rule.{Rule}
 use Rattle.sql_rules.specs.declared.rule.Rule.TheVariants as R
 use Rattle.sql_rules.specs.inside.Misfits.{misfit}
 use Rattle.sql_rules.proofs.Loops.{any-decides}
 use Rattle.sql_rules.proofs.TypeLaws.{ill_typed-decides}
-use Rattle.sql_guard_law.specs.Restricted.{predicates, predicates_from, with_all, restricted_source, restricted_from, restricted}
-use Rattle.sql_guard_law.specs.Tenant.{BreaksAtMostTooManyBinds, IsOutOfKind, IsPredicate}
-use Rattle.sql_rows_meaning.proofs.Kept.{Clean, Clean-left, Clean-right, accepted-clean, known_tables}
-use Rattle.sql_rows_meaning.proofs.Soundness.{the_select}
-use Rattle.sql_guard_law.proofs.Evaluate.{IsTest, IsPlainCondition, aimed, aimed-test}
-use Rattle.sql_guard_law.proofs.Leaves.{is_among, and-test, source_leaves, added-plain}
-use Rattle.sql_guard_law.proofs.RestrictedSources.{IsPlainSource, restricted-source_leaves}
-use Rattle.sql_guard_law.proofs.Plain.{free_left, free_right, IsPlainFrom, IsPlainSelect, IsPlain, is-plain, predicate-fit}
-use Rattle.sql_guard_law.proofs.RestrictedClauses.{neither, none_of, no_inside, no_inside_maybe, no_inside_from, no_inside_key, no_inside_order, no_inside_absent, no_aggregate_maybe, IsAimed, aimed-nodes, IsGood, known-aimed, seen-aimed, uncounted-aimed, fitting-aimed, IsGuardedPlace, Guarded, leaves-same, own-same, widest-same, guarded_select, guarded-clauses}
+use Rattle.sql_rows_meaning.proofs.Kept.{known_tables, in_widest}
+use Rattle.sql_guard_law.specs.Restricted.{predicates, predicates_from, with_all, restricted_source, restricted_from}
+use Rattle.sql_guard_law.specs.Tenant.{IsPredicate}
+use Rattle.sql_guard_law.proofs.Evaluate.{IsTest, aimed, aimed-test}
+use Rattle.sql_guard_law.proofs.Plain.{free_left, free_right, IsBoolean, IsBooleanMaybe, IsPlainFrom, from-plain, where-plain, predicate-fit}
+use Rattle.sql_guard_law.proofs.RestrictedClauses.{neither, none_of, IsAimed, aimed-nodes, IsGood, unaggregated-aimed, known-aimed, seen-aimed, uncounted-aimed, fitting-aimed, IsGuardedPlace, Guarded, leaves-same, own-same, widest-same, guarded_select, open_from, predicates_from-aimed, where-good, guarded-maybe, guarded-clauses}
 
 -- ---- each rule
 
+abbrev Counts : Expr → Type 0
+Counts e = is_aggregate e ≡ true
+
 -- typed, of Bool
 abbrev Fine : Expr → Type 0
-Fine e = (¬ AnyOf IsIllTyped (nodes e)) × IsTest e
+Fine e = (¬ AnyOf IsIllTyped (nodes e)) × IsBoolean e
 
 some_none : {X : Type 0} (x : X) → Some x ≡ None → ⊥
 some_none x e = cc
 
-test-bool : (e : Expr) → IsTest e → IsBool (type_of e)
-test-bool e h = subst IsBool (sym h.1.1) (exact-base h.1.0.base base.Bool h.1.2)
+test-bool : (e : Expr) → IsBoolean e → IsBool (type_of e)
+test-bool e h = subst IsBool (sym h.1) (exact-base h.0.base base.Bool h.2)
+
+and-boolean : (a b : Expr) → IsBoolean a → IsBoolean b → IsBoolean (joined And a b)
+and-boolean a b h k = (
+  record { base = base.Bool; nullable = h.0.nullable || k.0.nullable },
+  ap₂ joined_type h.1 k.1 ∙ ap (λ x. if x then bool_type (h.0.nullable || k.0.nullable) else None) (ap₂ ◌&&◌ h.2 k.2),
+  refl,
+)
 
 fine-both : (a b : Expr) → Fine a → Fine b → Fine (joined And a b)
-fine-both a b h k = (ill, and-test a b h.1 k.1)
+fine-both a b h k = (ill, and-boolean a b h.1 k.1)
   where
     ill : ¬ AnyOf IsIllTyped (nodes (joined And a b))
-    ill (inl e) = some_none ((and-test a b h.1 k.1).1.0) (sym ((and-test a b h.1 k.1).1.1) ∙ e)
+    ill (inl e) = some_none ((and-boolean a b h.1 k.1).0) (sym ((and-boolean a b h.1 k.1).1) ∙ e)
     ill (inr i) = neither IsIllTyped (nodes a) (nodes b) h.0 k.0 i
 
-fine-into : (place : Place) → IsGuardedPlace place → (v : View) (e : Expr) → IsTest e
+fine-into : (place : Place) → IsGuardedPlace place → (v : View) (e : Expr) → IsBoolean e
     → ¬ IsIllTypedClause (record { place = place; view = v; expr = e }) → Fine e
 fine-into in_on at v e h n = (λ i. n (inl (inl i)), h)
 fine-into in_where at v e h n = (λ i. n (inl (inl i)), h)
@@ -135,10 +144,6 @@ LacksAmong ls c =
     × AnyOf (λ o. AnyOf (λ l. (l.origin ≡ o) × IsTrue (is_padded l)) ls
     × ¬ AnyPair (λ a b. (a ≡ o) × (b ≡ o)) (map (λ l. l.origin) ls)) (bare c.expr)
 
-columns-same : (t : TableDecl) (p : Expr) (s : Statement) → columns (restricted t p s) ≡ columns s
-columns-same t p (select default e f u w o rows g h form marks) = refl
-columns-same t p (combination by all a b o rows) = columns-same t p a
-
 module _ (schema : Declarations) (d : Dialect) (t : TableDecl) (p : Expr) (predicate : IsPredicate t p) where
   -- a rule on each node of an expression, which AND does not break
   node-guard : (Q : View → Expr → Type 0) → ((v : View) (by : Logic) (a b : Expr) → ¬ Q v (joined by a b))
@@ -171,8 +176,7 @@ module _ (schema : Declarations) (d : Dialect) (t : TableDecl) (p : Expr) (predi
   fine-predicate : (o : Origin) → Fine (aimed p o)
   fine-predicate o = (
     well_typed (aimed-test p o (predicate-fit t p predicate).test),
-    aimed-test p o
-        (predicate-fit t p predicate).test,
+    (aimed-test p o (predicate-fit t p predicate).test).1,
   )
     where
       no_misfit : list_any misfit (nodes (aimed p o)) ≡ true → ⊥
@@ -197,24 +201,56 @@ module _ (schema : Declarations) (d : Dialect) (t : TableDecl) (p : Expr) (predi
     both = λ v a b h k. fine-both a b h k;
   }
 
-  select-kept : (outer : View) (s : Select) → IsPlainSelect s.selection s.source s.distinctness s.where_by s.order
-      → ((r : Rule) → ¬ SelectBreaks r schema d outer s) → (r : Rule)
+  pub select-kept : (outer : View) (s : Select) → ((r : Rule) → ¬ SelectBreaks r schema d outer s) → (r : Rule)
       → ¬ SelectBreaks r schema d outer (guarded_select t p s)
-  select-kept outer s plain h r = by r
+  select-kept outer s h r = by r
     where
       known : Each (λ l. IsTable schema l.origin.table) (leaves_of s.source)
       known = known_tables schema (leaves_of s.source) (λ i. h R.UnknownName (inl i))
 
-      plain_where : IsPlainCondition (with_all (predicates_from t p s.source) s.where_by)
-      plain_where = go s.source
-        where
-          go : (f : From) → IsPlainCondition (with_all (predicates_from t p f) s.where_by)
-          go no_source = plain.condition
-          go (from x) = added-plain t p (predicate-fit t p predicate) x s.where_by plain.condition
+      k1 : ¬ AnyOf IsIllTypedClause (record { place = in_selection; view = own s; expr = s.selection }
+          ∷ (ons_of s.source ++ (maybe_clause in_where (widest s.form s.source outer) s.where_by
+          ++ (maybe_clause in_group_by (own s) s.group_by
+          ++ (maybe_clause in_having (own s) s.having_by ++ order_clauses (own s) s.order)))))
+      k1 = free_right IsIllTypedClause (distinct_clause (own s) s.distinctness) _ (λ i. h R.TypeMismatch (inl i))
+
+      source : IsPlainFrom s.source
+      source =
+          from-plain s.source (free_left IsIllTypedClause (ons_of s.source) _ (λ i. k1 (inr i)))
+          (λ i. h R.Ambiguous (in_widest (λ a b. a ≡ b) s.form s.source outer i))
+
+      condition : IsBooleanMaybe s.where_by
+      condition =
+          where-plain (widest s.form s.source outer) s.where_by
+          (free_left IsIllTypedClause (maybe_clause in_where (widest s.form s.source outer) s.where_by) _
+          (free_right IsIllTypedClause (ons_of s.source) _ (λ i. k1 (inr i))))
 
       views : (Q : Origin → Origin → Type 0) → ¬ AnyPair Q (widest s.form s.source outer)
           → ¬ AnyPair Q (widest s.form (restricted_from t p s.source) outer)
       views Q n = subst (λ v. ¬ AnyPair Q v) (sym (widest-same t p s.form s.source outer)) n
+
+      -- WHERE has no aggregate, and the predicates have none
+      no_aggregate : (c : MaybeExpr) → ¬ HasAggregate c
+          → ¬ AnyOf (λ x. AnyOf Counts (nodes x.expr)) (maybe_clause in_where (widest s.form s.source outer) c)
+      no_aggregate no_expr n i = i
+      no_aggregate (an_expr e) n (inl i) = n ((any-decides Counts is_aggregate (λ x. (λ q. q, λ q. q)) (nodes e)).1 i)
+      no_aggregate (an_expr e) n (inr i) = i
+
+      has_aggregate : (c : MaybeExpr) → HasAggregate c
+          → AnyOf (λ x. AnyOf Counts (nodes x.expr)) (maybe_clause in_where (widest s.form s.source outer) c)
+      has_aggregate no_expr a = a
+      has_aggregate (an_expr e) a = inl ((any-decides Counts is_aggregate (λ x. (λ q. q, λ q. q)) (nodes e)).0 a)
+
+      uncounted_where : ¬ HasAggregate (with_all (predicates_from t p s.source) s.where_by)
+      uncounted_where a =
+          guarded-maybe schema t p predicate.own (λ c. AnyOf Counts (nodes c.expr)) (λ v e. ¬ AnyOf Counts (nodes e))
+          (node-guard (λ v. Counts) (λ v by a b q. false≢true q) (unaggregated-aimed schema t)) in_where tt
+          (widest s.form s.source outer) (open_from t s.source) (where-good schema t s.form s.source outer known)
+          s.where_by condition (no_aggregate s.where_by (λ x. h R.Grouping (inr (inl (inl x)))))
+          (subst (λ ps. AnyOf (λ x. AnyOf Counts (nodes x.expr))
+          (maybe_clause in_where (widest s.form s.source outer) (with_all ps s.where_by)))
+          (predicates_from-aimed t p predicate.own s.source)
+          (has_aggregate (with_all (predicates_from t p s.source) s.where_by) a))
 
       by : (q : Rule) → ¬ SelectBreaks q schema d outer (guarded_select t p s)
       by R.UnknownName (inl i) =
@@ -222,12 +258,13 @@ module _ (schema : Declarations) (d : Dialect) (t : TableDecl) (p : Expr) (predi
       by R.UnknownName (inr i) =
           guarded-clauses schema t p predicate.own (λ c. AnyOf (IsUnknownColumn schema) (nodes c.expr))
           (λ v e. ¬ AnyOf (IsUnknownColumn schema) (nodes e))
-          (node-guard (λ v. IsUnknownColumn schema) (λ v by a b q. q) (known-aimed schema t)) outer s plain known
+          (node-guard (λ v. IsUnknownColumn schema) (λ v by a b q. q)
+          (known-aimed schema t)) outer s source condition known
           (λ j. h R.UnknownName (inr j)) i
       by R.Incompatible i = h R.Incompatible i
       by R.EmptyList (inl i) =
           guarded-clauses schema t p predicate.own IsEmptyList (λ v e. Unit {0})
-          (other-guard IsEmptyList no_list) outer s plain known (λ j. h R.EmptyList (inl j)) i
+          (other-guard IsEmptyList no_list) outer s source condition known (λ j. h R.EmptyList (inl j)) i
       by R.EmptyList (inr i) = h R.EmptyList (inr i)
       by R.NoRelation i = h R.NoRelation (related-from t p s.source i)
       by R.Ambiguous i = views _ (h R.Ambiguous) i
@@ -236,22 +273,23 @@ module _ (schema : Declarations) (d : Dialect) (t : TableDecl) (p : Expr) (predi
       by R.NotInScope i =
           guarded-clauses schema t p predicate.own (λ c. AnyOf (IsOutOfScope c.view) (nodes c.expr))
           (λ v e. ¬ AnyOf (IsOutOfScope v) (nodes e))
-          (node-guard IsOutOfScope (λ v by a b q. q) (seen-aimed schema t)) outer s plain known (h R.NotInScope) i
+          (node-guard IsOutOfScope (λ v by a b q. q) (seen-aimed schema t)) outer s source condition known
+          (h R.NotInScope) i
       by R.TypeMismatch (inl i) =
-          guarded-clauses schema t p predicate.own IsIllTypedClause (λ v e. Fine e) fine-guard outer s plain known
+          guarded-clauses schema t p predicate.own IsIllTypedClause
+          (λ v e. Fine e) fine-guard outer s source condition known
           (λ j. h R.TypeMismatch (inl j)) i
       by R.TypeMismatch (inr i) = h R.TypeMismatch (inr i)
       by R.NeedsNullable i =
           guarded-clauses schema t p predicate.own (LacksNullable s) (λ v e. Unit {0})
-          (other-guard (LacksNullable s) (not_selected s)) outer s plain known (h R.NeedsNullable)
+          (other-guard (LacksNullable s) (not_selected s)) outer s source condition known (h R.NeedsNullable)
           (subst (λ ls. AnyOf (LacksAmong ls) (clauses outer (guarded_select t p s))) (leaves-same t p s.source) i)
       by R.Grouping (inl i) =
           guarded-clauses schema t p predicate.own (λ c. AnyOf CountsAggregate (nodes c.expr))
           (λ v e. ¬ AnyOf CountsAggregate (nodes e))
-          (node-guard (λ v. CountsAggregate) (λ v by a b q. q) (uncounted-aimed schema t)) outer s plain known
+          (node-guard (λ v. CountsAggregate) (λ v by a b q. q) (uncounted-aimed schema t)) outer s source condition known
           (λ j. h R.Grouping (inl j)) i
-      by R.Grouping (inr (inl (inl a))) =
-          no_aggregate_maybe (with_all (predicates_from t p s.source) s.where_by) plain_where a
+      by R.Grouping (inr (inl (inl a))) = uncounted_where a
       by R.Grouping (inr (inl (inr a))) = h R.Grouping (inr (inl (inr a)))
       by R.Grouping (inr (inr a)) = h R.Grouping (inr (inr a))
       by R.InvalidDistinctOrder i = h R.InvalidDistinctOrder i
@@ -259,136 +297,3 @@ module _ (schema : Declarations) (d : Dialect) (t : TableDecl) (p : Expr) (predi
       by R.Unsupported (inl (n, inr i)) = h R.Unsupported (inl (n, inr (marked-from t p s.source i)))
       by R.Unsupported (inr i) = h R.Unsupported (inr i)
       by R.TooManyBinds i = i
-
-  combination-kept : (c : Combination) → ((r : Rule) → ¬ CombinationBreaks r d c) → (r : Rule)
-      → ¬ CombinationBreaks r d (record c { left = restricted t p c.left; right = restricted t p c.right })
-  combination-kept c h R.EmptyList i = h R.EmptyList i
-  combination-kept c h R.TypeMismatch i =
-      h R.TypeMismatch (λ e. i (columns-same t p c.left ∙ (e ∙ sym (columns-same t p c.right))))
-  combination-kept c h R.Unsupported i = h R.Unsupported i
-  combination-kept c h R.UnknownName i = i
-  combination-kept c h R.Incompatible i = i
-  combination-kept c h R.NoRelation i = i
-  combination-kept c h R.Ambiguous i = i
-  combination-kept c h R.NotTogether i = i
-  combination-kept c h R.NameClash i = i
-  combination-kept c h R.NotInScope i = i
-  combination-kept c h R.NeedsNullable i = i
-  combination-kept c h R.Grouping i = i
-  combination-kept c h R.InvalidDistinctOrder i = i
-  combination-kept c h R.TooManyBinds i = i
-
-  plain-source : (s : Source) → IsPlainSource s → IsPlainSource (restricted_source t p s)
-  plain-source (of_table u only sample) h = h
-  plain-source (of_alias a u) h = h
-  plain-source (join Inner l r on) h = (plain-source l h.0, plain-source r h.1, h.2, apart l r h.3)
-    where
-      apart : (x y : Source) → Each (λ o. is_among o (source_leaves x) ≡ false) (source_leaves y)
-          → Each (λ o. is_among o (source_leaves (restricted_source t p x)) ≡ false)
-          (source_leaves (restricted_source t p y))
-      apart x y k =
-          subst (λ xs. Each (λ o. is_among o xs ≡ false) (source_leaves (restricted_source t p y)))
-          (sym (restricted-source_leaves t p x))
-          (subst (Each (λ o. is_among o (source_leaves x) ≡ false)) (sym (restricted-source_leaves t p y)) k)
-  plain-source (join LeftOuter l r on) h =
-      (plain-source l h.0, plain-source r h.1, added-plain t p (predicate-fit t p predicate) r on h.2, apart l r h.3)
-    where
-      apart : (x y : Source) → Each (λ o. is_among o (source_leaves x) ≡ false) (source_leaves y)
-          → Each (λ o. is_among o (source_leaves (restricted_source t p x)) ≡ false)
-          (source_leaves (restricted_source t p y))
-      apart x y k =
-          subst (λ xs. Each (λ o. is_among o xs ≡ false) (source_leaves (restricted_source t p y)))
-          (sym (restricted-source_leaves t p x))
-          (subst (Each (λ o. is_among o (source_leaves x) ≡ false)) (sym (restricted-source_leaves t p y)) k)
-
-  plain-from : (f : From) → IsPlainFrom f → IsPlainFrom (restricted_from t p f)
-  plain-from no_source h = h
-  plain-from (from s) h = plain-source s h
-
-  plain-where : (f : From) (w : MaybeExpr) → IsPlainCondition w → IsPlainCondition (with_all (predicates_from t p f) w)
-  plain-where no_source w h = h
-  plain-where (from s) w h = added-plain t p (predicate-fit t p predicate) s w h
-
-  clean-restricted : (outer : View) (s : Statement) → Clean schema d (parts outer s)
-      → ¬ AnyOf IsOutOfKind (parts outer s)
-      → Clean schema d (parts outer (restricted t p s))
-  clean-restricted outer (select default e f u w o rows g h form marks) c k r = head
-    where
-      plain : IsPlain (select default e f u w o rows g h form marks)
-      plain = is-plain schema d outer (select default e f u w o rows g h form marks) c k
-
-      ungrouped : ¬ Present g
-      ungrouped x = k (inl (inr x))
-
-      unhaving : ¬ Present h
-      unhaving x = c R.Incompatible (inl (inr (inr (x, ungrouped))))
-
-      head : ¬ AnyOf (PartBreaks r schema d)
-          (parts outer (restricted t p (select default e f u w o rows g h form marks)))
-      head (inl i) = select-kept outer (the_select e f u w o rows g h form marks) plain (λ q j. c q (inl j)) r i
-      head (inr i) =
-          neither (PartBreaks r schema d) (in_distinct (origins_of (restricted_from t p f)) u) _
-          (no_inside_key _ _ u plain.key)
-          (neither (PartBreaks r schema d) (in_expr (origins_of (restricted_from t p f)) e) _
-          (no_inside _ _ e plain.selection)
-          (neither (PartBreaks r schema d) (in_from (restricted_from t p f)) _
-          (no_inside_from _ (restricted_from t p f) (plain-from f plain.source))
-          (neither (PartBreaks r schema d)
-          (in_maybe (widest form (restricted_from t p f) outer) (with_all (predicates_from t p f) w)) _
-          (no_inside_maybe _ _ (with_all (predicates_from t p f) w) (plain-where f w plain.condition))
-          (neither (PartBreaks r schema d) (in_maybe (origins_of (restricted_from t p f)) g) _
-          (no_inside_absent _ _ g ungrouped)
-          (neither (PartBreaks r schema d) (in_maybe (origins_of (restricted_from t p f)) h) _
-          (no_inside_absent _ _ h unhaving)
-          (no_inside_order _ _ o plain.order)))))) i
-  clean-restricted outer (combination by all a b o rows) c k r =
-      head (clean-restricted outer a left left' r) (clean-restricted outer b right right' r)
-    where
-      inside : Clean schema d (parts outer a ++ parts outer b)
-      inside q i = c q (inr i)
-
-      beyond : ¬ AnyOf IsOutOfKind (parts outer a ++ parts outer b)
-      beyond i = k (inr i)
-
-      left : Clean schema d (parts outer a)
-      left = Clean-left schema d (parts outer a) (parts outer b) inside
-
-      right : Clean schema d (parts outer b)
-      right = Clean-right schema d (parts outer a) (parts outer b) inside
-
-      left' : ¬ AnyOf IsOutOfKind (parts outer a)
-      left' = free_left IsOutOfKind (parts outer a) (parts outer b) beyond
-
-      right' : ¬ AnyOf IsOutOfKind (parts outer b)
-      right' = free_right IsOutOfKind (parts outer a) (parts outer b) beyond
-
-      head : ¬ AnyOf (PartBreaks r schema d) (parts outer (restricted t p a))
-          → ¬ AnyOf (PartBreaks r schema d) (parts outer (restricted t p b))
-          → ¬ AnyOf (PartBreaks r schema d) (parts outer (restricted t p (combination by all a b o rows)))
-      head ha hb (inl i) =
-          combination-kept (record { combinator = by; duplicates = all; left = a; right = b; order = o; rows = rows })
-          (λ q j. c q (inl j)) r i
-      head ha hb (inr i) =
-          neither (PartBreaks r schema d) (parts outer (restricted t p a)) (parts outer (restricted t p b)) ha hb i
-
-unbroken : (schema : Declarations) (d : Dialect) (s : Statement) → Clean schema d (parts [] s) → (r : Rule)
-    → ¬ (r ≡ R.TooManyBinds) → ¬ Broken r schema d s
-unbroken schema d s h R.TooManyBinds n = absurd (n refl)
-unbroken schema d s h R.UnknownName n = h R.UnknownName
-unbroken schema d s h R.Incompatible n = h R.Incompatible
-unbroken schema d s h R.EmptyList n = h R.EmptyList
-unbroken schema d s h R.NoRelation n = h R.NoRelation
-unbroken schema d s h R.Ambiguous n = h R.Ambiguous
-unbroken schema d s h R.NotTogether n = h R.NotTogether
-unbroken schema d s h R.NameClash n = h R.NameClash
-unbroken schema d s h R.NotInScope n = h R.NotInScope
-unbroken schema d s h R.TypeMismatch n = h R.TypeMismatch
-unbroken schema d s h R.NeedsNullable n = h R.NeedsNullable
-unbroken schema d s h R.Grouping n = h R.Grouping
-unbroken schema d s h R.InvalidDistinctOrder n = h R.InvalidDistinctOrder
-unbroken schema d s h R.Unsupported n = h R.Unsupported
-
-pub kept : (schema : Declarations) (d : Dialect) (s : Statement) (t : TableDecl) (p : Expr) → Accepted schema d s
-    → ¬ AnyOf IsOutOfKind (parts [] s) → IsPredicate t p → BreaksAtMostTooManyBinds schema d (restricted t p s)
-kept schema d s t p h k predicate =
-    unbroken schema d (restricted t p s) (clean-restricted schema d t p predicate [] s (accepted-clean schema d s h) k)

@@ -14,10 +14,12 @@ use Rattle.sql_origin.specs.Origins.{a_table}
 use Rattle.sql_schema.proofs.EqualityLaws.{exact-table}
 use Rattle.sql_rules.specs.Lists.{AnyOf, Each}
 use Rattle.sql_rules.specs.Scope.{parts}
-use Rattle.sql_rows_meaning.specs.Answers.{Gives, Holds, Answers, Line, no_rows, a_row}
+use Rattle.sql_rows_meaning.specs.Answers.{Gives, Holds, Line, no_rows, a_row}
 use Rattle.sql_rows_meaning.specs.Example.{users, posts, user_rows, post_rows, blog, database, relation, selection, statement}
 use Rattle.sql_rows_meaning.specs.Frames.{Database, Frame}
-use Rattle.sql_rows_meaning.specs.Rows.{Row, Filtered, none, kept, dropped}
+use Rattle.sql_rows_meaning.specs.Ungrouped.{RowAnswers}
+use Rattle.sql_rows_meaning.proofs.Ungrouped.{ungrouped-same}
+use Rattle.sql_rows_meaning.specs.Rows.{Row, NullPlaces, as_greatest, Filtered, none, kept, dropped}
 use Rattle.sql_rows_meaning.specs.Values.{compared_value, is_true}
 use Rattle.sql_rows_meaning.proofs.Functional.{whole-permutation, permutation-whole}
 use Rattle.sql_rows_meaning.proofs.Lists.{IsPart-each, Joined-each}
@@ -40,9 +42,9 @@ no_post = (a_table posts, V.Null ∷ (V.Null ∷ (V.Null ∷ []))) ∷ []
 abbrev cut : Database
 cut t = if same_table t users then user_rows else []
 
-is_cut : IsCut posts owned database cut
+is_cut : (places : NullPlaces) → IsCut places posts owned database cut
 unfolding compared_value
-is_cut = record {
+is_cut places = record {
   kept = dropped (V.Bool false, (V.Integer (pos 1), V.Integer (pos 2), refl, refl, refl), refl) none;
   others = λ u n. ap (λ b. if same_table u users then user_rows else if b then post_rows else [])
       (sym (false_from_ne_true (same_table u posts) (λ e. n (sym (exact-table u posts e)))));
@@ -58,8 +60,8 @@ abbrev line : Row → Line
 line row = record { shown = row; key = []; order = [] }
 
 -- both users, without a post
-over_cut : Answers statement cut [] (alone ∷ (other ∷ []))
-over_cut = (
+over_cut : (places : NullPlaces) → RowAnswers places statement cut [] (alone ∷ (other ∷ []))
+over_cut places = (
   (user 1 (codes "a") ++ no_post) ∷ ((user 2 (codes "b") ++ no_post) ∷ []),
   (user 1 (codes "a") ++ no_post) ∷ ((user 2 (codes "b") ++ no_post) ∷ []),
   (user 1 (codes "a") ++ no_post) ∷ ((user 2 (codes "b") ++ no_post) ∷ []),
@@ -74,21 +76,20 @@ over_cut = (
   kept refl (kept refl none),
   permutation-whole false _ _ (IsPermutation-refl _),
   ((gives 1 (codes "a"), refl, refl), ((gives 2 (codes "b"), refl, refl), tt)),
-  (true, λ k d h l. refl),
+  λ k d h l. refl,
   refl,
-  tt,
 )
   where
     gives : (n : ℕ) (name : List ℕ)
-        → Gives selection cut (user n name ++ no_post) (V.Integer (pos n) ∷ (V.Null ∷ []))
+        → Gives places selection cut ((user n name ++ no_post) ∷ []) (V.Integer (pos n) ∷ (V.Null ∷ []))
     gives n name =
         (V.Integer (pos n) ∷ [], V.Null ∷ [], refl, (V.Null ∷ [], [], refl, refl, refl), refl)
 
 -- ---- in WHERE
 
 -- the predicate is not true of the row
-abbrev Fails : Frame → Type 0
-Fails f = (t : Bool) → Holds (an_expr owned) database (f ++ []) t → t ≡ false
+abbrev Fails : NullPlaces → Frame → Type 0
+Fails places f = (t : Bool) → Holds places (an_expr owned) database ((f ++ []) ∷ []) t → t ≡ false
 
 abbrev IsUser : Frame → Type 0
 IsUser f = (f ≡ user 1 (codes "a")) ⊎ (f ≡ user 2 (codes "b"))
@@ -97,27 +98,28 @@ truth_of : (x y v a b : Value) (t : Bool) → x ∷ [] ≡ a ∷ [] → y ∷ []
     → t ≡ is_true v → t ≡ is_true (compared_value Eq a b)
 truth_of x y v a b t x_is y_is v_is t_is = cc
 
-null_fails : (n : ℕ) (name : List ℕ) → Fails (user n name ++ no_post)
+null_fails : (places : NullPlaces) (n : ℕ) (name : List ℕ) → Fails places (user n name ++ no_post)
 unfolding compared_value
-null_fails n name t (v, (x, y, x_is, y_is, v_is), t_is) =
+null_fails places n name t (v, (x, y, x_is, y_is, v_is), t_is) =
     truth_of x y v V.Null (V.Integer (pos 2)) t x_is y_is v_is t_is
 
-post_fails : (n : ℕ) (name : List ℕ) → Fails (user n name ++ post)
+post_fails : (places : NullPlaces) (n : ℕ) (name : List ℕ) → Fails places (user n name ++ post)
 unfolding compared_value
-post_fails n name t (v, (x, y, x_is, y_is, v_is), t_is) =
+post_fails places n name t (v, (x, y, x_is, y_is, v_is), t_is) =
     truth_of x y v (V.Integer (pos 1)) (V.Integer (pos 2)) t x_is y_is v_is t_is
 
-both : (x y : Frame) (n : ℕ) (name : List ℕ) → x ≡ user n name → y ≡ post → Fails (x ++ y)
-both x y n name e d =
-    subst (λ z. Fails (z ++ y)) (sym e) (subst (λ z. Fails (user n name ++ z)) (sym d) (post_fails n name))
+both : (places : NullPlaces) (x y : Frame) (n : ℕ) (name : List ℕ) → x ≡ user n name → y ≡ post → Fails places (x ++ y)
+both places x y n name e d =
+    subst (λ z. Fails places (z ++ y)) (sym e)
+    (subst (λ z. Fails places (user n name ++ z)) (sym d) (post_fails places n name))
 
-pair_fails : (x y : Frame) → IsUser x → y ≡ post → Fails (x ++ y)
-pair_fails x y (inl e) d = both x y 1 (codes "a") e d
-pair_fails x y (inr e) d = both x y 2 (codes "b") e d
+pair_fails : (places : NullPlaces) (x y : Frame) → IsUser x → y ≡ post → Fails places (x ++ y)
+pair_fails places x y (inl e) d = both places x y 1 (codes "a") e d
+pair_fails places x y (inr e) d = both places x y 2 (codes "b") e d
 
-padded_fails : (x : Frame) → LeftOuter ≡ LeftOuter → IsUser x → Fails (x ++ no_post)
-padded_fails x k (inl e) = subst (λ z. Fails (z ++ no_post)) (sym e) (null_fails 1 (codes "a"))
-padded_fails x k (inr e) = subst (λ z. Fails (z ++ no_post)) (sym e) (null_fails 2 (codes "b"))
+padded_fails : (places : NullPlaces) (x : Frame) → LeftOuter ≡ LeftOuter → IsUser x → Fails places (x ++ no_post)
+padded_fails places x k (inl e) = subst (λ z. Fails places (z ++ no_post)) (sym e) (null_fails places 1 (codes "a"))
+padded_fails places x k (inr e) = subst (λ z. Fails places (z ++ no_post)) (sym e) (null_fails places 2 (codes "b"))
 
 none_passes : {Test : Frame → Bool → Type 0} {xs ys : List Frame} → Filtered Test xs ys
     → Each (λ f. (t : Bool) → Test f t → t ≡ false) xs → ys ≡ []
@@ -140,12 +142,14 @@ no-lines R [] (y ∷ ys) e z = absurd z
 no-lines R (x ∷ xs) ys e z = absurd cc
 
 -- in WHERE the predicate leaves no row
-where_drops : (answer : List Row) → Answers (joined_on relation (an_expr owned)) database [] answer → answer ≡ []
-where_drops answer g = g.9 ∙ ap (map (λ l. l.shown)) lines_are
+where_drops : (places : NullPlaces) (answer : List Row)
+    → RowAnswers places (joined_on relation (an_expr owned)) database [] answer → answer ≡ []
+where_drops places answer g = g.9 ∙ ap (map (λ l. l.shown)) lines_are
   where
-    fail : Each Fails g.0
+    fail : Each (Fails places) g.0
     fail =
-        Joined-each IsUser (λ y. y ≡ post) Fails LeftOuter no_post g.4.1 pair_fails padded_fails
+        Joined-each IsUser (λ y. y ≡ post) (Fails places) LeftOuter no_post g.4.1 (pair_fails places)
+        (padded_fails places)
         (IsPart-each (λ y. y ≡ post) false (post ∷ []) g.4.1 g.4.3 (refl, tt)) g.4.4
         (IsPart-each IsUser false (user 1 (codes "a") ∷ (user 2 (codes "b") ∷ [])) g.4.0 g.4.2
         (inl refl, (inr refl, tt)))
@@ -159,10 +163,18 @@ where_drops answer g = g.9 ∙ ap (map (λ l. l.shown)) lines_are
 not_empty : (a : Row) (rows : List Row) → a ∷ rows ≡ [] → ⊥
 not_empty a rows e = absurd cc
 
+-- PostgreSQL's places of NULL, as an example
+abbrev some_places : NullPlaces
+some_places = as_greatest
+
 in_where : ¬ AnswersAsCut (joined_on relation (an_expr owned)) statement posts owned
 in_where h =
-    not_empty alone (other ∷ []) (where_drops (alone ∷ (other ∷ []))
-    ((h database cut is_cut (alone ∷ (other ∷ []))).1 over_cut))
+    not_empty alone (other ∷ []) (where_drops some_places (alone ∷ (other ∷ []))
+    ((ungrouped-same some_places (joined_on relation (an_expr owned)) (refl, λ g. g, λ k. k) database []
+    (alone ∷ (other ∷ []))).0
+    ((h some_places database cut (is_cut some_places) (alone ∷ (other ∷ []))).1
+    ((ungrouped-same some_places statement (refl, λ g. g, λ k. k) cut [] (alone ∷ (other ∷ []))).1
+    (over_cut some_places)))))
 
 -- ---- in ON
 
@@ -177,6 +189,6 @@ on-needed = record {
   predicate = predicate;
   kind = kind;
   in_on = refl;
-  exact = restriction blog Pg statement posts owned (accepted_example.accepted Pg) kind predicate;
+  exact = restriction blog Pg statement posts owned (λ r n. accepted_example.accepted Pg r) kind predicate;
   in_where = in_where;
 }

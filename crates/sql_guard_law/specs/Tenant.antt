@@ -14,7 +14,8 @@ use Rattle.sql_rules.specs.declared.rule.Rule.{Rule}
 use Rattle.sql_rules.specs.declared.rule.Rule.TheVariants.{TooManyBinds}
 use Rattle.sql_rows_meaning.specs.Answers.{Answers, Holds}
 use Rattle.sql_rows_meaning.specs.Frames.{Database}
-use Rattle.sql_rows_meaning.specs.Rows.{Row, Filtered}
+use Rattle.sql_rows_meaning.specs.Groups.{alone}
+use Rattle.sql_rows_meaning.specs.Rows.{Row, NullPlaces, Filtered}
 
 -- ---- what is restricted, and by what
 
@@ -26,6 +27,17 @@ IsBeyond (exists q) = Unit {0}
 IsBeyond (single q) = Unit {0}
 IsBeyond (among_rows n e q) = Unit {0}
 IsBeyond _ = ⊥
+
+abbrev pub IsSubselect : Expr → Type 0
+IsSubselect (exists q) = Unit {0}
+IsSubselect (single q) = Unit {0}
+IsSubselect (among_rows n e q) = Unit {0}
+IsSubselect _ = ⊥
+
+-- a subselect stands in it
+abbrev pub HoldsSubselect : Part → Type 0
+HoldsSubselect (a_select outer s) = AnyExpr (λ v. IsSubselect) outer s
+HoldsSubselect (a_combination c) = ⊥
 
 -- an aggregate, a subselect or a GROUP BY stands in it
 abbrev pub IsOutOfKind : Part → Type 0
@@ -51,8 +63,8 @@ pub record IsPredicate (t : TableDecl) (p : Expr) : Type 0 where
 -- ---- the database of one tenant
 
 -- The table keeps the rows for which the predicate is true, all other tables keep all of theirs.
-pub record IsCut (t : TableDecl) (p : Expr) (db cut : Database) : Type 0 where
-  pub kept : Filtered (λ row b. Holds (an_expr p) db ((a_table t, row) ∷ []) b) (db t) (cut t)
+pub record IsCut (places : NullPlaces) (t : TableDecl) (p : Expr) (db cut : Database) : Type 0 where
+  pub kept : Filtered (λ row b. Holds places (an_expr p) db (alone ((a_table t, row) ∷ [])) b) (db t) (cut t)
   pub others : (u : TableDecl) → t ≢ u → cut u ≡ db u
 
 -- ---- the laws
@@ -60,7 +72,15 @@ pub record IsCut (t : TableDecl) (p : Expr) (db cut : Database) : Type 0 where
 -- The first statement answers over the whole database exactly what the second answers over the cut one.
 abbrev pub AnswersAsCut : Statement → Statement → TableDecl → Expr → Type 0
 AnswersAsCut r s t p =
-    (db cut : Database) → IsCut t p db cut → (answer : List Row) → Answers r db [] answer ↔ Answers s cut [] answer
+    (places : NullPlaces) (db cut : Database) → IsCut places t p db cut → (answer : List Row)
+    → Answers places r db [] answer ↔ Answers places s cut [] answer
+
+-- Of two databases whose cuts are one database the statement answers the same: the rows that are cut away do not matter.
+abbrev pub IsBlindToOthers : Statement → TableDecl → Expr → Type 0
+IsBlindToOthers r t p =
+    (places : NullPlaces) (db db' cut : Database) → IsCut places t p db cut → IsCut places t p db' cut
+    → (answer : List Row)
+    → Answers places r db [] answer ↔ Answers places r db' [] answer
 
 -- no rule is broken, but that the values may be too many
 abbrev pub BreaksAtMostTooManyBinds : Declarations → Dialect → Statement → Type 0

@@ -4,11 +4,14 @@ pub mod Entries
 pub mod inside
 -- What statements mean: `Rattle.sql_rows.specs.Fitting.{AnswersFit}` is that of `sql_rows_meaning`.
 pub use Rattle.sql_rows_meaning.specs.Answers
+pub use Rattle.sql_rows_meaning.specs.Counted
 pub use Rattle.sql_rows_meaning.specs.Example
 pub use Rattle.sql_rows_meaning.specs.Fitting
 pub use Rattle.sql_rows_meaning.specs.Frames
+pub use Rattle.sql_rows_meaning.specs.Groups
 pub use Rattle.sql_rows_meaning.specs.LastWriter
 pub use Rattle.sql_rows_meaning.specs.Needed
 pub use Rattle.sql_rows_meaning.specs.Rows
+pub use Rattle.sql_rows_meaning.specs.Ungrouped
 pub use Rattle.sql_rows_meaning.specs.Values
 pub use Rattle.sql_rows_meaning.specs.Worked

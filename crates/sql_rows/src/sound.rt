@@ -18,9 +18,9 @@ use sql_rows_meaning::types_are_sound;
 use sql_schema::Schema;
 use std::alloc::Global;
 
-/// What `compile_by` answers. And where the statement has no aggregate and no group, a column whose type is not nullable gives NULL
-/// over no database that conforms to the schema: `"users"."id"` of type Integer, `"posts"."title"` right of a left join only as
-/// `Text?` (`docs/MEANING.md`).
+/// What `compile_by` answers. And a column whose type is not nullable gives NULL over no database that conforms to the schema:
+/// `"users"."id"` of type Integer, `COUNT(*)`, but `"posts"."title"` right of a left join only as `Text?`. One rare form of a boxed
+/// statement is left out (`CountsBeside`, `docs/MEANING.md`).
 ///
 /// Statement and schema stay as they are. `NoMemory` may stand in place of any answer.
 pub fn compile_sound_by<DB: Backend>(

@@ -1,5 +1,5 @@
 -- The answers of the example.
-use Rattle.std.proofs.Common.{◌≡◌, ℕ, pos, Bool, true, false, List, [], ◌∷◌, ◌++◌, map, refl, sym, ap, ap₂, subst, ◌∙◌, inl, inr, ◌⊎◌, arith, IsPermutation, filter, codes, None}
+use Rattle.std.proofs.Common.{◌≡◌, ◌↔◌, ℕ, pos, Bool, true, false, List, [], ◌∷◌, ◌++◌, map, refl, sym, ap, ap₂, subst, ◌∙◌, inl, inr, ◌⊎◌, arith, IsPermutation, filter, codes, None}
 use Rattle.std.proofs.lemmas.List.Sorted.{IsPermutation-refl, IsPermutation-trans}
 use Rattle.sql_pass.specs.declared.value.Value.{Value}
 use Rattle.sql_pass.specs.declared.value.Value.TheVariants as V
@@ -11,8 +11,10 @@ use Rattle.sql_rows_meaning.specs.Answers.{Gives, Holds, SourceRows, Answers, Jo
 use Rattle.sql_rows_meaning.specs.Example as it
 use Rattle.sql_rows_meaning.specs.Example.{users, posts, database, relation, selection, statement, HasTwoAnswers}
 use Rattle.sql_rows_meaning.specs.Frames.{Frame, value_of}
-use Rattle.sql_rows_meaning.specs.Rows.{Row}
+use Rattle.sql_rows_meaning.specs.Rows.{Row, NullPlaces}
+use Rattle.sql_rows_meaning.specs.Ungrouped.{RowAnswers}
 use Rattle.sql_rows_meaning.specs.Values.{compared_value, is_true}
+use Rattle.sql_rows_meaning.proofs.Ungrouped.{ungrouped-same}
 use Rattle.sql_rows_meaning.proofs.Functional.{Filtered-is, is-Filtered, joined_rows, Joined-is, is-Joined, whole-permutation, permutation-whole, two-orders, one-order, AllZip-map_is}
 
 abbrev user : ℕ → List ℕ → Frame
@@ -24,10 +26,10 @@ post = (a_table posts, V.Integer (pos 5) ∷ (V.Integer (pos 1) ∷ (V.Text (cod
 abbrev no_post : Frame
 no_post = (a_table posts, V.Null ∷ (V.Null ∷ (V.Null ∷ []))) ∷ []
 
-abbrev first_frame : Frame
+abbrev pub first_frame : Frame
 first_frame = user 1 (codes "a") ++ post
 
-abbrev second_frame : Frame
+abbrev pub second_frame : Frame
 second_frame = user 2 (codes "b") ++ no_post
 
 shown_of : Frame → Row
@@ -39,27 +41,29 @@ passes_on f = is_true (compared_value Eq (value_of (a_table posts) it.user_id f)
 one_head : (a b : Value) → a ∷ [] ≡ b ∷ [] → a ≡ b
 one_head a b e = cc
 
-on_is : (f : Frame) (t : Bool) → Holds (an_expr relation) database f t → t ≡ passes_on f
+on_is : (places : NullPlaces) (f : Frame) (t : Bool) → Holds places (an_expr relation) database (f ∷ []) t
+    → t ≡ passes_on f
 unfolding passes_on
-on_is f t (v, (x, y, x_is, y_is, v_is), t_is) =
+on_is places f t (v, (x, y, x_is, y_is, v_is), t_is) =
     t_is ∙ ap is_true (one_head v _ v_is ∙ ap₂ (compared_value Eq) (one_head x _ x_is) (one_head y _ y_is))
 
-on_has : (f : Frame) → Holds (an_expr relation) database f (passes_on f)
+on_has : (places : NullPlaces) (f : Frame) → Holds places (an_expr relation) database (f ∷ []) (passes_on f)
 unfolding passes_on
-on_has f = (
+on_has places f = (
   compared_value Eq (value_of (a_table posts) it.user_id f) (value_of (a_table users) it.id f),
   (value_of (a_table posts) it.user_id f, value_of (a_table users) it.id f, refl, refl, refl),
   refl,
 )
 
-selection_is : (f : Frame) (vs : Row) → Gives selection database f vs → vs ≡ shown_of f
+selection_is : (places : NullPlaces) (f : Frame) (vs : Row) → Gives places selection database (f ∷ []) vs
+    → vs ≡ shown_of f
 unfolding shown_of
-selection_is f vs (xs, ys, x_is, (us, ws, u_is, w_is, ys_is), vs_is) =
+selection_is places f vs (xs, ys, x_is, (us, ws, u_is, w_is, ys_is), vs_is) =
     vs_is ∙ ap₂ ◌++◌ x_is (ys_is ∙ ap₂ ◌++◌ u_is w_is)
 
-selection_has : (f : Frame) → Gives selection database f (shown_of f)
+selection_has : (places : NullPlaces) (f : Frame) → Gives places selection database (f ∷ []) (shown_of f)
 unfolding shown_of
-selection_has f = (
+selection_has places f = (
   value_of (a_table users) it.id f ∷ [],
   value_of (a_table posts) it.title f
       ∷ [],
@@ -68,7 +72,7 @@ selection_has f = (
   refl,
 )
 
-swap_two : {A : Type 0} (a b : A) → IsPermutation (a ∷ b ∷ []) (b ∷ a ∷ [])
+pub swap_two : {A : Type 0} (a b : A) → IsPermutation (a ∷ b ∷ []) (b ∷ a ∷ [])
 swap_two a b = record { moves = (0, 1) ∷ []; below = (omega arith, omega arith, tt); is = refl }
 
 in_users_order : joined_rows LeftOuter no_post passes_on (post ∷ []) (user 1 (codes "a") ∷ user 2 (codes "b") ∷ [])
@@ -81,14 +85,15 @@ in_other_order : joined_rows LeftOuter no_post passes_on (post ∷ []) (user 2 (
 unfolding passes_on compared_value
 in_other_order = refl
 
-source_rows : (rows : List Frame) → SourceRows
+source_rows : (places : NullPlaces) (rows : List Frame) → SourceRows places
     (join LeftOuter (of_table users false None) (of_table posts false None) (an_expr relation)) database rows
     → IsPermutation (first_frame ∷ second_frame ∷ []) rows
-source_rows rows (xs, ys, xs_are, ys_are, j) = go (two-orders _ _ xs (whole-permutation _ xs xs_are))
+source_rows places rows (xs, ys, xs_are, ys_are, j) = go (two-orders _ _ xs (whole-permutation _ xs xs_are))
   where
     joined : (us : List Frame) → xs ≡ us → rows ≡ joined_rows LeftOuter no_post passes_on (post ∷ []) us
     joined us e =
-        Joined-is LeftOuter no_post (λ row t. Holds (an_expr relation) database row t) passes_on on_is ys j
+        Joined-is LeftOuter no_post (λ row t. Holds places (an_expr relation) database (row ∷ []) t) passes_on
+        (on_is places) ys j
         ∙ ap₂ (joined_rows LeftOuter no_post passes_on) (one-order post ys (whole-permutation _ ys ys_are)) e
 
     go : (xs ≡ user 1 (codes "a") ∷ user 2 (codes "b") ∷ []) ⊎ (xs ≡ user 2 (codes "b") ∷ user 1 (codes "a") ∷ [])
@@ -112,9 +117,10 @@ shown_second : shown_of second_frame ≡ it.second
 unfolding shown_of
 shown_second = refl
 
-only_these : (rows : List Row) → Answers statement database [] rows → (rows ≡ it.first ∷ it.second ∷ [])
+only_these : (places : NullPlaces) (rows : List Row) → RowAnswers places statement database [] rows
+    → (rows ≡ it.first ∷ it.second ∷ [])
     ⊎ (rows ≡ it.second ∷ it.first ∷ [])
-only_these rows g = go (two-orders _ _ g.2 taken_is)
+only_these places rows g = go (two-orders _ _ g.2 taken_is)
   where
     passing_is : g.1 ≡ g.0
     passing_is = Filtered-is (λ row t. t ≡ true) (λ x. true) (λ x t e. e) g.5 ∙ filter_all g.0
@@ -122,14 +128,15 @@ only_these rows g = go (two-orders _ _ g.2 taken_is)
     taken_is : IsPermutation (first_frame ∷ second_frame ∷ []) g.2
     taken_is =
         IsPermutation-trans _ g.1 g.2
-        (subst (λ r. IsPermutation (first_frame ∷ second_frame ∷ []) r) (sym passing_is) (source_rows g.0 g.4))
+        (subst (λ r. IsPermutation (first_frame ∷ second_frame ∷ []) r) (sym passing_is) (source_rows places g.0 g.4))
         (whole-permutation g.1 g.2 g.6)
 
     rows_are : rows ≡ map shown_of g.2
     rows_are =
-        g.9 ∙ AllZip-map_is (λ row line. Gives selection database row line.shown × KeyGives every database row line.key
-        × OrderGives no_order database row line.order) shown_of (λ line. line.shown)
-        (λ row line h. selection_is row line.shown h.0) g.2 g.3 g.7
+        g.9 ∙ AllZip-map_is (λ row line. Gives places selection database (row ∷ []) line.shown
+        × KeyGives places every database (row ∷ []) line.key × OrderGives places no_order database
+        (row ∷ []) line.order) shown_of (λ line. line.shown)
+        (λ row line h. selection_is places row line.shown h.0) g.2 g.3 g.7
 
     go : (g.2 ≡ first_frame ∷ second_frame ∷ []) ⊎ (g.2 ≡ second_frame ∷ first_frame ∷ [])
         → (rows ≡ it.first ∷ it.second ∷ []) ⊎ (rows ≡ it.second ∷ it.first ∷ [])
@@ -143,41 +150,50 @@ line_shown : (f : Frame) → (line_of f).shown ≡ shown_of f
 unfolding line_of
 line_shown f = refl
 
-these : (a b : Frame) → IsPermutation (first_frame ∷ second_frame ∷ []) (a ∷ b ∷ [])
-    → Answers statement database [] (shown_of a ∷ shown_of b ∷ [])
+pub example_rows : (places : NullPlaces) → SourceRows places
+    (join LeftOuter (of_table users false None) (of_table posts false None) (an_expr relation)) database
+    (first_frame ∷ second_frame ∷ [])
+example_rows places = (
+  user 1 (codes "a") ∷ user 2 (codes "b") ∷ [],
+  post ∷ [],
+  permutation-whole false _ _ (IsPermutation-refl _),
+  permutation-whole false _ _ (IsPermutation-refl _),
+  subst (λ rows. Joined LeftOuter no_post (λ row t. Holds places (an_expr relation) database (row ∷ []) t) (post ∷ [])
+      (user 1 (codes "a") ∷ user 2 (codes "b") ∷ []) rows) in_users_order
+      (is-Joined LeftOuter no_post (λ row t. Holds places (an_expr relation) database (row ∷ []) t) passes_on
+      (on_has places) (post ∷ [])
+      (user 1 (codes "a") ∷ user 2 (codes "b") ∷ [])),
+)
+
+these : (places : NullPlaces) (a b : Frame) → IsPermutation (first_frame ∷ second_frame ∷ []) (a ∷ b ∷ [])
+    → RowAnswers places statement database [] (shown_of a ∷ shown_of b ∷ [])
 unfolding line_of
-these a b p = (
+these places a b p = (
   first_frame ∷ second_frame ∷ [],
   first_frame ∷ second_frame ∷ [],
   a ∷ b ∷ [],
   line_of a ∷ line_of b ∷ [],
-  (
-    user 1 (codes "a") ∷ user 2 (codes "b") ∷ [],
-    post ∷ [],
-    permutation-whole false _ _ (IsPermutation-refl _),
-    permutation-whole false _ _ (IsPermutation-refl _),
-    subst (λ rows. Joined LeftOuter no_post (λ row t. Holds (an_expr relation) database row t) (post ∷ [])
-        (user 1 (codes "a") ∷ user 2 (codes "b") ∷ []) rows) in_users_order
-        (is-Joined LeftOuter no_post (λ row t. Holds (an_expr relation) database row t) passes_on on_has (post ∷ [])
-        (user 1 (codes "a") ∷ user 2 (codes "b") ∷ [])),
-  ),
+  example_rows places,
   is-Filtered (λ row t. t ≡ true) (λ x. true) (λ x. refl) (first_frame ∷ second_frame ∷ []),
   permutation-whole false _ _ p,
-  ((selection_has a, refl, refl), ((selection_has b, refl, refl), tt)),
-  (true, λ k d h l. refl),
+  ((selection_has places a, refl, refl), ((selection_has places b, refl, refl), tt)),
+  λ k d h l. refl,
   refl,
-  tt,
 )
 
 pub example : HasTwoAnswers
-example rows = (only_these rows, back)
+example places rows = (λ a. only_these places rows (same.0 a), λ e. same.1 (back e))
   where
-    back : (rows ≡ it.first ∷ it.second ∷ []) ⊎ (rows ≡ it.second ∷ it.first ∷ []) → Answers statement database [] rows
+    same : Answers places statement database [] rows ↔ RowAnswers places statement database [] rows
+    same = ungrouped-same places statement (refl, λ g. g, λ h. h) database [] rows
+
+    back : (rows ≡ it.first ∷ it.second ∷ []) ⊎ (rows ≡ it.second ∷ it.first ∷ [])
+        → RowAnswers places statement database [] rows
     back (inl e) =
-        subst (λ r. Answers statement database [] r)
+        subst (λ r. RowAnswers places statement database [] r)
         (sym (e ∙ ap₂ (λ a b. a ∷ b ∷ []) (sym shown_first) (sym shown_second)))
-        (these first_frame second_frame (IsPermutation-refl _))
+        (these places first_frame second_frame (IsPermutation-refl _))
     back (inr e) =
-        subst (λ r. Answers statement database [] r)
+        subst (λ r. RowAnswers places statement database [] r)
         (sym (e ∙ ap₂ (λ a b. a ∷ b ∷ []) (sym shown_second) (sym shown_first)))
-        (these second_frame first_frame (swap_two first_frame second_frame))
+        (these places second_frame first_frame (swap_two first_frame second_frame))

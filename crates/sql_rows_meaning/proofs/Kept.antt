@@ -33,7 +33,7 @@ pub Clean-right : (schema : Declarations) (d : Dialect) (ps qs : List Part) → 
 Clean-right schema d ps qs h r i = h r (any_right (PartBreaks r schema d) ps qs i)
 
 -- TooManyBinds is of the whole
-not_counted : (schema : Declarations) (d : Dialect) (ps : List Part) → ¬ AnyOf (PartBreaks R.TooManyBinds schema d) ps
+pub not_counted : (schema : Declarations) (d : Dialect) (ps : List Part) → ¬ AnyOf (PartBreaks R.TooManyBinds schema d) ps
 not_counted schema d [] h = h
 not_counted schema d (a_select outer s ∷ ps) (inl h) = h
 not_counted schema d (a_combination c ∷ ps) (inl h) = h

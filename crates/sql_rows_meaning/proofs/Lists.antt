@@ -111,7 +111,7 @@ AllZip-map R S g f [] (y ∷ ys) h = absurd h
 AllZip-map R S g f (x ∷ xs) [] h = absurd h
 AllZip-map R S g f (x ∷ xs) (y ∷ ys) h = (f x y h.0, AllZip-map R S g f xs ys h.1)
 
-first_of_each-each : (P : Line → Type 0) (key : Line → Row) (before lines : List Line) → Each P lines
+pub first_of_each-each : (P : Line → Type 0) (key : Line → Row) (before lines : List Line) → Each P lines
     → Each P (first_of_each key before lines)
 first_of_each-each P key before [] h = tt
 first_of_each-each P key before (line ∷ lines) h =

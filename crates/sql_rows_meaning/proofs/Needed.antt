@@ -78,7 +78,7 @@ accepted d R.TooManyBinds = λ h. few d statement (no-values d) h.1
 
 pub accepted_example : ExampleIsAccepted
 accepted_example =
-    record { declared = declared; conforms = grind arith; accepted = accepted; ungrouped = λ h. grind arith }
+    record { declared = declared; conforms = grind arith; accepted = accepted; uncounted = λ h. grind arith }
 
 alone : (d : Dialect) (r : Rule) → Broken r blog d bare_statement → r ≡ R.NeedsNullable
 alone d R.UnknownName h = absurd (grind arith)
@@ -107,7 +107,8 @@ pub needed : RuleIsNeeded
 needed =
     record {
       alone = λ d r. (alone d r, λ e. subst (λ q. Broken q blog d bare_statement) (sym e) (broken d));
-      ungrouped = λ h. grind arith;
+      uncounted = λ h. grind arith;
       types = refl;
-      unfit = (first ∷ (second ∷ []), (example (first ∷ (second ∷ []))).1 (inl refl), λ h. no-null h.1.0.1.0);
+      unfit = λ places.
+          (first ∷ (second ∷ []), (example places (first ∷ (second ∷ []))).1 (inl refl), λ h. no-null h.1.0.1.0);
     }

@@ -22,7 +22,7 @@ use Rattle.sql_origin.proofs.OriginLaws.{origin-decides, column-decides}
 use Rattle.sql_rows_meaning.specs.Answers.{SourceRows, FromRows, rows_as, is_partial}
 use Rattle.sql_rows_meaning.specs.Fitting.{RowFits, Conforms}
 use Rattle.sql_rows_meaning.specs.Frames.{Database, Frame, row_of, value_in, value_of, nulls}
-use Rattle.sql_rows_meaning.specs.Rows.{Row}
+use Rattle.sql_rows_meaning.specs.Rows.{Row, NullPlaces}
 use Rattle.sql_rows_meaning.proofs.Facts.{Fits, Fit}
 use Rattle.sql_rows_meaning.proofs.Lists.{Each-front, Each-end, Each-map, Each-unmap, IsPart-each, AllZip-append, AllZip-map, Joined-each}
 
@@ -92,17 +92,18 @@ leaf-rows db o may_lack l e rows h =
     (λ row fits. (record { same = sym e; row = inl (subst (λ p. RowFits (types_in p.table) row) (sym e) fits) }, tt))
     (db o.table) h
 
-pub source-fits : (schema : Declarations) (db : Database) → Conforms schema db → (s : Source) (rows : List Frame)
-    → AreDeclared schema (leaves s) → SourceRows s db rows → Each (FrameFits (leaves s)) rows
-source-fits schema db ok (of_table t only sample) rows h g =
+pub source-fits : (places : NullPlaces) (schema : Declarations) (db : Database) → Conforms schema db
+    → (s : Source) (rows : List Frame)
+    → AreDeclared schema (leaves s) → SourceRows places s db rows → Each (FrameFits (leaves s)) rows
+source-fits places schema db ok (of_table t only sample) rows h g =
     IsPart-each _ (is_partial only sample) _ rows g
     (leaf-rows db (a_table t) false (record { origin = a_table t; paddings = 0 }) refl rows
     (table-rows (λ u. Each (RowFits (types_in u)) (db u)) t schema.tables h.0 ok))
-source-fits schema db ok (of_alias a t) rows h g =
+source-fits places schema db ok (of_alias a t) rows h g =
     IsPart-each _ false _ rows g
     (leaf-rows db (an_alias a t) false (record { origin = an_alias a t; paddings = 0 }) refl rows
     (table-rows (λ u. Each (RowFits (types_in u)) (db u)) t schema.tables h.0 ok))
-source-fits schema db ok (join kind l r on) rows h g =
+source-fits places schema db ok (join kind l r on) rows h g =
     let right = Each-unmap (λ x. IsTable schema x.origin.table) (λ x. IsTable schema x.origin.table)
     (in_right_side kind) (declared_right schema kind) (leaves r)
     (Each-end (λ x. IsTable schema x.origin.table) (leaves l) (map (in_right_side kind) (leaves r)) h) in
@@ -113,14 +114,15 @@ source-fits schema db ok (join kind l r on) rows h g =
     (right-fits kind (leaves r) y q))
     (λ x outer p. AllZip-append LeafFits (leaves l) (map (in_right_side kind) (leaves r)) x (nulls (leaves r)) p
     (padding-fits kind (leaves r) outer))
-    (source-fits schema db ok r g.1 right g.3)
+    (source-fits places schema db ok r g.1 right g.3)
     g.4
-    (source-fits schema db ok l g.0 left g.2)
+    (source-fits places schema db ok l g.0 left g.2)
 
-pub from-fits : (schema : Declarations) (db : Database) → Conforms schema db → (s : From) (rows : List Frame)
-    → AreDeclared schema (leaves_of s) → FromRows s db rows → Each (FrameFits (leaves_of s)) rows
-from-fits schema db ok no_source rows h g = rw g (tt, tt)
-from-fits schema db ok (from s) rows h g = source-fits schema db ok s rows h g
+pub from-fits : (places : NullPlaces) (schema : Declarations) (db : Database) → Conforms schema db
+    → (s : From) (rows : List Frame)
+    → AreDeclared schema (leaves_of s) → FromRows places s db rows → Each (FrameFits (leaves_of s)) rows
+from-fits places schema db ok no_source rows h g = rw g (tt, tt)
+from-fits places schema db ok (from s) rows h g = source-fits places schema db ok s rows h g
 
 -- ---- the value of a column
 
@@ -137,7 +139,7 @@ value_in-fits c (d ∷ ds) (v ∷ vs) h e = go (same_column d c) refl e (value_i
     go false t (inl p) rest = absurd (true≢false (sym ((column-decides d c).1 p) ∙ t))
     go false t (inr p) rest = rest p
 
-value_in-null : (c : ColumnDecl) (cs : List ColumnDecl) (row : Row) → Each (λ v. v ≡ V.Null) row → value_in c cs row
+pub value_in-null : (c : ColumnDecl) (cs : List ColumnDecl) (row : Row) → Each (λ v. v ≡ V.Null) row → value_in c cs row
     ≡ V.Null
 value_in-null c [] row h = refl
 value_in-null c (d ∷ ds) [] h = refl

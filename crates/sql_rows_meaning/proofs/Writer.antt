@@ -7,7 +7,7 @@ use Rattle.sql_rows_meaning.specs.Answers.{Answers, Line}
 use Rattle.sql_rows_meaning.specs.Example.{users, posts, database}
 use Rattle.sql_rows_meaning.specs.LastWriter.{posts_of_user, HasLastWriter}
 use Rattle.sql_rows_meaning.specs.Frames.{Frame}
-use Rattle.sql_rows_meaning.specs.Rows.{none, kept, dropped}
+use Rattle.sql_rows_meaning.specs.Rows.{NullPlaces, none, kept, dropped}
 use Rattle.sql_rows_meaning.specs.Values.{compared_value}
 use Rattle.sql_rows_meaning.proofs.Functional.{permutation-whole}
 
@@ -21,54 +21,64 @@ abbrev five : Line
 five = record { shown = V.Integer (pos 5) ∷ []; key = []; order = [] }
 
 -- the first user has the post
-has_post : Answers posts_of_user database (user 1 (codes "a")) ((V.Integer (pos 5) ∷ []) ∷ [])
+has_post : (places : NullPlaces)
+    → Answers places posts_of_user database (user 1 (codes "a")) ((V.Integer (pos 5) ∷ []) ∷ [])
 unfolding compared_value
-has_post = (
+has_post places = (
   post ∷ [],
   post ∷ [],
   post ∷ [],
+  (post ∷ []) ∷ [],
+  (post ∷ []) ∷ [],
   five ∷ [],
   permutation-whole false _ _ (IsPermutation-refl _),
   kept (V.Bool true, (V.Integer (pos 1), V.Integer (pos 1), refl, refl, refl), refl) none,
   permutation-whole false _ _ (IsPermutation-refl _),
-  ((refl, refl, refl), tt),
-  (true, λ k d h l. refl),
   refl,
-  tt,
+  kept refl none,
+  ((refl, refl, refl), tt),
+  λ k d h l. refl,
+  refl,
 )
 
 -- the second has none
-has_none : Answers posts_of_user database (user 2 (codes "b")) []
+has_none : (places : NullPlaces) → Answers places posts_of_user database (user 2 (codes "b")) []
 unfolding compared_value
-has_none = (
+has_none places = (
   post ∷ [],
+  [],
+  [],
   [],
   [],
   [],
   permutation-whole false _ _ (IsPermutation-refl _),
   dropped (V.Bool false, (V.Integer (pos 1), V.Integer (pos 2), refl, refl, refl), refl) none,
   permutation-whole false _ _ (IsPermutation-refl _),
-  tt,
-  (true, λ k d h l. refl),
   refl,
+  none,
   tt,
+  λ k d h l. refl,
+  refl,
 )
 
 abbrev one : Line
 one = record { shown = V.Integer (pos 1) ∷ []; key = []; order = V.Integer (pos 1) ∷ [] }
 
 pub has-writer : HasLastWriter
-has-writer = (
+has-writer places = (
   user 1 (codes "a") ∷ (user 2 (codes "b") ∷ []),
   user 1 (codes "a") ∷ [],
   user 1 (codes "a") ∷ [],
+  (user 1 (codes "a") ∷ []) ∷ [],
+  (user 1 (codes "a") ∷ []) ∷ [],
   one ∷ [],
   permutation-whole false _ _ (IsPermutation-refl _),
-  kept (V.Bool true, ((V.Integer (pos 5) ∷ []) ∷ [], has_post, refl), refl)
-      (dropped (V.Bool false, ([], has_none, refl), refl) none),
+  kept (V.Bool true, ((V.Integer (pos 5) ∷ []) ∷ [], has_post places, refl), refl)
+      (dropped (V.Bool false, ([], has_none places, refl), refl) none),
   permutation-whole false _ _ (IsPermutation-refl _),
-  ((refl, refl, (V.Integer (pos 1), [], refl, refl, refl)), tt),
-  (true, λ k d h l. absurd (omega arith)),
   refl,
-  tt,
+  kept refl none,
+  ((refl, refl, (V.Integer (pos 1), [], refl, refl, refl)), tt),
+  λ k d h l. absurd (omega arith),
+  refl,
 )

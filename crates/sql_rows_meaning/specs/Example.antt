@@ -16,7 +16,7 @@ use Rattle.sql_leaf.specs.declared.operator.Comparison.TheVariants.{Eq}
 use Rattle.sql_origin.specs.Origins.{a_table}
 use Rattle.sql_rows_meaning.specs.Answers.{Answers}
 use Rattle.sql_rows_meaning.specs.Frames.{Database}
-use Rattle.sql_rows_meaning.specs.Rows.{Row}
+use Rattle.sql_rows_meaning.specs.Rows.{Row, NullPlaces}
 
 abbrev pub a_column : List ℕ → Base → ColumnDecl
 a_column name b = record { name = name; sql_name = name; ty = record { base = b; nullable = false }; max_length = None }
@@ -95,5 +95,5 @@ second = V.Integer (pos 2) ∷ (V.Null ∷ [])
 -- The answers are these two rows in either order, and no other list.
 abbrev pub HasTwoAnswers : Type 0
 HasTwoAnswers =
-    (answer : List Row)
-    → Answers statement database [] answer ↔ ((answer ≡ first ∷ (second ∷ [])) ⊎ (answer ≡ second ∷ (first ∷ [])))
+    (places : NullPlaces) (answer : List Row)
+    → Answers places statement database [] answer ↔ ((answer ≡ first ∷ (second ∷ [])) ⊎ (answer ≡ second ∷ (first ∷ [])))

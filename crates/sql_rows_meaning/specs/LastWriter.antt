@@ -7,6 +7,7 @@ use Rattle.sql_leaf.specs.declared.position.Direction.TheVariants as direction
 use Rattle.sql_node.specs.Tree.{unboxed, compared, exists, no_items, more_items, no_expr, an_expr, of_table, from, every, no_order, order_by, Statement, select}
 use Rattle.sql_leaf.specs.declared.operator.Comparison.TheVariants.{Eq}
 use Rattle.sql_rows_meaning.specs.Answers.{Answers}
+use Rattle.sql_rows_meaning.specs.Rows.{NullPlaces}
 use Rattle.sql_rows_meaning.specs.Example.{id, user_id, users, posts, database, of_users, of_posts}
 
 -- `SELECT posts.id FROM posts WHERE posts.user_id = users.id`
@@ -26,4 +27,4 @@ last_writer =
 
 -- The first user is an answer.
 abbrev pub HasLastWriter : Type 0
-HasLastWriter = Answers last_writer database [] ((V.Integer (pos 1) ∷ []) ∷ [])
+HasLastWriter = (places : NullPlaces) → Answers places last_writer database [] ((V.Integer (pos 1) ∷ []) ∷ [])

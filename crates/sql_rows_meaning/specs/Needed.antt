@@ -12,16 +12,16 @@ use Rattle.sql_rules.specs.declared.rule.Rule.{Rule}
 use Rattle.sql_rules.specs.declared.rule.Rule.TheVariants.{NeedsNullable}
 use Rattle.sql_rows_meaning.specs.Answers.{Answers}
 use Rattle.sql_rows_meaning.specs.Example.{blog, database, statement, bare_statement}
-use Rattle.sql_rows_meaning.specs.Fitting.{RowFits, Conforms, IsGrouped}
-use Rattle.sql_rows_meaning.specs.Rows.{Row}
+use Rattle.sql_rows_meaning.specs.Fitting.{RowFits, Conforms, CountsBeside}
+use Rattle.sql_rows_meaning.specs.Rows.{Row, NullPlaces}
 
 -- The example's declarations make a schema, its database conforms to that, and its statement breaks no rule in any dialect and
--- has no aggregate.
+-- counts nothing.
 pub record ExampleIsAccepted : Type 0 where
   pub declared : least_refusal blog ≡ None
   pub conforms : Conforms blog database
   pub accepted : (d : Dialect) → Accepted blog d statement
-  pub ungrouped : ¬ AnyOf IsGrouped (parts [] statement)
+  pub uncounted : ¬ AnyOf CountsBeside (parts [] statement)
 
 -- Integer and Text, neither of them nullable
 abbrev pub bare_types : List SqlType
@@ -31,6 +31,7 @@ bare_types = record { base = base.Integer; nullable = false } ∷ (record { base
 -- these types, but it has an answer over the example's database that does not fit them.
 pub record RuleIsNeeded : Type 0 where
   pub alone : (d : Dialect) (r : Rule) → Broken r blog d bare_statement ↔ (r ≡ NeedsNullable)
-  pub ungrouped : ¬ AnyOf IsGrouped (parts [] bare_statement)
+  pub uncounted : ¬ AnyOf CountsBeside (parts [] bare_statement)
   pub types : map Some bare_types ≡ columns bare_statement
-  pub unfit : (answer : List Row) × Answers bare_statement database [] answer × ¬ Each (RowFits bare_types) answer
+  pub unfit : (places : NullPlaces)
+      → (answer : List Row) × Answers places bare_statement database [] answer × ¬ Each (RowFits bare_types) answer

@@ -2,6 +2,8 @@
 -- LIMIT Clause; Combining Queries).
 use Rattle.std.specs.Prelude.{◌≡◌, ℕ, zero, suc, ◌+◌, ◌-◌, min, ℤ, pos, Bool, true, false, not, ◌&&◌, ◌||◌, List, [], ◌∷◌, ◌++◌, get_or, take, drop, Option, Some, nat_eq, if◌then◌else◌, IsPermutation, IsSortedBy}
 use Rattle.std.specs.Cmp.Lexicographic.{pointwise}
+use Rattle.sql_dialect.specs.declared.backend.Dialect.{Dialect}
+use Rattle.sql_dialect.specs.declared.backend.Dialect.TheVariants.{Pg, Mysql, Sqlite, Bracket}
 use Rattle.sql_dialect.specs.declared.combination.Combinator.{Combinator}
 use Rattle.sql_dialect.specs.declared.combination.Combinator.TheVariants.{Union, Intersect, Except}
 use Rattle.sql_dialect.specs.declared.combination.DuplicateRule.{DuplicateRule}
@@ -43,23 +45,45 @@ descends direction.None = false
 descends direction.Asc = false
 descends direction.Desc = true
 
--- whether x has to come before y by one item: NULL comes first, or last, whatever the direction
-abbrev pub comes_before : (nulls_first : Bool) → Direction → Value → Value → Bool
-comes_before nulls_first by V.Null V.Null = false
-comes_before nulls_first by V.Null y = nulls_first
-comes_before nulls_first by x V.Null = not nulls_first
-comes_before nulls_first by x y = if descends by then is_below y x else is_below x y
+-- Where NULL comes: whether it is first by an item that ascends, and by one that descends. It is a choice of the server.
+pub record NullPlaces : Type 0 where
+  pub ascending : Bool
+  pub descending : Bool
+
+abbrev pub as_greatest : NullPlaces
+as_greatest = record { ascending = false; descending = true }
+
+abbrev pub as_least : NullPlaces
+as_least = record { ascending = true; descending = false }
+
+-- PostgreSQL takes NULL for greater than every value (Sorting Rows), MySQL (Working with NULL Values), SQLite (SELECT, The ORDER
+-- BY clause) and Bracket for less.
+abbrev pub null_places : Dialect → NullPlaces
+null_places Pg = as_greatest
+null_places Mysql = as_least
+null_places Sqlite = as_least
+null_places Bracket = as_least
+
+abbrev pub nulls_first : NullPlaces → Direction → Bool
+nulls_first places by = if descends by then places.descending else places.ascending
+
+-- whether x has to come before y by one item
+abbrev pub comes_before : NullPlaces → Direction → Value → Value → Bool
+comes_before places by V.Null V.Null = false
+comes_before places by V.Null y = nulls_first places by
+comes_before places by x V.Null = not (nulls_first places by)
+comes_before places by x y = if descends by then is_below y x else is_below x y
 
 -- the same of rows of order values, by the first item in which they differ
-abbrev pub row_before : (nulls_first : Bool) → List Direction → Row → Row → Bool
-row_before nulls_first (by ∷ items) (x ∷ xs) (y ∷ ys) =
-    comes_before nulls_first by x y
-    || (not (comes_before nulls_first by y x) && row_before nulls_first items xs ys)
-row_before nulls_first _ _ _ = false
+abbrev pub row_before : NullPlaces → List Direction → Row → Row → Bool
+row_before places (by ∷ items) (x ∷ xs) (y ∷ ys) =
+    comes_before places by x y
+    || (not (comes_before places by y x) && row_before places items xs ys)
+row_before places _ _ _ = false
 
--- No row has to come before its predecessor. In one answer all NULLs come first, or all last: dialects differ.
-abbrev pub IsOrdered : List Direction → List Row → Type 0
-IsOrdered items keys = (nulls_first : Bool) × IsSortedBy (row_before nulls_first items) keys
+-- no row has to come before its predecessor
+abbrev pub IsOrdered : NullPlaces → List Direction → List Row → Type 0
+IsOrdered places items keys = IsSortedBy (row_before places items) keys
 
 -- the value of the n-th column, counted from 1; a number that is no column's gives the same for all rows, so it orders nothing
 abbrev pub value_at : ℕ → Row → Value

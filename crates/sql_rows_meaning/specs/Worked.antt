@@ -1,14 +1,17 @@
 -- Rows by which the definitions can be compared with their words, and what DISTINCT leaves.
-use Rattle.std.specs.Prelude.{◌≡◌, ◌↔◌, ⊤, ℕ, pos, negsuc, true, false, List, [], ◌∷◌, ◌++◌, Some, codes, IsPermutation}
+use Rattle.std.specs.Prelude.{◌≡◌, ◌↔◌, ⊤, ℕ, pos, negsuc, true, false, List, [], ◌∷◌, ◌++◌, Some, map, codes, IsPermutation}
 use Rattle.sql_dialect.specs.declared.combination.Combinator.TheVariants.{Union, Intersect, Except}
 use Rattle.sql_dialect.specs.declared.combination.DuplicateRule.TheVariants.{All, Distinct}
+use Rattle.sql_schema.specs.declared.types.SqlType.{SqlType}
 use Rattle.sql_pass.specs.declared.value.Value.TheVariants as V
+use Rattle.sql_leaf.specs.declared.position.Direction.{Direction}
 use Rattle.sql_leaf.specs.declared.position.Direction.TheVariants as direction
 use Rattle.sql_leaf.specs.declared.operator.Comparison.TheVariants.{Eq, Lt}
 use Rattle.sql_leaf.specs.declared.operator.Logic.TheVariants.{And, Or}
 use Rattle.sql_rules.specs.Lists.{Each}
 use Rattle.sql_rows_meaning.specs.Answers.{Line, is_keyed, first_of_each}
-use Rattle.sql_rows_meaning.specs.Rows.{Row, row_before, page, combined}
+use Rattle.sql_rows_meaning.specs.Fitting.{RowFits}
+use Rattle.sql_rows_meaning.specs.Rows.{Row, NullPlaces, as_greatest, as_least, same_row, row_before, IsOrdered, page, combined}
 use Rattle.sql_rows_meaning.specs.Values.{compared_value, joined_value, not_value, any_value}
 
 -- what operators, orders, cuts and combinations give: each is computed by the definitions
@@ -27,11 +30,13 @@ pub record AreWorked : Type 0 where
   pub null_in_nothing : any_value V.Null [] ≡ V.Bool false
   pub one_in_null_and_one : any_value (V.Integer (pos 1)) (V.Null ∷ (V.Integer (pos 1) ∷ [])) ≡ V.Bool true
   pub two_in_null_and_one : any_value (V.Integer (pos 2)) (V.Null ∷ (V.Integer (pos 1) ∷ [])) ≡ V.Null
-  pub falling : row_before true (direction.Desc ∷ []) (V.Text (codes "b") ∷ []) (V.Text (codes "a") ∷ []) ≡ true
-  pub second_item : row_before true (direction.Desc ∷ (direction.Asc ∷ [])) (V.Bool true ∷ (V.Integer (pos 1) ∷ []))
+  pub falling : row_before as_least (direction.Desc ∷ []) (V.Text (codes "b") ∷ []) (V.Text (codes "a") ∷ []) ≡ true
+  pub second_item : row_before as_least (direction.Desc ∷ (direction.Asc ∷ [])) (V.Bool true ∷ (V.Integer (pos 1) ∷ []))
       (V.Bool true ∷ (V.Integer (pos 2) ∷ [])) ≡ true
-  pub nulls_first : row_before true (direction.Desc ∷ []) (V.Null ∷ []) (V.Bool true ∷ []) ≡ true
-  pub nulls_last : row_before false (direction.None ∷ []) (V.Null ∷ []) (V.Bool true ∷ []) ≡ false
+  pub greatest_falling : row_before as_greatest (direction.Desc ∷ []) (V.Null ∷ []) (V.Bool true ∷ []) ≡ true
+  pub greatest_rising : row_before as_greatest (direction.None ∷ []) (V.Null ∷ []) (V.Bool true ∷ []) ≡ false
+  pub least_falling : row_before as_least (direction.Desc ∷ []) (V.Null ∷ []) (V.Bool true ∷ []) ≡ false
+  pub least_rising : row_before as_least (direction.Asc ∷ []) (V.Null ∷ []) (V.Bool true ∷ []) ≡ true
   pub negative_limit : page {A = ℕ} (record { limit_clause = Some (negsuc 0); offset_clause = Some (negsuc 4) })
       (1 ∷ (2 ∷ (3 ∷ []))) ≡ 1 ∷ (2 ∷ (3 ∷ []))
   pub second_of_three : page {A = ℕ} (record { limit_clause = Some (pos 1); offset_clause = Some (pos 1) })
@@ -65,3 +70,17 @@ FirstIsAny =
     (key : Line → Row) (lines chosen : List Line)
     → IsOneOfEach key lines chosen
     ↔ ((shuffled : List Line) × IsPermutation lines shuffled × (first_of_each key [] shuffled ≡ chosen))
+
+-- no line of its key comes before it
+abbrev pub IsFirst : NullPlaces → List Direction → List Line → Line → Type 0
+IsFirst places items lines c =
+    Each (λ l. same_row c.key l.key ≡ true → row_before places items l.order c.order ≡ false) lines
+
+-- Of lines in an order DISTINCT ON leaves the first by that order of each key, and these are in that order: where the values of
+-- each item are of one type.
+abbrev pub FirstIsLeft : Type 0
+FirstIsLeft =
+    (places : NullPlaces) (items : List Direction) (types : List SqlType) (lines : List Line)
+    → Each (λ l. RowFits types l.order) lines → IsOrdered places items (map (λ l. l.order) lines)
+    → IsOrdered places items (map (λ l. l.order) (first_of_each (λ l. l.key) [] lines))
+    × Each (IsFirst places items lines) (first_of_each (λ l. l.key) [] lines)

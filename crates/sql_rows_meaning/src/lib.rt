@@ -4,21 +4,26 @@
 //! when it runs.
 #![tactic(auto)]
 
-ghost use Rattle.std.specs.Prelude.{◌≡◌, List, Some, map};
+ghost use Rattle.std.specs.Prelude.{◌≡◌, ◌↔◌, List, [], Some, map};
 ghost use Rattle.sql_schema.specs.Declarations.{Declarations};
 ghost use Rattle.sql_schema.specs.declared.types.SqlType.{SqlType};
 ghost use Rattle.sql_dialect.specs.declared.backend.Dialect.{Dialect};
 ghost use Rattle.sql_node.specs.Tree.{Statement};
 ghost use Rattle.sql_rules.specs.Rules.{Accepted};
 ghost use Rattle.sql_rules.specs.Types.{columns};
+ghost use Rattle.sql_rows_meaning.specs.Answers.{Answers};
+ghost use Rattle.sql_rows_meaning.specs.Counted.{IsCounted};
 ghost use Rattle.sql_rows_meaning.specs.Example.{HasTwoAnswers};
 ghost use Rattle.sql_rows_meaning.specs.Fitting.{AnswersFit};
+ghost use Rattle.sql_rows_meaning.specs.Frames.{Database, Frame};
 ghost use Rattle.sql_rows_meaning.specs.LastWriter.{HasLastWriter};
 ghost use Rattle.sql_rows_meaning.specs.Needed.{ExampleIsAccepted, RuleIsNeeded};
-ghost use Rattle.sql_rows_meaning.specs.Worked.{AreWorked, FirstIsAny};
+ghost use Rattle.sql_rows_meaning.specs.Rows.{NullPlaces, Row};
+ghost use Rattle.sql_rows_meaning.specs.Ungrouped.{IsUngrouped, RowAnswers};
+ghost use Rattle.sql_rows_meaning.specs.Worked.{AreWorked, FirstIsAny, FirstIsLeft};
 
-/// A statement that breaks no rule and has no aggregate answers, over every database that conforms, only rows that fit the types
-/// of its columns: a column whose type is not nullable never gives NULL.
+/// A statement that breaks no rule answers, over every database that conforms, only rows that fit the types of its columns: a
+/// column whose type is not nullable never gives NULL. COUNT gives a number, also where it counts nothing.
 pub fn types_are_sound()
     ensures { (schema : Declarations) (d : Dialect) (s : Statement) (types : List SqlType)
         → Accepted schema d s → map Some types ≡ columns s → AnswersFit schema s types }
@@ -54,4 +59,28 @@ pub fn operators_work()
 /// key, in any order.
 pub fn first_is_any()
     ensures { FirstIsAny }
+{}
+
+/// `DISTINCT ON` with an order leaves the first row by that order of each key, as PostgreSQL does: no row of its key comes before
+/// it. What is left is in that order too, so each answer is one of those where any row of each key may be left.
+pub fn first_by_the_order_is_left()
+    ensures { FirstIsLeft }
+{}
+
+/// Where nothing is grouped or counted, the answers are those of each row by itself.
+pub fn ungrouped_answers_are_the_same()
+    ensures { (places : NullPlaces) (s : Statement) → IsUngrouped s → (db : Database) (outer : Frame) (answer : List Row)
+        → Answers places s db outer answer ↔ RowAnswers places s db outer answer }
+{}
+
+/// The laws are of something: a statement that breaks no rule has an answer over every database, whether or not that conforms,
+/// wherever NULL comes in orders.
+pub fn accepted_statements_have_answers()
+    ensures { (schema : Declarations) (d : Dialect) (s : Statement) → Accepted schema d s
+        → (places : NullPlaces) (db : Database) → (answer : List Row) × Answers places s db [] answer }
+{}
+
+/// User 1 has one post and user 2 none, and there are two rows: counted by user, and in all.
+pub fn posts_are_counted()
+    ensures { IsCounted }
 {}

@@ -1,5 +1,5 @@
-use Rattle.sql_guard_law.proofs.RestrictedRules.{kept}
+use Rattle.sql_guard_law.proofs.Restriction.{restriction-kept}
 use Rattle.sql_guard_law.proofs.restriction_keeps_the_rules.Goals as goal
 
 pub returns : goal.returns
-returns c = kept
+returns c = restriction-kept
