@@ -5,10 +5,32 @@ use Rattle.sql_pass.specs.declared.value.Value.{Value}
 use Rattle.sql_leaf.specs.declared.table_source.JoinKind.TheVariants.{Inner, LeftOuter}
 use Rattle.sql_leaf.specs.declared.operator.Logic.TheVariants.{And}
 use Rattle.sql_node.specs.Tree.{Origin, Expr, column, value, list, count_star, nullable, unary, count, compared, joined, exists, single, among_values, among_rows, Exprs, no_exprs, more_exprs, Items, no_items, more_items, MaybeExpr, no_expr, an_expr, Source, of_table, of_alias, join, From, no_source, from, Distinct, every, distinct, distinct_on, Order, no_order, order_by, Statement, select, combination}
-use Rattle.sql_shape.specs.Shape.{blank_rows, erased_expr, erased_exprs, erased_items, erased_maybe, erased_source, erased_from, erased_distinct, erased_order, erased}
+use Rattle.sql_shape.specs.Shape.{blank_rows, change_exprs, change_items, change_maybe, change_source, change_from, change_distinct, change_order, erased_expr, erased, null}
 use Rattle.sql_source.specs.Fields.{fields_in, fields_in_each}
 use Rattle.sql_guard_law.specs.Guarded.{guarded_expr, guarded_exprs, guarded_items, guarded_maybe, guarded_source, guarded_from, guarded_distinct, guarded_order, guarded}
 use Rattle.sql_guard_law.specs.Restricted.{predicate_under, predicate_of, predicates, predicates_from, with_all, open_leaves}
+
+module _ (many : List Value → List Value) where
+  abbrev erased_exprs : Exprs → Exprs
+  erased_exprs = change_exprs null (λ t. many)
+
+  abbrev erased_items : Items → Items
+  erased_items = change_items null (λ t. many)
+
+  abbrev erased_maybe : MaybeExpr → MaybeExpr
+  erased_maybe = change_maybe null (λ t. many)
+
+  abbrev erased_source : Source → Source
+  erased_source = change_source null (λ t. many)
+
+  abbrev erased_from : From → From
+  erased_from = change_from null (λ t. many)
+
+  abbrev erased_distinct : Distinct → Distinct
+  erased_distinct = change_distinct null (λ t. many)
+
+  abbrev erased_order : Order → Order
+  erased_order = change_order null (λ t. many)
 
 module _ (many : List Value → List Value) where
   mutual

@@ -13,7 +13,6 @@ use Rattle.sql_rules.specs.Lists.{AnyOf, AnyPair, Each}
 use Rattle.sql_rules.specs.Rules.{IsBool, IsIllTypedClause}
 use Rattle.sql_rules.specs.Scope.{View, parts, origins, origins_of, ons, ons_of, in_on, in_where, maybe_clause, nodes}
 use Rattle.sql_rules.specs.Types.{is_bool, type_of}
-use Rattle.sql_rules.specs.declared.rule.Rule.{Rule}
 use Rattle.sql_rules.specs.declared.rule.Rule.TheVariants as R
 use Rattle.sql_rules.proofs.Lists.{any_left, any_right}
 use Rattle.sql_guard_law.specs.Tenant.{BreaksAtMostTooManyBinds, IsPredicate}
