@@ -1,7 +1,6 @@
 """What a statement may answer over a database: docs/MEANING.md, evaluated. SQL leaves the order of rows and other choices open, so an
 expression has a tuple of values that it may give, and a statement several answers. The definitions are those of the crate sql_rows_meaning,
-`specs/Values.antt`, `Rows.antt` and `Answers.antt`, whose names stand in brackets. What is counted and grouped, which that page leaves out,
-is as SQL has it: NULLs are one group, and without GROUP BY all rows are one, also where there is none.
+`specs/Values.antt`, `Rows.antt`, `Groups.antt` and `Answers.antt`, whose names stand in brackets.
 
 Rows are tuples; NULL is None. A frame is a dictionary from origins to rows. An answer is held as cells: of each group of rows whose order
 is open, so many are taken, in any order.
