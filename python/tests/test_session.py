@@ -234,6 +234,8 @@ class Plans(unittest.TestCase):
             made = all_of(*([Users.active] * (number + 1)))
             small.plans([Request("Pg", query(Users).filter(made), None)])
         self.assertEqual(len(small._plans), 2)
+        small.plans([Request("Pg", query(Users).filter(all_of(*([Users.active] * 3000))), None)])
+        self.assertEqual(max(len(key[2]) for key in small._plans), max(len(key[2]) for key in small._plans if len(key[2]) < 65536))
 
     def test_threads_share_a_session(self) -> None:
         session, wrong = Session(support.SCHEMA, dialect="Pg", engine=support.engine()), []

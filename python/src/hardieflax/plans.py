@@ -27,6 +27,8 @@ from .tables import near
 Json = Any
 # Of more values than a SmallInt has numbers, places cannot be told apart.
 MOST_VALUES = 32767
+# A longer shape is not kept: it hardly comes again, and a few thousand such would fill the memory.
+MOST_KEPT = 65536
 # Of more tables, the pairs that may stand together are too many for one document: then each has the tables that it needs.
 MOST_TABLES = 300
 _planners_lock = threading.Lock()
@@ -102,6 +104,8 @@ class Planner:
         return None
 
     def _keep(self, request: Request, outcome: Outcome) -> None:
+        if len(request.query.shape) > MOST_KEPT:
+            return
         has_lists = any(value.is_list for value in request.values)
         any_length = has_lists and isinstance(outcome, Plan) and outcome.safe
         with self._lock:
