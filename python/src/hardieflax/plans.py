@@ -171,14 +171,17 @@ class Planner:
             return refusal(answer["refused"], why(ask, query, answer["refused"]), query)
         return self._plan(request, trial, told)
 
+    def _next_id(self) -> int:
+        """An id of this planner's own: that of an answer means nothing beyond its document."""
+        with self._lock:
+            self._count += 1
+            return self._count
+
     def _plan(self, request: Request, trial: _Trials, told: List[Json]) -> Outcome:
         answer = told[0]
         if any(isinstance(each, HardieflaxError) or each.get("sql") != answer["sql"] for each in told[1:1 + trial.count]):
             return EngineError(0, detail=f"with other values {answer['sql']} is another text")
-        if answer["id"] is not None:
-            with self._lock:
-                self._count += 1
-        number = None if answer["id"] is None else self._count
+        number = None if answer["id"] is None else self._next_id()
         plan = Plan(answer["sql"], trial.order(told), tuple(answer["columns"]), answer["safe"], number)
         binds = [[each.type.document_name, list(each.wire) if each.is_list else each.wire] for each in plan.binds(request.values)]
         expected = [name for output in request.query.outputs for name in output.document_names()]
