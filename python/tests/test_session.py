@@ -127,6 +127,7 @@ class Refusals(unittest.TestCase):
             (users.select(Users.id, count()), "Grouping", "users.id"),
             (users.for_update(), "Unsupported", ".for_update()"),
             (users.filter(u2.active), "NotInScope", ".filter(u2.active)"),
+            (users.filter(Posts.id == 1).order(Posts.id), "NotInScope", "(posts.id == <BigInt>), in filter"),
         ]
         for made, rule, part in cases:
             with self.subTest(rule=rule):

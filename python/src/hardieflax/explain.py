@@ -21,7 +21,23 @@ _SIDES = ("eq", "ne", "lt", "le", "gt", "ge", "and", "or")
 
 
 def why(ask: Ask, query: Json, rule: str) -> List[str]:
-    """The smallest parts without which the query does not break the rule, in words. None, where more than one part breaks it."""
+    """The smallest parts without which the query does not break the rule, in words.
+
+    Where more than one part breaks it, so that taking one away mends nothing, those of the first calls that break it.
+    """
+    return _parts(ask, query, rule) or _first_of_several(ask, query, rule)
+
+
+def _first_of_several(ask: Ask, query: Json, rule: str) -> List[str]:
+    calls = query.get("calls", [])
+    begins = [{**query, "calls": calls[:count]} for count in range(len(calls))]
+    for begin, answer in zip(begins, ask(begins)):
+        if isinstance(answer, dict) and answer.get("refused") == rule:
+            return _parts(ask, begin, rule)
+    return []
+
+
+def _parts(ask: Ask, query: Json, rule: str) -> List[str]:
     tried = list(_edits(query, ()))[:MOST_EDITS]
     told = ask([_without(query, place, new) for _, place, new in tried])
     guilty = list(dict.fromkeys(path for (path, _, _), answer in zip(tried, told) if _is_mended(answer, rule)))
