@@ -9,6 +9,7 @@ import support
 from support import Comments, Odd, Posts, Users
 from hardieflax import (AsyncSession, BigInt, Bool, HardieflaxError, NotShared, NotYetGuarded, Refused, Schema, SchemaError, Session, Table,
                         Column, alias, count, nullable, query, value)
+from hardieflax.plans import Request
 
 
 class TenantEngine:
@@ -75,6 +76,15 @@ class Guards(unittest.TestCase):
         for made in closed:
             with self.subTest(query=repr(made)), self.assertRaises(NotShared):
                 session.build(made)
+
+    def test_what_is_closed_is_not_declared(self) -> None:
+        """Past the check in Python the engine itself refuses: its document has the guarded table and the shared ones alone."""
+        session = self.session(guards={Posts: Posts.author_id == 1, Comments: Comments.user_id == 2})
+        for made in (query(Comments), query(Posts).join(Comments), query(Odd)):
+            request = Request("Sqlite", made, session._guard)
+            (outcome,) = session._planner._asked([request], "guard", ("posts",))
+            self.assertIsInstance(outcome, Refused)
+            self.assertEqual(getattr(outcome, "rule"), "UnknownName")
 
     def test_what_the_guard_refuses(self) -> None:
         session = self.session()

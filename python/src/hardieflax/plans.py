@@ -132,7 +132,7 @@ class Planner:
         """What requests of one document have in common: the command, the guarded tables, and the values of the guard."""
         if len(request.values) > MOST_VALUES:
             raise SchemaError(f"the query has more than {MOST_VALUES} values: give many values as a list, by in_")
-        tables = tables_of(request.query.json())
+        tables = tables_of(json.loads(filled(request.query.shape, request.query.values)))
         for each in tables:
             if each not in self.schema.names:
                 raise SchemaError(f"the query reads {each}, which is not in the schema{near(each, self.schema.names)}")
@@ -215,6 +215,8 @@ class _Asker:
         if self.command == "build" and self.guard is None and is_small and isinstance(engine, KeepsSession):
             return engine.next(schema, schema.document, body)
         known = tables & schema.names | set(self.guarded)
+        if self.guard is not None:  # what is closed is not even declared, so the engine knows nothing of it
+            known &= self.guard.shared | set(self.guarded)
         members = {"schema": schema.document(known)}
         if self.guard is not None:
             members.update(self.guard.member(self.command, self.guarded, tables, values))
