@@ -142,7 +142,8 @@ class Guards(unittest.TestCase):
             id = Column(BigInt)
 
         wrong: Any
-        for wrong in ({"guards": {Posts: Posts.id == 1, alias(Posts, "p"): Posts.id == 2}}, {"guards": {Posts: True}}, {"guards": {Tags: Tags.id == 1}}, {"shared": [Tags]}, {"shared": [Posts]}):
+        for wrong in ({"guards": {Posts: Posts.id == 1, alias(Posts, "p"): Posts.id == 2}}, {"guards": {Posts: True}},
+                      {"guards": {Tags: Tags.id == 1}}, {"shared": [Tags]}, {"shared": [Posts]}):
             with self.assertRaises((HardieflaxError, TypeError)):
                 self.session(**wrong)
         with self.assertRaises(SchemaError):
