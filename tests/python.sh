@@ -2,6 +2,7 @@
 # Tests the Python package of `python/`: on the built program, on SQLite, on the servers that the machine has, on stand-ins for the library,
 # by mypy where it is there. It builds nothing but the stand-ins, and says what it skipped. Ends with 'N passed, M failed'.
 #   tests/python.sh [PROGRAM]         by default crates/sql_tool/out/sql_tool
+# With HARDIEFLAX_LIBRARY=FILE in the environment that shared library answers in place of the program, wherever either may.
 top=$(cd "$(dirname "$0")/.." && pwd) || exit 1
 HARDIEFLAX_PROGRAM=${1:-${HARDIEFLAX_PROGRAM:-$top/crates/sql_tool/out/sql_tool}}
 PYTHONDONTWRITEBYTECODE=1
