@@ -39,8 +39,10 @@ def engine() -> Engine:
     """What answers in tests: the program, or the library that HARDIEFLAX_LIBRARY names."""
     if not _engine:
         named = os.environ.get("HARDIEFLAX_LIBRARY")
-        made: Engine = Library(named) if named else Program(needed_program())
-        _engine.append(made)
+        if named:
+            _engine.append(Library(named))
+        else:
+            _engine.append(Program(needed_program()))
     return _engine[0]
 
 

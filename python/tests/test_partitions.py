@@ -86,7 +86,9 @@ class Documents(unittest.TestCase):
                 processes = dict(client.run(os.getpid))
                 for each in map_partitions(client, support.SCHEMA, "Sqlite", some(600), size=25, on_progress=seen.append):
                     told.append(each)
-                    busy = [worker for worker, keys in client.processing().items() if keys] if len(told) >= 100 and processes else []
+                    if len(told) < 100 or len(told) % 25 or not processes:
+                        continue
+                    busy = [worker for worker, keys in client.processing().items() if keys]
                     if busy:
                         os.kill(processes[busy[0]], signal.SIGKILL)
                         processes.clear()
