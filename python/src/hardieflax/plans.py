@@ -13,9 +13,9 @@ import threading
 from typing import Any, Callable, Dict, Iterable, Iterator, List, NamedTuple, Optional, Sequence, Tuple, Union
 
 from .asking import answers
-from .engines import Engine, KeepsSession
+from .engines import Engine, KeepsSession, lines
 from .errors import EngineError, HardieflaxError, Refused, SchemaError
-from .explain import why
+from .explain import as_told, why
 from .expressions import Values, filled, tables_of
 from .guards import Guard
 from .queries import Statement
@@ -168,7 +168,8 @@ class Planner:
             def ask(queries: Sequence[Json]) -> List[Json]:
                 return asker.ask([(request.dialect, json.dumps(each)) for each in queries])
 
-            return refusal(answer["refused"], why(ask, query, answer["refused"]), query)
+            parts = as_told(asker.explained(request), query, answer["refused"]) or why(ask, query, answer["refused"])
+            return refusal(answer["refused"], parts, query)
         return self._plan(request, trial, told)
 
     def _next_id(self) -> int:
@@ -206,21 +207,37 @@ class _Asker:
         of_guard: Values = values
         return answers(lambda batch: self._run(batch, of_guard), requests)
 
+    def explained(self, request: Request) -> List[Any]:
+        """What the engine's command `explain` says of a request; nothing, where it has none."""
+        engine = self.planner.engine
+        if not engine.has("explain"):
+            return []
+        body = f'{{"dialect":"{request.dialect}","query":{filled(request.query.shape, request.query.values)}}}'
+        document = self._document([body], () if self.guard is None else self.guard.values)
+        try:
+            return lines(engine.run(["explain"] if self.command == "build" else ["explain", self.command], document))
+        except EngineError:  # a refusal is told without it
+            return []
+
     def _run(self, requests: Sequence[str], values: Values) -> bytes:
         self.planner.asked += 1
-        body = f'"requests":[{",".join(requests)}]'
-        tables = {name for each in requests for name in tables_of(json.loads(each))}
         engine, schema = self.planner.engine, self.planner.schema
         is_small = len(schema) <= MOST_TABLES
         if self.command == "build" and self.guard is None and is_small and isinstance(engine, KeepsSession):
-            return engine.next(schema, schema.document, body)
+            return engine.next(schema, schema.document, f'"requests":[{",".join(requests)}]')
+        return engine.run([self.command], self._document(requests, values))
+
+    def _document(self, requests: Sequence[str], values: Values) -> bytes:
+        """A document with these requests, and with what they need of the schema."""
+        schema = self.planner.schema
+        tables = {name for each in requests for name in tables_of(json.loads(each))}
         known = tables & schema.names | set(self.guarded)
         if self.guard is not None:  # what is closed is not even declared, so the engine knows nothing of it
             known &= self.guard.shared | set(self.guarded)
         members = {"schema": schema.document(known)}
         if self.guard is not None:
             members.update(self.guard.member(self.command, self.guarded, tables, values))
-        return engine.run([self.command], f"{json.dumps(members, ensure_ascii=False)[:-1]},{body}}}".encode())
+        return f'{json.dumps(members, ensure_ascii=False)[:-1]},"requests":[{",".join(requests)}]}}'.encode()
 
 
 def planner_of(schema: Schema, engine: Engine) -> Planner:
