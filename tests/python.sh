@@ -3,6 +3,7 @@
 # by mypy where it is there. It builds nothing but the stand-ins, and says what it skipped. Ends with 'N passed, M failed'.
 #   tests/python.sh [PROGRAM]         by default crates/sql_tool/out/sql_tool
 # With HARDIEFLAX_CLUSTER=1 it also starts a cluster of dask.distributed and kills a worker at work, which takes half a minute. By hand.
+# With HARDIEFLAX_LIBRARY=FILE in the environment that shared library answers in place of the program, wherever either may.
 top=$(cd "$(dirname "$0")/.." && pwd) || exit 1
 HARDIEFLAX_PROGRAM=${1:-${HARDIEFLAX_PROGRAM:-$top/crates/sql_tool/out/sql_tool}}
 PYTHONDONTWRITEBYTECODE=1

@@ -1,6 +1,6 @@
 """Requests a second from Python: this package beside SQLAlchemy Core, in one run.
 
-    HARDIEFLAX_PROGRAM=.. python3 bench/requests_a_second.py [SECONDS]
+    HARDIEFLAX_PROGRAM=.. HARDIEFLAX_LIBRARY=.. python3 bench/requests_a_second.py [SECONDS]
 
 Each request is a query that is made anew, with values of its own, and becomes a text with its values in order. A round has three shapes: one
 table, a join with four conditions, a left join with a list of five values. Nothing is sent to a database. The best of five rounds of each way
@@ -8,6 +8,7 @@ is told, and the ways take turns, so that a busy machine is as unfair to one as 
 """
 from __future__ import annotations
 
+import os
 import pathlib
 import sys
 import time
@@ -17,7 +18,7 @@ sys.path.insert(0, str(pathlib.Path(__file__).resolve().parent.parent / "src"))
 
 import sqlalchemy as sa  # noqa: E402
 from sqlalchemy.dialects import sqlite  # noqa: E402
-from hardieflax import BigInt, Bool, Column, Nullable, Schema, Session, Table, Text, query  # noqa: E402
+from hardieflax import BigInt, Bool, Column, Engine, Library, Nullable, Program, Schema, Session, Table, Text, query  # noqa: E402
 from hardieflax.plans import Planner, Request  # noqa: E402
 
 
@@ -105,14 +106,16 @@ def by_hardieflax(number: int) -> None:
         built.sql, built.values
 
 
-PLANNER = Planner(SESSION.schema, SESSION._planner.engine)
+def anew(engine: Engine) -> Callable[[int], None]:
+    """An engine asked for each request, a hundred rounds in one document."""
+    planner = Planner(SESSION.schema, engine)
 
+    def way(number: int) -> None:
+        queries = [each for turn in range(100) for each in ours(number + turn)]
+        for each, plan in zip(queries, planner._made([Request("Sqlite", each, None) for each in queries])):
+            SESSION._built(each, plan).values
 
-def by_hardieflax_anew(number: int) -> None:
-    """The program asked for each request, a hundred rounds in one document."""
-    queries = [each for turn in range(100) for each in ours(number + turn)]
-    for each, plan in zip(queries, PLANNER._made([Request("Sqlite", each, None) for each in queries])):
-        SESSION._built(each, plan).values
+    return way
 
 
 def timed(way: Callable[[int], None], seconds: float, rounds: int) -> float:
@@ -129,7 +132,11 @@ def main() -> None:
     seconds = float(sys.argv[1]) if len(sys.argv) > 1 else 2.0
     ways: Dict[str, Any] = {
         "hardieflax, each shape asked for once": (by_hardieflax, 1), f"SQLAlchemy {sa.__version__}, with its cache": (by_sqlalchemy_cached, 1),
-        f"SQLAlchemy {sa.__version__}, without": (by_sqlalchemy, 1), "hardieflax, the program asked for each": (by_hardieflax_anew, 100)}
+        f"SQLAlchemy {sa.__version__}, without": (by_sqlalchemy, 1)}
+    for name, made in (("program", Program), ("library", Library)):
+        path = os.environ.get(f"HARDIEFLAX_{name.upper()}")
+        if path:
+            ways[f"hardieflax, the {name} asked for each"] = (anew(made(path)), 100)
     best = dict.fromkeys(ways, 0.0)
     for _ in range(5):
         for name, (way, rounds) in ways.items():

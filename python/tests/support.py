@@ -15,7 +15,7 @@ TOP = HERE.parent.parent
 sys.path.insert(0, str(HERE.parent / "src"))
 sys.path.insert(0, str(TOP / "tests/servers"))
 
-from hardieflax import (BigInt, Binary, Bool, Column, Integer, Nullable, Program, Schema, SmallInt, Table, Text)  # noqa: E402
+from hardieflax import (BigInt, Binary, Bool, Column, Engine, Integer, Library, Nullable, Program, Schema, SmallInt, Table, Text)  # noqa: E402
 
 
 def program() -> Optional[str]:
@@ -24,16 +24,25 @@ def program() -> Optional[str]:
     return shutil.which(named)
 
 
-_engine: List[Program] = []
-
-
-def engine() -> Program:
-    """The program as an engine. A test that needs it is skipped where there is none."""
+def needed_program() -> str:
+    """The built program. A test that needs it is skipped where there is none."""
     found = program()
     if found is None:
         raise unittest.SkipTest("no program: HARDIEFLAX_PROGRAM names none, and crates/sql_tool/out/sql_tool is not built")
+    return found
+
+
+_engine: List[Engine] = []
+
+
+def engine() -> Engine:
+    """What answers in tests: the program, or the library that HARDIEFLAX_LIBRARY names."""
     if not _engine:
-        _engine.append(Program(found))
+        named = os.environ.get("HARDIEFLAX_LIBRARY")
+        if named:
+            _engine.append(Library(named))
+        else:
+            _engine.append(Program(needed_program()))
     return _engine[0]
 
 

@@ -85,7 +85,7 @@ class Commands(unittest.TestCase):
         connection.execute("CREATE TABLE dated (id integer primary key, at date, place geometry, \"class\" text, "
                            "user_id integer references users)")
         connection.close()
-        os.environ["HARDIEFLAX_PROGRAM"] = support.engine().words[0]
+        os.environ["HARDIEFLAX_PROGRAM"] = support.needed_program()
 
     def tearDown(self) -> None:
         self.folder.cleanup()

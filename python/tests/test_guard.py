@@ -9,6 +9,7 @@ import support
 from support import Comments, Odd, Posts, Users
 from hardieflax import (AsyncSession, BigInt, Bool, HardieflaxError, NotShared, NotYetGuarded, Refused, Schema, SchemaError, Session, Table,
                         Column, alias, count, nullable, query, value)
+from hardieflax.plans import Request
 
 
 class TenantEngine:
@@ -76,6 +77,15 @@ class Guards(unittest.TestCase):
             with self.subTest(query=repr(made)), self.assertRaises(NotShared):
                 session.build(made)
 
+    def test_what_is_closed_is_not_declared(self) -> None:
+        """Past the check in Python the engine itself refuses: its document has the guarded table and the shared ones alone."""
+        session = self.session(guards={Posts: Posts.author_id == 1, Comments: Comments.user_id == 2})
+        for made in (query(Comments), query(Posts).join(Comments), query(Odd)):
+            request = Request("Sqlite", made, session._guard)
+            (outcome,) = session._planner._asked([request], "guard", ("posts",))
+            self.assertIsInstance(outcome, Refused)
+            self.assertEqual(getattr(outcome, "rule"), "UnknownName")
+
     def test_what_the_guard_refuses(self) -> None:
         session = self.session()
         for made in (query(Posts).count(), query(Users).filter(query(Posts).exists()), query(Posts).group_by(Posts.id).select(count())):
@@ -132,7 +142,8 @@ class Guards(unittest.TestCase):
             id = Column(BigInt)
 
         wrong: Any
-        for wrong in ({"guards": {Posts: True}}, {"guards": {Tags: Tags.id == 1}}, {"shared": [Tags]}, {"shared": [Posts]}):
+        for wrong in ({"guards": {Posts: Posts.id == 1, alias(Posts, "p"): Posts.id == 2}}, {"guards": {Posts: True}},
+                      {"guards": {Tags: Tags.id == 1}}, {"shared": [Tags]}, {"shared": [Posts]}):
             with self.assertRaises((HardieflaxError, TypeError)):
                 self.session(**wrong)
         with self.assertRaises(SchemaError):

@@ -147,14 +147,14 @@ class Sessions(unittest.TestCase):
     """On the stand-in that answers by the program."""
 
     def setUp(self) -> None:
-        os.environ["HARDIEFLAX_STAND_IN"] = support.engine().words[0]
+        os.environ["HARDIEFLAX_STAND_IN"] = support.needed_program()
         self.library = Library(compiled(support.HERE / "library.c"))
 
     def test_it_answers_as_the_program_does(self) -> None:
         queries = [query(Users).filter(Users.name == "é\0"), query(Users).limit(1), query(Users).for_update(),
                    query(Users).filter(Users.id.in_([1]))]
         by_library = Session(Schema(*support.SCHEMA), dialect="Sqlite", engine=self.library)
-        by_program = Session(Schema(*support.SCHEMA), dialect="Sqlite", engine=support.engine())
+        by_program = Session(Schema(*support.SCHEMA), dialect="Sqlite", engine=Program(support.needed_program()))
         for mine, theirs in zip(by_library.answer_all(queries), by_program.answer_all(queries)):
             if isinstance(mine, Refused) or isinstance(theirs, Refused):
                 self.assertEqual(str(mine), str(theirs))
@@ -180,7 +180,7 @@ class Finding(unittest.TestCase):
         engines._default.clear()
 
     def test_what_the_environment_names(self) -> None:
-        os.environ["HARDIEFLAX_PROGRAM"] = support.engine().words[0]
+        os.environ["HARDIEFLAX_PROGRAM"] = support.needed_program()
         os.environ.pop("HARDIEFLAX_LIBRARY", None)
         found = default_engine()
         self.assertIsInstance(found, Program)
@@ -201,7 +201,7 @@ class Finding(unittest.TestCase):
                 made()
 
     def test_commands(self) -> None:
-        program = support.engine()
+        program = Program(support.needed_program())
         self.assertEqual([program.has(each) for each in ("build", "guard", "biuld", "open")], [True, True, False, False])
 
 

@@ -28,7 +28,7 @@ def some(count: int) -> List[Any]:
 def slow_program(folder: str) -> str:
     """A program that takes its time, so that a worker is killed at work."""
     path = pathlib.Path(folder) / "slow"
-    path.write_text(f'#!/bin/sh\nsleep 0.3\nexec {support.engine().words[0]} "$@"\n')
+    path.write_text(f'#!/bin/sh\nsleep 0.3\nexec {support.needed_program()} "$@"\n')
     path.chmod(0o755)
     return str(path)
 
@@ -55,7 +55,7 @@ class Documents(unittest.TestCase):
         with tempfile.TemporaryDirectory() as folder:
             path = pathlib.Path(folder) / "schema.json"
             path.write_text(support.SCHEMA.json())
-            environment = {**os.environ, "HARDIEFLAX_PROGRAM": support.engine().words[0], "PYTHONPATH": str(support.HERE.parent / "src")}
+            environment = {**os.environ, "HARDIEFLAX_PROGRAM": support.needed_program(), "PYTHONPATH": str(support.HERE.parent / "src")}
             words = [sys.executable, "-m", "hardieflax.partitions", str(path)]
             lines = [json.dumps(each.json()) for each in some(10)] + ["no json", json.dumps({"from": {"table": "users"}, "x": "\u2028é"},
                                                                                             ensure_ascii=False)]
@@ -73,7 +73,8 @@ class Documents(unittest.TestCase):
         except ImportError as error:
             raise unittest.SkipTest(f"no dask.distributed: {error}")
         os.environ["PYTHONPATH"] = str(support.HERE.parent / "src")
-        os.environ["HARDIEFLAX_PROGRAM"] = support.engine().words[0]
+        os.environ.pop("HARDIEFLAX_LIBRARY", None)
+        os.environ["HARDIEFLAX_PROGRAM"] = support.needed_program()
         # A document whose worker died is then not asked for again by dask itself, but by the package.
         options = {"distributed.scheduler.allowed-failures": 0, "distributed.worker.use-file-locking": False,
                    "distributed.logging.distributed": "critical"}
@@ -83,12 +84,15 @@ class Documents(unittest.TestCase):
             with distributed.LocalCluster(n_workers=3, threads_per_worker=1, dashboard_address=None, local_directory=folder,
                                           silence_logs=50) as cluster, distributed.Client(cluster) as client:
                 client.run(os.environ.update, {"HARDIEFLAX_PROGRAM": slow_program(folder)})
-                processes = client.run(os.getpid)
+                processes = dict(client.run(os.getpid))
                 for each in map_partitions(client, support.SCHEMA, "Sqlite", some(600), size=25, on_progress=seen.append):
                     told.append(each)
-                    if len(told) == 100:
-                        busy = next(worker for worker, keys in client.processing().items() if keys)
-                        os.kill(processes[busy], signal.SIGKILL)
+                    if len(told) < 100 or len(told) % 25 or not processes:
+                        continue
+                    busy = [worker for worker, keys in client.processing().items() if keys]
+                    if busy:
+                        os.kill(processes[busy[0]], signal.SIGKILL)
+                        processes.clear()
         self.check(told, 600)
         self.assertEqual((seen[-1].answered, seen[-1].total, [each.answered for each in seen]), (600, 600, list(range(25, 601, 25))))
         self.assertGreater(seen[-1].again, 0)

@@ -25,7 +25,7 @@ INSERT INTO posts VALUES (1, 1, 'Trees'), (2, 1, 'Birds'), (3, 2, 'Rivers');
 
 class Readme(unittest.TestCase):
     def setUp(self) -> None:
-        program = support.engine().words[0]
+        program = support.needed_program()
         self.folder = tempfile.TemporaryDirectory()
         self.before, self.named = os.getcwd(), os.environ.get("HARDIEFLAX_PROGRAM")
         os.environ["HARDIEFLAX_PROGRAM"] = os.path.abspath(program)

@@ -2,11 +2,12 @@
 from __future__ import annotations
 
 import copy
+import json
 import pickle
 import sqlite3
 import threading
 import unittest
-from typing import Any, List, cast
+from typing import Any, List, Sequence, cast
 
 import support
 from support import Comments, Odd, Posts, Users
@@ -127,6 +128,7 @@ class Refusals(unittest.TestCase):
             (users.select(Users.id, count()), "Grouping", "users.id"),
             (users.for_update(), "Unsupported", ".for_update()"),
             (users.filter(u2.active), "NotInScope", ".filter(u2.active)"),
+            (users.filter(Posts.id == 1).order(Posts.id), "NotInScope", "(posts.id == <BigInt>), in filter"),
         ]
         for made, rule, part in cases:
             with self.subTest(rule=rule):
@@ -166,6 +168,36 @@ class Refusals(unittest.TestCase):
             self.assertEqual(caught.exception.status, status)
         many = all_of(*(Users.id != number for number in range(3000)))
         self.assertEqual(len(self.session.build(query(Users).filter(many)).values), 3000)
+
+
+class Explaining:
+    """An engine with a command `explain`, which points to a part of each request that the rule TypeMismatch refuses."""
+
+    def __init__(self, at: str) -> None:
+        self.at, self.words = at, [""]
+
+    def has(self, command: str) -> bool:
+        return command in ("build", "explain")
+
+    def run(self, command: Sequence[str], document: bytes) -> bytes:
+        if command[0] != "explain":
+            return support.engine().run(command, document)
+        self.words = list(command)
+        line = {"at": self.at, "line": 1, "column": 1, "refused": "TypeMismatch", "request": 1, "says": "its sides are BigInt and Text"}
+        return json.dumps(line).encode() + b"\n"
+
+
+class Explanations(unittest.TestCase):
+    def test_what_the_engine_explains(self) -> None:
+        made = query(Users).filter(cast(Any, Users).id == Users.email)
+        for at, wanted in (("/requests/0/query/calls/0/1", "(users.id == users.email): its sides are BigInt and Text, in filter"),
+                           ("/requests/0/query/calls/0/1/eq/1", "users.email: its sides are BigInt and Text, in filter"),
+                           ("/requests/0/query/calls/0", ".filter((users.id == users.email)): its sides are BigInt and Text"),
+                           ("/requests/0/query/calls/7", "(users.id == users.email), whose sides are BigInt and Text, in filter"),
+                           ("/requests/0/query", "(users.id == users.email), whose sides are BigInt and Text, in filter")):
+            with self.assertRaises(Refused) as caught:
+                Session(Schema(*support.SCHEMA), dialect="Pg", engine=Explaining(at)).build(made)
+            self.assertEqual(caught.exception.parts, (wanted,))
 
 
 class Plans(unittest.TestCase):
@@ -234,6 +266,8 @@ class Plans(unittest.TestCase):
             made = all_of(*([Users.active] * (number + 1)))
             small.plans([Request("Pg", query(Users).filter(made), None)])
         self.assertEqual(len(small._plans), 2)
+        small.plans([Request("Pg", query(Users).filter(all_of(*([Users.active] * 3000))), None)])
+        self.assertEqual(max(len(key[2]) for key in small._plans), max(len(key[2]) for key in small._plans if len(key[2]) < 65536))
 
     def test_threads_share_a_session(self) -> None:
         session, wrong = Session(support.SCHEMA, dialect="Pg", engine=support.engine()), []

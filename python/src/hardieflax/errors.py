@@ -64,8 +64,8 @@ class NotShared(HardieflaxError):
 class Refused(HardieflaxError):
     """A query breaks a rule (docs/RULES.md).
 
-    `rule` is its name, `meaning` what it asks, `parts` the smallest parts of the query without which it does not break that rule, and
-    `mend` what to do. A message tells types and no values, so it may be logged.
+    `rule` is its name, `meaning` what it asks, `parts` the smallest parts of the query without which it does not break that rule (of
+    several such parts the first), and `mend` what to do. A message tells types and no values, so it may be logged.
     """
 
     def __init__(self, rule: str, meaning: str, mend: str, parts: Sequence[str] = (), query: Optional[str] = None) -> None:

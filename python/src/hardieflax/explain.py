@@ -1,11 +1,10 @@
-"""Which part of a query breaks a rule, found by taking parts away and asking again.
-
-`why` is the one call that others use: a command of the program that explains takes its place here once there is one.
+"""Which part of a query breaks a rule: as the engine's command `explain` tells, where it has one, or found by taking parts away and
+asking again.
 """
 from __future__ import annotations
 
 import copy
-from typing import Any, Callable, Iterator, List, Sequence, Tuple
+from typing import Any, Callable, Iterator, List, Optional, Sequence, Tuple
 
 from .rendering import rendered, rendered_call, rendered_query, rendered_source
 
@@ -20,8 +19,57 @@ _TESTS = ("eq", "ne", "lt", "le", "gt", "ge", "not", "is_null", "is_not_null", "
 _SIDES = ("eq", "ne", "lt", "le", "gt", "ge", "and", "or")
 
 
+# Where the query of a document's one request stands.
+_QUERY = "/requests/0/query"
+
+
+def as_told(lines: Sequence[Any], query: Json, rule: str) -> List[str]:
+    """The parts that lines of `explain` point to, in words. None, where they point to the whole query."""
+    made: List[str] = []
+    for line in lines:
+        at = str(line.get("at", ""))
+        if line.get("refused") == rule and at.startswith(_QUERY + "/"):
+            path = _path(query, at[len(_QUERY) + 1:])
+            if path is None:
+                continue
+            call = _call_of(query, path)
+            where = "" if call is None or call is _at(query, path) else f", in {_name(call)}"
+            made.append(f"{_shown(path, _at(query, path))}: {line.get('says', 'breaks the rule')}{where}")
+    return made
+
+
+def _path(query: Json, pointer: str) -> Optional[Path]:
+    """The steps of a JSON Pointer into the query; None where it leads nowhere."""
+    path: List[Any] = []
+    x = query
+    try:
+        for word in pointer.split("/"):
+            step: Any = int(word) if isinstance(x, list) else word.replace("~1", "/").replace("~0", "~")
+            path.append(step)
+            x = x[step]
+    except (LookupError, TypeError, ValueError):
+        return None
+    return tuple(path)
+
+
 def why(ask: Ask, query: Json, rule: str) -> List[str]:
-    """The smallest parts without which the query does not break the rule, in words. None, where more than one part breaks it."""
+    """The smallest parts without which the query does not break the rule, in words.
+
+    Where more than one part breaks it, so that taking one away mends nothing, those of the first calls that break it.
+    """
+    return _parts(ask, query, rule) or _first_of_several(ask, query, rule)
+
+
+def _first_of_several(ask: Ask, query: Json, rule: str) -> List[str]:
+    calls = query.get("calls", [])
+    begins = [{**query, "calls": calls[:count]} for count in range(len(calls))]
+    for begin, answer in zip(begins, ask(begins)):
+        if isinstance(answer, dict) and answer.get("refused") == rule:
+            return _parts(ask, begin, rule)
+    return []
+
+
+def _parts(ask: Ask, query: Json, rule: str) -> List[str]:
     tried = list(_edits(query, ()))[:MOST_EDITS]
     told = ask([_without(query, place, new) for _, place, new in tried])
     guilty = list(dict.fromkeys(path for (path, _, _), answer in zip(tried, told) if _is_mended(answer, rule)))

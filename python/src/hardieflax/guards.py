@@ -21,6 +21,8 @@ class Guard:
             if not isinstance(predicate, Expr):
                 raise TypeError(f"the guard of {table.__name__} is a condition, as {table.__name__}.tenant_id == 7, and not {predicate!r}")
             name = _name_in(schema, table)
+            if name in self._predicates:
+                raise SchemaError(f"{name} is guarded twice: join both conditions by &")
             others = sorted(tables_of(json.loads(filled(predicate.shape, predicate.values))) - {name})
             if others:
                 raise SchemaError(f"the guard of {table.__name__} names {others[0]}: it is a condition on the columns of {table.__name__} alone")

@@ -88,7 +88,9 @@ def found_type(type: Any, dialect: str, where: str, trust: bool = False) -> Foun
     if isinstance(type, types.Integer) and dialect == "sqlite" and not trust:
         return BigInt
     found = _by_class(type, where)
-    return str(type) if found is None else found
+    if found is None:
+        return "a type that SQLAlchemy does not know" if isinstance(type, types.NullType) else str(type)
+    return found
 
 
 _enumerations: Dict[Tuple[str, ...], SqlType[Any]] = {}

@@ -13,9 +13,9 @@ import threading
 from typing import Any, Callable, Dict, Iterable, Iterator, List, NamedTuple, Optional, Sequence, Tuple, Union
 
 from .asking import answers
-from .engines import Engine, KeepsSession
+from .engines import Engine, KeepsSession, lines
 from .errors import EngineError, HardieflaxError, Refused, SchemaError
-from .explain import why
+from .explain import as_told, why
 from .expressions import Values, filled, tables_of
 from .guards import Guard
 from .queries import Statement
@@ -27,6 +27,8 @@ from .tables import near
 Json = Any
 # Of more values than a SmallInt has numbers, places cannot be told apart.
 MOST_VALUES = 32767
+# A longer shape is not kept: it hardly comes again, and a few thousand such would fill the memory.
+MOST_KEPT = 65536
 # Of more tables, the pairs that may stand together are too many for one document: then each has the tables that it needs.
 MOST_TABLES = 300
 _planners_lock = threading.Lock()
@@ -102,6 +104,8 @@ class Planner:
         return None
 
     def _keep(self, request: Request, outcome: Outcome) -> None:
+        if len(request.query.shape) > MOST_KEPT:
+            return
         has_lists = any(value.is_list for value in request.values)
         any_length = has_lists and isinstance(outcome, Plan) and outcome.safe
         with self._lock:
@@ -128,7 +132,7 @@ class Planner:
         """What requests of one document have in common: the command, the guarded tables, and the values of the guard."""
         if len(request.values) > MOST_VALUES:
             raise SchemaError(f"the query has more than {MOST_VALUES} values: give many values as a list, by in_")
-        tables = tables_of(request.query.json())
+        tables = tables_of(json.loads(filled(request.query.shape, request.query.values)))
         for each in tables:
             if each not in self.schema.names:
                 raise SchemaError(f"the query reads {each}, which is not in the schema{near(each, self.schema.names)}")
@@ -164,17 +168,21 @@ class Planner:
             def ask(queries: Sequence[Json]) -> List[Json]:
                 return asker.ask([(request.dialect, json.dumps(each)) for each in queries])
 
-            return refusal(answer["refused"], why(ask, query, answer["refused"]), query)
+            parts = as_told(asker.explained(request), query, answer["refused"]) or why(ask, query, answer["refused"])
+            return refusal(answer["refused"], parts, query)
         return self._plan(request, trial, told)
+
+    def _next_id(self) -> int:
+        """An id of this planner's own: that of an answer means nothing beyond its document."""
+        with self._lock:
+            self._count += 1
+            return self._count
 
     def _plan(self, request: Request, trial: _Trials, told: List[Json]) -> Outcome:
         answer = told[0]
         if any(isinstance(each, HardieflaxError) or each.get("sql") != answer["sql"] for each in told[1:1 + trial.count]):
             return EngineError(0, detail=f"with other values {answer['sql']} is another text")
-        if answer["id"] is not None:
-            with self._lock:
-                self._count += 1
-        number = None if answer["id"] is None else self._count
+        number = None if answer["id"] is None else self._next_id()
         plan = Plan(answer["sql"], trial.order(told), tuple(answer["columns"]), answer["safe"], number)
         binds = [[each.type.document_name, list(each.wire) if each.is_list else each.wire] for each in plan.binds(request.values)]
         expected = [name for output in request.query.outputs for name in output.document_names()]
@@ -199,19 +207,37 @@ class _Asker:
         of_guard: Values = values
         return answers(lambda batch: self._run(batch, of_guard), requests)
 
+    def explained(self, request: Request) -> List[Any]:
+        """What the engine's command `explain` says of a request; nothing, where it has none."""
+        engine = self.planner.engine
+        if not engine.has("explain"):
+            return []
+        body = f'{{"dialect":"{request.dialect}","query":{filled(request.query.shape, request.query.values)}}}'
+        document = self._document([body], () if self.guard is None else self.guard.values)
+        try:
+            return lines(engine.run(["explain"] if self.command == "build" else ["explain", self.command], document))
+        except EngineError:  # a refusal is told without it
+            return []
+
     def _run(self, requests: Sequence[str], values: Values) -> bytes:
         self.planner.asked += 1
-        body = f'"requests":[{",".join(requests)}]'
-        tables = {name for each in requests for name in tables_of(json.loads(each))}
         engine, schema = self.planner.engine, self.planner.schema
         is_small = len(schema) <= MOST_TABLES
         if self.command == "build" and self.guard is None and is_small and isinstance(engine, KeepsSession):
-            return engine.next(schema, schema.document, body)
+            return engine.next(schema, schema.document, f'"requests":[{",".join(requests)}]')
+        return engine.run([self.command], self._document(requests, values))
+
+    def _document(self, requests: Sequence[str], values: Values) -> bytes:
+        """A document with these requests, and with what they need of the schema."""
+        schema = self.planner.schema
+        tables = {name for each in requests for name in tables_of(json.loads(each))}
         known = tables & schema.names | set(self.guarded)
+        if self.guard is not None:  # what is closed is not even declared, so the engine knows nothing of it
+            known &= self.guard.shared | set(self.guarded)
         members = {"schema": schema.document(known)}
         if self.guard is not None:
             members.update(self.guard.member(self.command, self.guarded, tables, values))
-        return engine.run([self.command], f"{json.dumps(members, ensure_ascii=False)[:-1]},{body}}}".encode())
+        return f'{json.dumps(members, ensure_ascii=False)[:-1]},"requests":[{",".join(requests)}]}}'.encode()
 
 
 def planner_of(schema: Schema, engine: Engine) -> Planner:
