@@ -9,8 +9,7 @@ ghost use Rattle.hardieflax.specs.ReadTrees.{HasNoReading, tree_of};
 ghost use Rattle.hardieflax.specs.Reading.{OnlyReading};
 ghost use Rattle.hardieflax.specs.Refused.{IsRefusal};
 ghost use Rattle.hardieflax.specs.Restricted.{restricted};
-ghost use Rattle.hardieflax.specs.Rules.{Accepted};
-ghost use Rattle.hardieflax.specs.Tenant.{AnswersAsCut};
+ghost use Rattle.hardieflax.specs.Tenant.{AnswersAsCut, BreaksAtMostTooManyBinds};
 ghost use Rattle.hardieflax.specs.Text.{text as text_of};
 ghost use Rattle.hardieflax.specs.TreeCounts.{capped};
 ghost use Rattle.hardieflax.specs.View.{expr_tree, statement_tree};
@@ -87,7 +86,7 @@ pub fn restricted_statement(
     ensures restricted { IfOk result (λ r. statement_tree r
         ≡ restricted table.now (expr_tree predicate.now) (statement_tree statement.now)) }
     ensures exact { IfOk result (λ r. (schema : Declarations) (d : DialectName)
-        → Accepted schema d (statement_tree statement.now)
+        → BreaksAtMostTooManyBinds schema d (statement_tree statement.now)
         → AnswersAsCut (statement_tree r) (statement_tree statement.now) table.now
         (expr_tree predicate.now)) }
     ensures refused { IfErr result (λ e. IsRefusal e table.now (expr_tree predicate.now)
