@@ -16,12 +16,14 @@ ghost use Rattle.sql_rows_meaning.specs.Fitting.{AnswersFit};
 ghost use Rattle.sql_rows.specs.Entries.{IsHit, IsLookedUp, IsNext, put};
 ghost use Rattle.sql_rows.specs.inside.Served.{Serves, Tells, kept_of};
 
+use crate::known::any_unknown;
 use crate::sound::compile_sound_flat_by;
 use lru::LruCache;
 use sql_check::{Built, CompileError, Names, values_fit};
 use sql_dialect::{Backend, Dialect};
 use sql_flat::{Flat, flatten};
 use sql_key::{QueryKey, flat_query_id};
+use sql_key_names::NamedKey;
 use sql_node::Statement;
 use sql_pass::debug_binds;
 use sql_rows_meaning::types_are_sound;
@@ -38,6 +40,43 @@ pub struct RequestKey {
     pub key: QueryKey,
 }
 
+/// The same among requests over one schema: two are compared by the names of tables and columns.
+#[derive(Debug, Drop, PartialEq, Eq, PartialOrd, Ord, Hash)]
+pub struct NamedRequest {
+    dialect: Dialect,
+    key: NamedKey,
+}
+
+impl Model for NamedRequest {
+    ghost use Rattle.sql_rows.specs.declared.cache.RequestKey.{RequestKey};
+
+    ghost Value = { RequestKey };
+
+    ghost view = { λ n. record { dialect = n.dialect; key = n.key } };
+
+    ghost inverse = { λ k. record { dialect = k.dialect; key = k.key } };
+}
+
+impl NamedRequest {
+    /// The key of the statement.
+    fn into_key(self) -> QueryKey
+        ensures { result ≡ self.key }
+    {
+        self.key.into_inner()
+    }
+}
+
+impl From<RequestKey> for NamedRequest {
+    ghost from_gives = { λ k n. n ≡ k };
+
+    fn from(request: RequestKey) -> NamedRequest {
+        NamedRequest {
+            dialect: request.dialect,
+            key: NamedKey::from(request.key),
+        }
+    }
+}
+
 /// What of an answer is the same for all statements of one key.
 #[derive(Drop)]
 struct Kept {
@@ -50,7 +89,7 @@ struct Kept {
 #[derive(Drop)]
 pub struct StatementCache {
     schema: Schema,
-    kept: LruCache<RequestKey, Kept>,
+    kept: LruCache<NamedRequest, Kept>,
     hits: u64,
 }
 
@@ -102,7 +141,7 @@ fn pair_of<DB: Backend>(
     alloc: Global,
     backend: &DB,
     asked: Asked<'_>,
-) -> Result<Option<RequestKey>, NoMemory>
+) -> Result<Option<NamedRequest>, NoMemory>
     requires { asked.flat.now ≡ flat_of (statement_tree asked.statement.now) }
     ensures { IfOk result (λ found. (pair : RequestKey) → (found ≡ Some pair)
         ↔ IsLookedUp DB.speaks (statement_tree asked.entry.statement.now) pair) }
@@ -113,7 +152,7 @@ fn pair_of<DB: Backend>(
     }
     let dialect = backend.dialect();
     match flat_query_id(alloc, asked.flat)? {
-        Some(key) => Ok(Some(RequestKey { dialect, key })),
+        Some(key) => Ok(Some(NamedRequest::from(RequestKey { dialect, key }))),
         None => Ok(None),
     }
 }
@@ -204,7 +243,8 @@ impl StatementCache {
         self.len() == 0
     }
 
-    fn look_up(&mut self, pair: &RequestKey) -> bool
+    fn look_up(&mut self, pair: &NamedRequest) -> bool
+        requires { IsKnown self.old.schema pair.now }
         ensures found { IsTrue result ↔ Contains self.old.keys pair.now }
         ensures hit { IsTrue result → IsHit self.old pair.now self.new }
         ensures unchanged { result ≡ false → self.new ≡ self.old }
@@ -228,7 +268,8 @@ impl StatementCache {
         }
     }
 
-    fn keep(&mut self, alloc: Global, pair: RequestKey, built: &Built) -> Result<(), NoMemory>
+    fn keep(&mut self, alloc: Global, pair: NamedRequest, built: &Built) -> Result<(), NoMemory>
+        requires known { IsKnown self.old.schema pair }
         requires new { ¬ Contains self.old.keys pair }
         requires serves { Serves self.old.schema (pair, kept_of built.now) }
         ensures kept { OnOk result (self.new ≡ put self.old pair) }
@@ -269,7 +310,7 @@ impl StatementCache {
         alloc: Global,
         backend: &DB,
         statement: &Statement,
-        pair: RequestKey,
+        pair: NamedRequest,
     ) -> Result<Built, CompileError>
         requires looked_up { IsLookedUp DB.speaks (statement_tree statement.now) pair }
         requires first { slice_get self.now.keys 0 ≡ Some pair }
@@ -282,20 +323,18 @@ impl StatementCache {
         ensures refused { IfErr result (λ e. e ≡ error.NoMemory) }
     {
         let kept = self.recall(alloc)?;
-        tell(alloc, backend, statement, pair.key, kept)
+        tell(alloc, backend, statement, pair.into_key(), kept)
     }
 
     /// The answer for a pair that is not there, which is put first.
     fn answer_new<DB: Backend>(
         &mut self,
         alloc: Global,
-        names: Names,
         backend: &DB,
         asked: Asked<'_>,
-        pair: RequestKey,
+        pair: NamedRequest,
     ) -> Result<Built, CompileError>
-        requires known { names ≡ name.Known
-            → ¬ Broken rule.UnknownName self.old.schema DB.speaks (statement_tree asked.statement.now) }
+        requires known { ¬ Broken rule.UnknownName self.old.schema DB.speaks (statement_tree asked.statement.now) }
         requires flat { asked.flat.now ≡ flat_of (statement_tree asked.statement.now) }
         requires looked_up { IsLookedUp DB.speaks (statement_tree asked.statement.now) pair }
         requires new { ¬ Contains self.old.keys pair }
@@ -310,12 +349,55 @@ impl StatementCache {
         ensures put { OnOk result (self.new ≡ put self.old pair) }
         ensures unchanged { OnErr result (self.new ≡ self.old) }
     {
-        match self.compile_alone(alloc, names, backend, asked.flat) {
+        match self.compile_alone(alloc, Names::Known, backend, asked.flat) {
             Ok(built) => {
                 self.keep(alloc, pair, &built)?;
                 Ok(built)
             }
             Err(error) => Err(error),
+        }
+    }
+
+    /// Whether the names of the statement of a flat list are the schema's.
+    fn knows(&self, names: Names, flat: &Flat) -> bool
+        ensures { Decides result (names ≡ name.Known ⊎ (AreKnown self.now.schema flat.now)) }
+    {
+        match names {
+            Names::Known => true,
+            Names::Asked => !any_unknown(self.schema(), flat.nodes()),
+        }
+    }
+
+    /// The answer for a statement whose names are the schema's, by what is kept where its pair is there.
+    fn compile_known<DB: Backend>(
+        &mut self,
+        alloc: Global,
+        backend: &DB,
+        asked: Asked<'_>,
+    ) -> Result<Built, CompileError>
+        requires known { ¬ Broken rule.UnknownName self.old.schema DB.speaks (statement_tree asked.statement.now) }
+        requires flat { asked.flat.now ≡ flat_of (statement_tree asked.statement.now) }
+        ensures built { IfOk result (λ b.
+            IsBuilt self.old.schema DB.speaks (statement_tree asked.entry.statement.now) b) }
+        ensures read { IfOk result (λ b.
+            IsRead DB.speaks (statement_tree asked.entry.statement.now) b.sql b.binds) }
+        ensures sound { IfOk result (λ b.
+            AnswersFit self.old.schema (statement_tree asked.entry.statement.now) b.sql_types) }
+        ensures refused { IfErr result (λ e. (r : Rule) → rule_of e ≡ Some r
+            → IsLeast r self.old.schema DB.speaks (statement_tree asked.entry.statement.now)) }
+        ensures schema { self.new.schema ≡ self.old.schema }
+        ensures entries { IsNext DB.speaks (statement_tree asked.entry.statement.now)
+            self.old result self.new }
+    {
+        match pair_of(alloc, backend, asked)? {
+            None => self.compile_alone(alloc, Names::Known, backend, asked.flat),
+            Some(pair) => {
+                if self.look_up(&pair) {
+                    self.answer_kept(alloc, backend, asked.statement, pair)
+                } else {
+                    self.answer_new(alloc, backend, asked, pair)
+                }
+            }
         }
     }
 
@@ -345,19 +427,14 @@ impl StatementCache {
             self.old result self.new }
     {
         let flat = flatten(alloc, statement)?;
-        let asked = Asked {
-            statement,
-            flat: &flat,
-        };
-        match pair_of(alloc, backend, asked)? {
-            None => self.compile_alone(alloc, names, backend, &flat),
-            Some(pair) => {
-                if self.look_up(&pair) {
-                    self.answer_kept(alloc, backend, statement, pair)
-                } else {
-                    self.answer_new(alloc, names, backend, asked, pair)
-                }
-            }
+        if self.knows(names, &flat) {
+            let asked = Asked {
+                statement,
+                flat: &flat,
+            };
+            self.compile_known(alloc, backend, asked)
+        } else {
+            self.compile_alone(alloc, Names::Asked, backend, &flat)
         }
     }
 

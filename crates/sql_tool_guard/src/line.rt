@@ -13,7 +13,7 @@ use sql_check::Rule;
 use sql_dialect::Dialect;
 use sql_guard::{RestrictError, restrict};
 use sql_node::Statement;
-use sql_tool_build::{Names, RequestKey, StatementCache, refusal_line, statement_line};
+use sql_tool_build::{NamedRequest, Names, StatementCache, refusal_line, statement_line};
 use sql_tool_document::Request;
 use std::alloc::{AllocError, Global};
 use std::collections::BTreeMap;
@@ -34,7 +34,7 @@ fn refusal_name(error: RestrictError) -> &'static str
 fn restricted_line(
     alloc: Global,
     cache: &mut StatementCache,
-    seen: &mut BTreeMap<RequestKey, u64>,
+    seen: &mut BTreeMap<NamedRequest, u64>,
     number: u64,
     tenant: &Tenant,
     dialect: Dialect,
@@ -66,7 +66,7 @@ fn restricted_line(
 pub fn guarded_line(
     alloc: Global,
     cache: &mut StatementCache,
-    seen: &mut BTreeMap<RequestKey, u64>,
+    seen: &mut BTreeMap<NamedRequest, u64>,
     number: u64,
     tenant: &Tenant,
     request: &Request,

@@ -1,0 +1,2 @@
+-- Devices: the order of keys by names.
+pub mod Named
