@@ -1,4 +1,5 @@
 ghost use Rattle.std.specs.Prelude.{◌≡◌, ◌≢◌, ◌↔◌, ◌≤◌, [], length, false, slice_get, Contains, AllPairs, IfOk, IfErr, OnOk, OnErr, IsTrue, Some};
+ghost use Rattle.std.specs.List.{list_any};
 ghost use Rattle.std.specs.NonZero.{non_zero_usize_get};
 ghost use Rattle.sql_schema.specs.Declarations.{Declarations};
 ghost use Rattle.sql_node.specs.Tree.{Statement as Tree};
@@ -6,6 +7,7 @@ ghost use Rattle.sql_node.specs.View.{statement_tree};
 ghost use Rattle.sql_flat.specs.Flat.{flat_of};
 ghost use Rattle.sql_key.specs.Keys.{id_of};
 ghost use Rattle.sql_rules_check.specs.declared.names.Names.TheVariants as name;
+ghost use Rattle.sql_rules_check.specs.inside.Sites.{is_unknown};
 ghost use Rattle.sql_rules.specs.Rules.{Broken};
 ghost use Rattle.sql_rules.specs.declared.rule.Rule.{Rule};
 ghost use Rattle.sql_rules.specs.declared.rule.Rule.TheVariants as rule;
@@ -14,19 +16,21 @@ ghost use Rattle.sql_check.specs.Errors.{rule_of};
 ghost use Rattle.sql_check.specs.declared.error.CompileError.TheVariants as error;
 ghost use Rattle.sql_rows_meaning.specs.Fitting.{AnswersFit};
 ghost use Rattle.sql_rows.specs.Entries.{IsHit, IsLookedUp, IsNext, put};
+ghost use Rattle.sql_rows.specs.declared.cache.RequestKey.{RequestKey as Pair};
+ghost use Rattle.sql_rows.specs.inside.Known.{AreKnown, IsKnown};
 ghost use Rattle.sql_rows.specs.inside.Served.{Serves, Tells, kept_of};
 
-use crate::known::any_unknown;
 use crate::sound::compile_sound_flat_by;
 use lru::LruCache;
 use sql_check::{Built, CompileError, Names, values_fit};
 use sql_dialect::{Backend, Dialect};
-use sql_flat::{Flat, flatten};
+use sql_flat::{Flat, FlatNode, flatten};
 use sql_key::{QueryKey, flat_query_id};
 use sql_key_names::NamedKey;
 use sql_node::Statement;
 use sql_pass::debug_binds;
 use sql_rows_meaning::types_are_sound;
+use sql_rules_check::any_unknown_name;
 use sql_rules_law::{accepted_are_read, names_one_leaf};
 use sql_schema::{NoMemory, Schema, SqlList, SqlText, SqlType};
 use std::alloc::{AllocError, Global};
@@ -96,6 +100,9 @@ pub struct StatementCache {
 impl Model for StatementCache {
     ghost use Rattle.std.specs.Map.{keys_of};
     ghost use Rattle.sql_rows.specs.Entries.{Entries};
+    ghost use Rattle.std.specs.Prelude.{◌≡◌, None};
+    ghost use Rattle.sql_schema.specs.Refusals.{least_refusal};
+    ghost use Rattle.sql_rows.specs.inside.Known.{AllKnown};
     ghost use Rattle.sql_rows.specs.inside.Served.{AllServe};
 
     ghost Value = { Entries };
@@ -107,7 +114,8 @@ impl Model for StatementCache {
       hits = c.hits;
     } };
 
-    ghost invariant = { λ c. AllServe c.schema c.kept.entries };
+    ghost invariant = { λ c. AllServe c.schema c.kept.entries
+        × (AllKnown c.schema c.kept.entries × (least_refusal c.schema ≡ None)) };
 }
 
 /// Text, types and flag in memory of their own.
@@ -154,6 +162,17 @@ fn pair_of<DB: Backend>(
     match flat_query_id(alloc, asked.flat)? {
         Some(key) => Ok(Some(NamedRequest::from(RequestKey { dialect, key }))),
         None => Ok(None),
+    }
+}
+
+/// Whether a name of the statement of these nodes is not the schema's.
+fn lacks_name(schema: &Schema, names: Names, nodes: &[FlatNode]) -> bool
+    requires { names ≡ name.Known → AreKnown schema.now nodes.now }
+    ensures { result ≡ list_any (λ x. is_unknown schema.now x.kind) nodes.now }
+{
+    match names {
+        Names::Asked => any_unknown_name(schema, nodes),
+        Names::Known => false,
     }
 }
 
@@ -206,6 +225,7 @@ impl StatementCache {
             ≡ record { schema = schema; keys = []; capacity = non_zero_usize_get capacity; hits = 0 }) }
     {
         let kept = LruCache::new(alloc, capacity)?;
+        let _sound = schema.tables();
         Ok(StatementCache {
             schema,
             kept,
@@ -358,14 +378,35 @@ impl StatementCache {
         }
     }
 
-    /// Whether the names of the statement of a flat list are the schema's.
-    fn knows(&self, names: Names, flat: &Flat) -> bool
-        ensures { Decides result (names ≡ name.Known ⊎ (AreKnown self.now.schema flat.now)) }
+    /// What is kept names tables and columns of the schema alone.
+    fn keeps_known_names(&self)
+        ensures { (pair : Pair) → Contains self.now.keys pair → IsKnown self.now.schema pair }
     {
-        match names {
-            Names::Known => true,
-            Names::Asked => !any_unknown(self.schema(), flat.nodes()),
-        }
+        let _len = self.kept.len();
+    }
+
+    /// The refusal of a statement of which a name is not the schema's. None of its pair is kept.
+    fn refuse<DB: Backend>(
+        &self,
+        alloc: Global,
+        backend: &DB,
+        asked: Asked<'_>,
+    ) -> Result<Built, CompileError>
+        requires unknown { Broken rule.UnknownName self.now.schema DB.speaks (statement_tree asked.statement.now) }
+        requires flat { asked.flat.now ≡ flat_of (statement_tree asked.statement.now) }
+        ensures built { IfOk result (λ b.
+            IsBuilt self.now.schema DB.speaks (statement_tree asked.entry.statement.now) b) }
+        ensures read { IfOk result (λ b.
+            IsRead DB.speaks (statement_tree asked.entry.statement.now) b.sql b.binds) }
+        ensures sound { IfOk result (λ b.
+            AnswersFit self.now.schema (statement_tree asked.entry.statement.now) b.sql_types) }
+        ensures refused { IfErr result (λ e. (r : Rule) → rule_of e ≡ Some r
+            → IsLeast r self.now.schema DB.speaks (statement_tree asked.entry.statement.now)) }
+        ensures entries { IsNext DB.speaks (statement_tree asked.entry.statement.now)
+            self.now result self.now }
+    {
+        self.keeps_known_names();
+        self.compile_alone(alloc, Names::Asked, backend, asked.flat)
     }
 
     /// The answer for a statement whose names are the schema's, by what is kept where its pair is there.
@@ -427,14 +468,14 @@ impl StatementCache {
             self.old result self.new }
     {
         let flat = flatten(alloc, statement)?;
-        if self.knows(names, &flat) {
-            let asked = Asked {
-                statement,
-                flat: &flat,
-            };
-            self.compile_known(alloc, backend, asked)
+        let asked = Asked {
+            statement,
+            flat: &flat,
+        };
+        if lacks_name(self.schema(), names, flat.nodes()) {
+            self.refuse(alloc, backend, asked)
         } else {
-            self.compile_alone(alloc, Names::Asked, backend, &flat)
+            self.compile_known(alloc, backend, asked)
         }
     }
 

@@ -4,7 +4,6 @@
 #![tactic(auto)]
 
 mod cache;
-mod known;
 mod laws;
 mod sound;
 
