@@ -14,6 +14,7 @@ use Rattle.sql_schema.specs.Refusals.{any_two, columns_clash, has_duplicate_colu
 use Rattle.sql_schema.specs.declared.declaration.ColumnDecl.{ColumnDecl}
 use Rattle.sql_schema.specs.declared.declaration.TableDecl.{TableDecl}
 use Rattle.sql_schema.proofs.RefusalLaws.{neither, none-refused}
+use Rattle.sql_dialect.specs.declared.backend.Dialect.{Dialect}
 use Rattle.sql_dialect.specs.contracts.backend.Dialect.{the_type as the_dialect}
 use Rattle.sql_dialect.specs.contracts.backend.DialectPartialEq.TheImpl as dialect_eq
 use Rattle.sql_node.specs.Tree.{Statement}
@@ -29,12 +30,18 @@ use Rattle.sql_key_names.specs.contracts.key.NamedKeyPartialEq.TheImpl as named_
 use Rattle.sql_key_names.proofs.Exact.{same-names}
 use Rattle.sql_rules.specs.Lists.{AnyOf}
 use Rattle.sql_rules.proofs.Tests.{column-any, table-any}
+use Rattle.sql_rules.specs.Rules.{Broken}
+use Rattle.sql_rules.specs.declared.rule.Rule.TheVariants.{UnknownName}
+use Rattle.sql_rules_check.proofs.NamesTell.{all-known}
 use Rattle.sql_rules_check.specs.inside.Sites.{is_declared, is_unknown}
 use Rattle.sql_rows.specs.declared.cache.Kept.{Kept}
 use Rattle.sql_rows.specs.declared.cache.RequestKey.{RequestKey}
 use Rattle.sql_rows.specs.contracts.cache.NamedRequestPartialEq.TheImpl as pair_eq
 use Rattle.sql_rows.specs.inside.Known.{AllKnown, AreKnown, IsKnown}
+use Rattle.sql_rows.specs.Entries.{IsLookedUp}
+use Rattle.sql_rows.specs.contracts.cache.NamedRequestEq.TheImpl.Laws.{laws-law}
 use Rattle.sql_rows.proofs.EqualIds.{own-key}
+use Rattle.sql_rows.proofs.Keys.{Finds}
 
 abbrev pub same_pair : RequestKey → RequestKey → Bool
 same_pair = (pair_eq.ghosts).eq
@@ -146,6 +153,14 @@ module _ (schema : Declarations) (sound : least_refusal schema ≡ None) where
       let key = exact-names a.key b.key h g (second_so d k e) in
       λ i. record { dialect = dialect i; key = key i }
 
+  -- a pair that is found is the one
+  pub all-exact : (es : List (RequestKey × Kept)) → AllKnown schema es → (q : RequestKey) → IsKnown schema q
+      → Finds (same_pair q) q es
+  all-exact es all q h e there t = exact-pair q e.0 h (all e there) t
+
+pub tied-pair : (a b : RequestKey) → a ≡ b → same_pair a b ≡ true
+tied-pair a b e = subst (λ c. same_pair a c ≡ true) e (laws-law.refl a)
+
 -- ---- the names of a key are those of its statement
 
 blank-unknown : (schema : Declarations) (k : FlatKind) → is_unknown schema (blank_kind k) ≡ is_unknown schema k
@@ -163,3 +178,9 @@ pub key-unknown : (schema : Declarations) (s : Statement) (k : List FlatNode) �
     → list_any (λ x. is_unknown schema x.kind) k ≡ list_any (λ x. is_unknown schema x.kind) (flat_of s)
 key-unknown schema s k h =
     ap (list_any (λ x. is_unknown schema x.kind)) (sym (own-key s k h).1 ∙ key-blank s) ∙ blank-unknowns schema (flat_of s)
+
+-- the pair of a statement whose names are the schema's
+pub known-pair : (schema : Declarations) (d : Dialect) (s : Statement) (pair : RequestKey)
+    → ¬ Broken UnknownName schema d s → IsLookedUp d s pair → IsKnown schema pair
+known-pair schema d s pair h own =
+    key-unknown schema s pair.key own.id ∙ all-known s (flat_of s) schema d refl h
