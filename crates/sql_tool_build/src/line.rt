@@ -1,5 +1,6 @@
-ghost use Rattle.std.specs.Prelude.{◌≡◌, [], ◌∷◌, ◌++◌, IfOk, IfErr, OnOk, Some, option_map, string_bytes};
+ghost use Rattle.std.specs.Prelude.{◌≡◌, [], ◌∷◌, ◌++◌, IfOk, IfErr, OnOk, None, Some, option_map, string_bytes};
 ghost use Rattle.serde_json.specs.Written.{compact_text};
+ghost use Rattle.sql_schema.specs.Refusals.{least_refusal};
 ghost use Rattle.sql_check.specs.Compiled.{IsBuilt, IsLeast, IsRead};
 ghost use Rattle.sql_check.specs.Errors.{rule_of};
 ghost use Rattle.sql_tool_document.specs.Trees.{request_tree};
@@ -26,6 +27,13 @@ use sql_rows::{NamedRequest, Names, StatementCache};
 use sql_tool_document::Request;
 use std::alloc::{AllocError, Global};
 use std::collections::BTreeMap;
+
+/// No refusal holds of a cache's schema. Does nothing when it runs.
+pub fn schema_stands(cache: &StatementCache)
+    ensures { least_refusal cache.now.schema ≡ None }
+{
+    let _tables = cache.schema().tables();
+}
 
 /// `compile_cached_by` for a dialect that is known when the program runs.
 pub fn compile_cached_for(
@@ -118,6 +126,7 @@ pub fn statement_line(
         (λ l. string_bytes text ≡ line_text l)) }
     ensures schema { cache.new.schema ≡ cache.old.schema }
 {
+    schema_stands(cache);
     match compile_cached_for(alloc, dialect, names, cache, statement) {
         Ok(built) => accept(alloc, dialect, seen, number, built),
         Err(error) => refuse(alloc, error),
@@ -138,6 +147,7 @@ pub fn request_line(
         (λ l. string_bytes text ≡ line_text l)) }
     ensures schema { cache.new.schema ≡ cache.old.schema }
 {
+    schema_stands(cache);
     match statement(alloc, cache.schema(), request.dialect, &request.query)? {
         None => refusal_line(alloc, Rule::UnknownName.name()),
         Some(statement) => {

@@ -16,7 +16,9 @@ use sql_check::{Built, CompileError};
 use sql_dialect::Dialect;
 use sql_key::QueryKey;
 use sql_schema::NoMemory;
-use sql_tool_build::{NamedRequest, Names, StatementCache, compile_cached_for, request_id};
+use sql_tool_build::{
+    NamedRequest, Names, StatementCache, compile_cached_for, request_id, schema_stands,
+};
 use sql_tool_series::{Named, dialect_of, form_of, series_schema};
 use std::alloc::{AllocError, Global};
 use std::collections::BTreeMap;
@@ -89,6 +91,7 @@ fn count(
         (seen_at seen.old) (seen_at seen.new) (TellMore (number + 1) counts.old counts.new)) }
     ensures schema { cache.new.schema ≡ cache.old.schema }
 {
+    schema_stands(cache);
     let dialect = dialect_of(number);
     let statement = named.statement(alloc, form_of(number), dialect, number)?;
     match compile_cached_for(alloc, dialect, Names::Asked, cache, &statement) {

@@ -13,7 +13,7 @@ use sql_check::Rule;
 use sql_dialect::Dialect;
 use sql_guard::{RestrictError, restrict};
 use sql_node::Statement;
-use sql_tool_build::{NamedRequest, Names, StatementCache, refusal_line, statement_line};
+use sql_tool_build::{NamedRequest, Names, StatementCache, refusal_line, schema_stands, statement_line};
 use sql_tool_document::Request;
 use std::alloc::{AllocError, Global};
 use std::collections::BTreeMap;
@@ -46,6 +46,7 @@ fn restricted_line(
         number (seen_at seen.old) (seen_at seen.new) (λ l. string_bytes text ≡ line_text l)) }
     ensures schema { cache.new.schema ≡ cache.old.schema }
 {
+    schema_stands(cache);
     match restrict(alloc, statement, &tenant.table, &tenant.predicate) {
         Ok(restricted) => statement_line(
             alloc,
@@ -77,6 +78,7 @@ pub fn guarded_line(
         (λ l. string_bytes text ≡ line_text l)) }
     ensures schema { cache.new.schema ≡ cache.old.schema }
 {
+    schema_stands(cache);
     match statement_to_restrict(alloc, cache.schema(), request.dialect, &request.query)? {
         None => refusal_line(alloc, Rule::UnknownName.name()),
         Some(statement) => {

@@ -28,7 +28,7 @@ returns-in-Ok-clause-line c =
     let object = statement_data b.binds b.sql_types id b.safe b.sql in
     both_ok c.accept.result (λ text told kept.
     let (j, judges, is, keeps) =
-    accepted-line schema r c.args.number f s b (seen_at c.accept.new.seen) object refl c.in-Ok.ensures.built
+    accepted-line schema c.schema_stands.ensures r c.args.number f s b (seen_at c.accept.new.seen) object refl c.in-Ok.ensures.built
     c.in-Ok.ensures.read refl kept in
     (j, judges, told ∙ ap (λ d. compact_text d ++ 10 ∷ []) is, keeps))
     c.accept.ensures.line c.accept.ensures.kept
@@ -42,7 +42,7 @@ returns-in-Err-clause-line c =
     IfOk-weaker c.refuse.result _ _ (λ text h.
     let (rule, named, told) = h in
     let (j, judges, is, keeps) =
-    refused-line schema r c.args.number (seen_at c.args.seen.now) s rule (refused (rule_text rule)) refl
+    refused-line schema c.schema_stands.ensures r c.args.number (seen_at c.args.seen.now) s rule (refused (rule_text rule)) refl
     (c.in-Err.ensures.refused rule named) refl in
     (j, judges, told ∙ ap (λ d. compact_text d ++ 10 ∷ []) is, keeps))
     c.refuse.ensures
