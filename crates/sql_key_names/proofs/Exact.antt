@@ -6,7 +6,6 @@ use Rattle.std.specs.declared.cmp.Ordering.TheVariants.{Equal}
 use Rattle.std.specs.Ordering.{on, then_cmp, nat_cmp, eq_by_cmp, is_eq, ordering_then}
 use Rattle.std.specs.Cmp.{Equal-is, first_so, second_so, tied_then}
 use Rattle.std.specs.Cmp.Lexicographic.{slice_cmp, same_text, texts_ties}
-use Rattle.sql_schema.proofs.ExactTypes.{exact-unsigned}
 use Rattle.sql_flat.specs.declared.kind.FlatKind.{FlatKind}
 use Rattle.sql_flat.specs.declared.kind.FlatKind.TheVariants as K
 use Rattle.sql_flat.specs.declared.kind.FlatNode.{FlatNode}
@@ -22,7 +21,7 @@ both-tie R S a b h =
     (first_so (is_eq (R a b)) (is_eq (S a b)) e, second_so (is_eq (R a b)) (is_eq (S a b)) e)
 
 text-ties : (a b : List ℕ) → eq_by_cmp text_cmp a b ≡ true → a ≡ b
-text-ties a b h = same_text a b (sym (texts_ties a b ∙ h) )
+text-ties a b h = same_text a b (sym (texts_ties a b ∙ h))
 
 abbrev alone : FlatKind → List FlatNode
 alone k = (record { kind = k; end = 0 }) ∷ []
@@ -56,22 +55,21 @@ same-named a b h =
     ∙ (λ i. renamed (table i) (column i) (blank i))
     ∙ again (table_name b) (column_name b) [] [] b
 
-same-node : (a b : FlatNode) → eq_by_cmp node_cmp a b ≡ true → named_node a ≡ named_node b
+abbrev head-of : List ℕ → ℕ
+head-of [] = 0
+head-of (x ∷ xs) = x
+
+number-ties : (m n : ℕ) → eq_by_cmp nat_cmp m n ≡ true → m ≡ n
+number-ties m n h =
+    ap head-of
+    (text-ties (m ∷ []) (n ∷ []) (ap (λ o. is_eq (ordering_then o Equal)) ((Equal-is (nat_cmp m n)).0 h)))
+
+pub same-node : (a b : FlatNode) → eq_by_cmp node_cmp a b ≡ true → named_node a ≡ named_node b
 same-node a b h =
     let both = both-tie (on (λ (n : FlatNode). n.kind) kind_cmp) (on (λ (n : FlatNode). n.end) nat_cmp) a b h in
     let kind = same-named a.kind b.kind both.0 in
-    let end : a.end ≡ b.end = number a.end b.end both.1 in
+    let end = number-ties a.end b.end both.1 in
     λ i. record { kind = kind i; end = end i }
-  where
-    number : (m n : ℕ) → eq_by_cmp nat_cmp m n ≡ true → m ≡ n
-    number m n h = text-one m n (text-ties (m ∷ []) (n ∷ []) (ap (λ o. is_eq (ordering_then o Equal)) ((Equal-is (nat_cmp m n)).0 h)))
-      where
-        abbrev head-of : List ℕ → ℕ
-        head-of [] = 0
-        head-of (x ∷ xs) = x
-
-        text-one : (m n : ℕ) → m ∷ [] ≡ n ∷ [] → m ≡ n
-        text-one m n e = ap head-of e
 
 pub same-names : (a b : List FlatNode) → eq_by_cmp key_cmp a b ≡ true → map named_node a ≡ map named_node b
 same-names [] [] h = refl
@@ -82,10 +80,3 @@ same-names (m ∷ ms) (n ∷ ns) h =
     let node = same-node m n (first_so (is_eq (node_cmp m n)) (is_eq (key_cmp ms ns)) e) in
     let rest = same-names ms ns (second_so (is_eq (node_cmp m n)) (is_eq (key_cmp ms ns)) e) in
     λ i. node i ∷ rest i
-
--- a kind whose declarations, if it has any, are no part of a comparison with another kind
-mixed : (a b : FlatKind) → (kind_ord.ghosts).cmp a b ≡ kind_cmp a b
-mixed (K.Column a x) (K.Column b y) = {}0
-mixed (K.Table a) (K.Table b) = {}1
-mixed (K.Alias a) (K.Alias b) = {}2
-mixed _ _ = refl

@@ -4,20 +4,40 @@ ghost use Rattle.std.specs.Ordering.{as_partial_cmp, eq_by_cmp};
 ghost use Rattle.std.specs.Cmp.{eq_by_cmp_equiv, partial_equiv_from_equiv, partial_order_from_total};
 ghost use Rattle.std.specs.Cmp.Rules.{comparing};
 ghost use Rattle.std.proofs.Common.{rules};
-ghost use Rattle.sql_key_names.specs.inside.Named.{key_cmp, key_hash, keys_total, kind_cmp, node_cmp, same_hash};
+ghost use Rattle.sql_key_names.specs.inside.Named.{alias_cmp, column_cmp, key_cmp, key_hash, keys_total, kind_cmp, node_cmp, source_cmp};
+ghost use Rattle.sql_key_names.proofs.Hashed.{same_hash};
 
 use crate::NamedKey;
 use sql_flat::{FlatKind, FlatNode};
-use sql_schema::{Column, Table};
+use sql_leaf::{Alias, TableSource};
+use sql_schema::Column;
 use std::cmp::Ordering;
 use std::hash::{Hash, Hasher};
 
-fn cmp_tables(one: &Table, other: &Table) -> Ordering {
-    one.name().cmp(other.name())
+fn cmp_columns(one: &Column, other: &Column) -> Ordering
+    ensures { result ≡ column_cmp one.now other.now }
+{
+    one.table()
+        .name()
+        .cmp(other.table().name())
+        .then_with(|| one.name().cmp(other.name()))
 }
 
-fn cmp_columns(one: &Column, other: &Column) -> Ordering {
-    cmp_tables(one.table(), other.table()).then_with(|| one.name().cmp(other.name()))
+fn cmp_sources(one: &TableSource, other: &TableSource) -> Ordering
+    ensures { result ≡ source_cmp one.now other.now }
+{
+    one.only
+        .cmp(&other.only)
+        .then_with(|| one.sample.cmp(&other.sample))
+        .then_with(|| one.table.name().cmp(other.table.name()))
+}
+
+fn cmp_aliases(one: &Alias, other: &Alias) -> Ordering
+    ensures { result ≡ alias_cmp one.now other.now }
+{
+    one.name
+        .cmp(&other.name)
+        .then_with(|| one.table.name().cmp(other.table.name()))
 }
 
 /// By names, where both are columns, tables or aliases.
@@ -28,15 +48,10 @@ fn cmp_kinds(one: &FlatKind, other: &FlatKind) -> Ordering
         (FlatKind::Column(alias, column), FlatKind::Column(other_alias, other_column)) => alias
             .cmp(other_alias)
             .then_with(|| cmp_columns(column, other_column)),
-        (FlatKind::Table(source), FlatKind::Table(other_source)) => source
-            .only
-            .cmp(&other_source.only)
-            .then_with(|| source.sample.cmp(&other_source.sample))
-            .then_with(|| cmp_tables(&source.table, &other_source.table)),
-        (FlatKind::Alias(alias), FlatKind::Alias(other_alias)) => alias
-            .name
-            .cmp(&other_alias.name)
-            .then_with(|| cmp_tables(&alias.table, &other_alias.table)),
+        (FlatKind::Table(source), FlatKind::Table(other_source)) => {
+            cmp_sources(source, other_source)
+        }
+        (FlatKind::Alias(alias), FlatKind::Alias(other_alias)) => cmp_aliases(alias, other_alias),
         _ => one.cmp(other),
     }
 }

@@ -13,7 +13,9 @@ use sql_check::Rule;
 use sql_dialect::Dialect;
 use sql_guard::{RestrictError, restrict};
 use sql_node::Statement;
-use sql_tool_build::{NamedRequest, Names, StatementCache, refusal_line, schema_stands, statement_line};
+use sql_tool_build::{
+    NamedRequest, Names, StatementCache, refusal_line, schema_stands, statement_line,
+};
 use sql_tool_document::Request;
 use std::alloc::{AllocError, Global};
 use std::collections::BTreeMap;

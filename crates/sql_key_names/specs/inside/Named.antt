@@ -1,15 +1,18 @@
 -- The order of keys by the names of tables and columns, and what a key is but for the rest of their declarations.
-use Rattle.std.specs.Prelude.{◌≡◌, ℕ, true, false, List, [], ◌∷◌, None, map}
-use Rattle.std.proofs.Common.{refl, sym, ap, ◌∙◌}
+use Rattle.std.specs.Prelude.{ℕ, false, List, [], None}
 use Rattle.std.specs.declared.cmp.Ordering.{Ordering}
-use Rattle.std.specs.Ordering.{on, then_cmp, nat_cmp, eq_by_cmp, is_eq}
-use Rattle.std.specs.Cmp.{IsTotalOrder, first_so, second_so, tied_then, then_total, on_total, nat_cmp_total}
+use Rattle.std.specs.Ordering.{on, then_cmp, bool_cmp, nat_cmp}
+use Rattle.std.specs.Option.{option_cmp}
+use Rattle.std.specs.Cmp.{IsTotalOrder, then_total, on_total, nat_cmp_total}
 use Rattle.std.specs.Cmp.Lexicographic.{slice_cmp, on_texts, lists_total}
 use Rattle.std.specs.Hash.{HashWrites}
 use Rattle.sql_schema.specs.declared.declaration.ColumnDecl.{ColumnDecl}
 use Rattle.sql_schema.specs.declared.declaration.TableDecl.{TableDecl}
 use Rattle.sql_schema.specs.declared.types.Base.TheVariants.{SmallInt}
 use Rattle.sql_schema.specs.Columns.{DeclaredColumn}
+use Rattle.sql_leaf.specs.declared.alias.Alias.{Alias}
+use Rattle.sql_leaf.specs.declared.table_source.TableSource.{TableSource}
+use Rattle.sql_leaf.specs.contracts.table_source.TablesampleOrd.TheImpl as sample_ord
 use Rattle.sql_flat.specs.declared.kind.FlatKind.{FlatKind}
 use Rattle.sql_flat.specs.declared.kind.FlatKind.TheVariants as K
 use Rattle.sql_flat.specs.declared.kind.FlatNode.{FlatNode}
@@ -59,6 +62,17 @@ named_node n = record { kind = named n.kind; end = n.end }
 abbrev pub text_cmp : List ℕ → List ℕ → Ordering
 text_cmp = slice_cmp nat_cmp
 
+abbrev pub column_cmp : DeclaredColumn → DeclaredColumn → Ordering
+column_cmp = then_cmp (on (λ c. c.table.name) text_cmp) (on (λ c. c.decl.name) text_cmp)
+
+abbrev pub source_cmp : TableSource → TableSource → Ordering
+source_cmp =
+    then_cmp (then_cmp (on (λ s. s.only) bool_cmp) (on (λ s. s.sample) (option_cmp (sample_ord.ghosts).cmp)))
+    (on (λ s. s.table.name) text_cmp)
+
+abbrev pub alias_cmp : Alias → Alias → Ordering
+alias_cmp = then_cmp (on (λ a. a.name) text_cmp) (on (λ a. a.table.name) text_cmp)
+
 abbrev pub kind_cmp : FlatKind → FlatKind → Ordering
 kind_cmp = then_cmp (on blanked (kind_ord.ghosts).cmp) (then_cmp (on table_name text_cmp) (on column_name text_cmp))
 
@@ -79,6 +93,3 @@ nodes_total = then_total (on_total (λ n. n.kind) kinds_total) (on_total (λ n. 
 
 pub keys_total : IsTotalOrder key_cmp
 keys_total = lists_total nodes_total
-
-pub same_hash : (a b : List FlatNode) → eq_by_cmp key_cmp a b ≡ true → key_hash a ≡ key_hash b
-same_hash a b h = refl

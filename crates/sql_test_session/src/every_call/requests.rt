@@ -7,8 +7,8 @@ use sql_node::Statement;
 use sql_schema::Schema;
 use sql_test_kit::is;
 use sql_tool_build::{
-    NamedRequest, Names, StatementCache, compile_cached_for, refusal_line, request_id, request_line,
-    statement_line,
+    NamedRequest, Names, StatementCache, compile_cached_for, refusal_line, request_id,
+    request_line, statement_line,
 };
 use sql_tool_document::{Document, Request, read_document};
 use sql_tool_series::{Form, Named, series_schema};

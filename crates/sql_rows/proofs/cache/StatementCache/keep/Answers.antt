@@ -29,11 +29,13 @@ invariant_of-self c =
         | inl old ↦ c.self.invariant.0 e old
         | inr p ↦ put-serves schema c.self.inside.kept c.args.pair c.in_ok-kept.kept finds e p serves
       ],
-      (λ e h. elim (cases e h) [
-        | inl old ↦ c.self.invariant.1.0 e old
-        | inr p ↦ put-known schema c.self.inside.kept c.args.pair c.in_ok-kept.kept finds e p own
-      ],
-      c.self.invariant.1.1),
+      (
+        λ e h. elim (cases e h) [
+          | inl old ↦ c.self.invariant.1.0 e old
+          | inr p ↦ put-known schema c.self.inside.kept c.args.pair c.in_ok-kept.kept finds e p own
+        ],
+        c.self.invariant.1.1,
+      ),
     )
 
 pub returns-in-Ok-clause-kept : goal.returns-in-Ok-clause-kept
