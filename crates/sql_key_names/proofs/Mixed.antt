@@ -1,5 +1,5 @@
 -- What the comparison of two kinds comes to, where both have declarations, and where one has none or they are of two kinds.
-use Rattle.std.proofs.Common.{◌≡◌, ℕ, Bool, List, Option, refl}
+use Rattle.std.proofs.Common.{◌≡◌, ℕ, Bool, List, [], Option, refl, sym, ◌∙◌}
 use Rattle.std.specs.declared.cmp.Ordering.{Ordering}
 use Rattle.std.specs.declared.cmp.Ordering.TheVariants.{Less, Equal, Greater}
 use Rattle.std.specs.Ordering.{bool_cmp, ordering_then}
@@ -7,10 +7,18 @@ use Rattle.std.specs.Option.{option_cmp}
 use Rattle.sql_schema.specs.Columns.{DeclaredColumn}
 use Rattle.sql_leaf.specs.declared.alias.Alias.{Alias}
 use Rattle.sql_leaf.specs.declared.table_source.TableSource.{TableSource}
+use Rattle.sql_leaf.specs.contracts.table_source.TablesampleOrd.TheImpl as sample_ord
 use Rattle.sql_flat.specs.declared.kind.FlatKind.{FlatKind}
 use Rattle.sql_flat.specs.declared.kind.FlatKind.TheVariants as K
 use Rattle.sql_flat.specs.contracts.kind.FlatKindOrd.TheImpl as kind_ord
-use Rattle.sql_key_names.specs.inside.Named.{alias_cmp, column_cmp, kind_cmp, source_cmp, text_cmp}
+use Rattle.sql_key_names.specs.inside.Named.{alias_cmp, blanked, column_cmp, column_name, kind_cmp, source_cmp, table_name, text_cmp}
+
+then-last : (o p : Ordering) → ordering_then o p ≡ ordering_then o (ordering_then p Equal)
+then-last Less p = refl
+then-last Greater p = refl
+then-last Equal Less = refl
+then-last Equal Equal = refl
+then-last Equal Greater = refl
 
 then-equal : (o p : Ordering) → ordering_then o p ≡ ordering_then (ordering_then o Equal) (ordering_then p Equal)
 then-equal Less p = refl
@@ -29,10 +37,12 @@ columns a b c d = then-columns (option_cmp text_cmp a b)
     then-columns Greater = refl
 
 pub sources : (s t : TableSource) → source_cmp s t ≡ kind_cmp (K.Table s) (K.Table t)
-sources s t = {}0
+sources s t =
+    then-last (ordering_then (bool_cmp s.only t.only) (option_cmp (sample_ord.ghosts).cmp s.sample t.sample))
+    (text_cmp s.table.name t.table.name)
 
 pub aliases : (a b : Alias) → alias_cmp a b ≡ kind_cmp (K.Alias a) (K.Alias b)
-aliases a b = {}1
+aliases a b = then-equal (text_cmp a.name b.name) (text_cmp a.table.name b.table.name)
 
 -- ---- two kinds of which the declarations are not compared
 
@@ -57,13 +67,49 @@ then-none Less = refl
 then-none Equal = refl
 then-none Greater = refl
 
-pub other-any : (j k : FlatKind) → ((a : Option (List ℕ)) (c : DeclaredColumn) → j ≡ K.Column a c → ⊥)
-    → ((s : TableSource) → j ≡ K.Table s → ⊥) → ((a : Alias) → j ≡ K.Alias a → ⊥)
-    → (kind_ord.ghosts).cmp j k ≡ kind_cmp j k
-other-any (K.Column a c) k p q r = absurd (p a c refl)
-other-any (K.Table s) k p q r = absurd (q s refl)
-other-any (K.Alias a) k p q r = absurd (r a refl)
-other-any j (K.Column b d) p q r = {}2
-other-any j (K.Table t) p q r = {}3
-other-any j (K.Alias b) p q r = {}4
-other-any j k p q r = then-none ((kind_ord.ghosts).cmp j k)
+-- without declarations
+abbrev IsPlain : FlatKind → Type 0
+IsPlain k = (blanked k ≡ k) × (table_name k ≡ []) × (column_name k ≡ [])
+
+abbrev Lacks : FlatKind → Type 0
+Lacks k =
+    ((a : Option (List ℕ)) (c : DeclaredColumn) → k ≡ K.Column a c → ⊥) × ((s : TableSource) → k ≡ K.Table s → ⊥)
+    × ((a : Alias) → k ≡ K.Alias a → ⊥)
+
+is-plain : (k : FlatKind) → Lacks k → IsPlain k
+is-plain (K.Column a c) h = absurd (h.0 a c refl)
+is-plain (K.Table s) h = absurd (h.1.0 s refl)
+is-plain (K.Alias a) h = absurd (h.1.1 a refl)
+is-plain _ h = (refl, (refl, refl))
+
+both-plain : (j k : FlatKind) → IsPlain j → IsPlain k → (kind_ord.ghosts).cmp j k ≡ kind_cmp j k
+both-plain j k (a, b, c) (d, e, f) =
+    then-none ((kind_ord.ghosts).cmp j k)
+    ∙ (λ i. ordering_then ((kind_ord.ghosts).cmp (sym a i) (sym d i)) (ordering_then (text_cmp (sym b i) (sym e i)) (text_cmp (sym c i) (sym f i))))
+
+before-column : (j : FlatKind) → Lacks j → (a : Option (List ℕ)) (c : DeclaredColumn)
+    → (kind_ord.ghosts).cmp j (K.Column a c) ≡ kind_cmp j (K.Column a c)
+before-column (K.Column b d) h a c = absurd (h.0 b d refl)
+before-column (K.Table s) h a c = absurd (h.1.0 s refl)
+before-column (K.Alias b) h a c = absurd (h.1.1 b refl)
+before-column _ h a c = refl
+
+before-source : (j : FlatKind) → Lacks j → (s : TableSource)
+    → (kind_ord.ghosts).cmp j (K.Table s) ≡ kind_cmp j (K.Table s)
+before-source (K.Column b d) h s = absurd (h.0 b d refl)
+before-source (K.Table t) h s = absurd (h.1.0 t refl)
+before-source (K.Alias b) h s = absurd (h.1.1 b refl)
+before-source _ h s = refl
+
+before-alias : (j : FlatKind) → Lacks j → (a : Alias)
+    → (kind_ord.ghosts).cmp j (K.Alias a) ≡ kind_cmp j (K.Alias a)
+before-alias (K.Column b d) h a = absurd (h.0 b d refl)
+before-alias (K.Table t) h a = absurd (h.1.0 t refl)
+before-alias (K.Alias b) h a = absurd (h.1.1 b refl)
+before-alias _ h a = refl
+
+pub other-any : (j k : FlatKind) → Lacks j → (kind_ord.ghosts).cmp j k ≡ kind_cmp j k
+other-any j (K.Column a c) h = before-column j h a c
+other-any j (K.Table s) h = before-source j h s
+other-any j (K.Alias a) h = before-alias j h a
+other-any j k h = both-plain j k (is-plain j h) (refl, (refl, refl))

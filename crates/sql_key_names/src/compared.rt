@@ -1,16 +1,17 @@
 //! The order of keys by names.
 ghost use Rattle.std.specs.Prelude.{◌≡◌};
-ghost use Rattle.std.specs.Ordering.{as_partial_cmp, eq_by_cmp};
+ghost use Rattle.std.specs.Option.{option_cmp};
+ghost use Rattle.std.specs.Ordering.{as_partial_cmp, eq_by_cmp, ordering_then};
 ghost use Rattle.std.specs.Cmp.{eq_by_cmp_equiv, partial_equiv_from_equiv, partial_order_from_total};
 ghost use Rattle.std.specs.Cmp.Rules.{comparing};
 ghost use Rattle.std.proofs.Common.{rules};
-ghost use Rattle.sql_key_names.specs.inside.Named.{alias_cmp, column_cmp, key_cmp, key_hash, keys_total, kind_cmp, node_cmp, source_cmp};
+ghost use Rattle.sql_key_names.specs.inside.Named.{alias_cmp, column_cmp, key_cmp, key_hash, keys_total, kind_cmp, node_cmp, source_cmp, text_cmp};
 ghost use Rattle.sql_key_names.proofs.Hashed.{same_hash};
 
 use crate::NamedKey;
 use sql_flat::{FlatKind, FlatNode};
 use sql_leaf::{Alias, TableSource};
-use sql_schema::Column;
+use sql_schema::{Column, SqlText};
 use std::cmp::Ordering;
 use std::hash::{Hash, Hasher};
 
@@ -21,6 +22,22 @@ fn cmp_columns(one: &Column, other: &Column) -> Ordering
         .name()
         .cmp(other.table().name())
         .then_with(|| one.name().cmp(other.name()))
+}
+
+/// Of columns under aliases, or under their tables' own names.
+fn cmp_paths(
+    alias: &Option<SqlText>,
+    column: &Column,
+    other_alias: &Option<SqlText>,
+    other_column: &Column,
+) -> Ordering
+    ensures { result
+        ≡ ordering_then (option_cmp text_cmp alias.now other_alias.now)
+        (column_cmp column.now other_column.now) }
+{
+    alias
+        .cmp(other_alias)
+        .then_with(|| cmp_columns(column, other_column))
 }
 
 fn cmp_sources(one: &TableSource, other: &TableSource) -> Ordering
@@ -45,9 +62,9 @@ fn cmp_kinds(one: &FlatKind, other: &FlatKind) -> Ordering
     ensures { result ≡ kind_cmp one.now other.now }
 {
     match (one, other) {
-        (FlatKind::Column(alias, column), FlatKind::Column(other_alias, other_column)) => alias
-            .cmp(other_alias)
-            .then_with(|| cmp_columns(column, other_column)),
+        (FlatKind::Column(alias, column), FlatKind::Column(other_alias, other_column)) => {
+            cmp_paths(alias, column, other_alias, other_column)
+        }
         (FlatKind::Table(source), FlatKind::Table(other_source)) => {
             cmp_sources(source, other_source)
         }

@@ -6,7 +6,7 @@ use Rattle.sql_key_names.proofs.compared.cmp_kinds.Goals as goal
 pub returns-in-Column-Column : goal.returns-in-Column-Column
 returns-in-Column-Column c =
     rw (c.in-Column-Column.is-0, c.in-Column-Column.is-1)
-    ({}0 ∙ columns c.in-Column-Column.alias c.in-Column-Column.other_alias c.in-Column-Column.column c.in-Column-Column.other_column)
+    (c.cmp_paths.ensures ∙ columns c.in-Column-Column.alias c.in-Column-Column.other_alias c.in-Column-Column.column c.in-Column-Column.other_column)
 
 pub returns-in-Table-Table : goal.returns-in-Table-Table
 returns-in-Table-Table c =
@@ -24,5 +24,5 @@ returns-in_default c =
       | in_default-via-in-Column+in_default w ↦ rw w.in_default.is-0 (column-other _ _ c.args.other.now w.in_default.not-Column-1)
       | in_default-via-in-Table+in_default w ↦ rw w.in_default.is-0 (source-other _ c.args.other.now w.in_default.not-Table-1)
       | in_default-via-in-Alias+in_default w ↦ rw w.in_default.is-0 (alias-other _ c.args.other.now w.in_default.not-Alias-1)
-      | in_default-via-in_default w ↦ other-any c.args.one.now c.args.other.now w.in_default.not-Column-0 w.in_default.not-Table-0 w.in_default.not-Alias-0
+      | in_default-via-in_default w ↦ other-any c.args.one.now c.args.other.now (w.in_default.not-Column-0, (w.in_default.not-Table-0, w.in_default.not-Alias-0))
     ])
