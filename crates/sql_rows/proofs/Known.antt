@@ -3,7 +3,7 @@ use Rattle.std.proofs.Common.{◌≡◌, ℕ, Bool, true, false, not, cond, ◌&
 use Rattle.std.proofs.lemmas.Bool.{false≢true, false_from_ne_true}
 use Rattle.std.specs.Cmp.{first_so, second_so}
 use Rattle.std.specs.List.{find, list_any}
-use Rattle.std.specs.Ordering.{eq_by_cmp}
+use Rattle.std.specs.Option.{option_eq}
 use Rattle.std.specs.Str.{bytes_eq}
 use Rattle.std.proofs.lemmas.Cmp.{nat_list_eq_equiv}
 use denote.Enum.Bare.{same_true}
@@ -25,7 +25,7 @@ use Rattle.sql_flat.specs.declared.kind.FlatNode.{FlatNode}
 use Rattle.sql_key.specs.Blank.{blank_kind, blank_node}
 use Rattle.sql_key.specs.Keys.{id_of}
 use Rattle.sql_key.proofs.Mapping.{key-blank}
-use Rattle.sql_key_names.specs.inside.Named.{column_by, key_cmp, named, named_node, table_by}
+use Rattle.sql_key_names.specs.inside.Named.{column_by, named, named_node, table_by}
 use Rattle.sql_key_names.specs.contracts.key.NamedKeyPartialEq.TheImpl as named_eq
 use Rattle.sql_key_names.proofs.Exact.{same-names}
 use Rattle.sql_rules.specs.Lists.{AnyOf}
@@ -70,8 +70,11 @@ module _ {A : Type 0} (clash : A → A → Bool) where
         (λ e. false≢true (sym (none-passes (clash y) x ys both.0 a) ∙ clashes y x e)) in
         ap (λ b. cond b (Some y) (find (λ w. bytes_eq (name w) (name x)) ys)) other ∙ found ys both.1 x a
 
-or-first : (a b : Bool) → a ≡ true → (a || b) ≡ true
-or-first a b h = ap (λ x. x || b) h
+tables-clash : (a b : TableDecl) → bytes_eq a.name b.name ≡ true → tables_clash a b ≡ true
+tables-clash a b h = ap (λ x. x || (option_eq bytes_eq a.schema b.schema && bytes_eq a.sql_name b.sql_name)) h
+
+columns-clash : (a b : ColumnDecl) → bytes_eq a.name b.name ≡ true → columns_clash a b ≡ true
+columns-clash a b h = ap (λ x. x || bytes_eq a.sql_name b.sql_name) h
 
 not-false : (b : Bool) → not b ≡ false → b ≡ true
 not-false true h = refl
@@ -106,7 +109,7 @@ module _ (schema : Declarations) (sound : least_refusal schema ≡ None) where
   its-table : (t : TableDecl) → is_declared schema t ≡ true → look_up t.name ≡ t
   its-table t h =
       ap table_or
-      (found tables_clash (λ u. u.name) (λ u v e. or-first _ _ e) schema.tables (none-refused schema sound).tables_differ t
+      (found tables_clash (λ u. u.name) tables-clash schema.tables (none-refused schema sound).tables_differ t
       ((table-any t schema.tables).0 h))
 
   its-column : (t : TableDecl) (c : ColumnDecl) → is_declared schema t ≡ true
@@ -116,7 +119,7 @@ module _ (schema : Declarations) (sound : least_refusal schema ≡ None) where
       none-passes tables_clash has_duplicate_column t schema.tables (none-refused schema sound).columns_differ
       ((table-any t schema.tables).0 h) in
       ap column_or
-      (found columns_clash (λ d. d.name) (λ u v e. or-first _ _ e) t.columns apart c ((column-any c t.columns).0 g))
+      (found columns_clash (λ d. d.name) columns-clash t.columns apart c ((column-any c t.columns).0 g))
 
   looked-named : (k : FlatKind) → is_unknown schema k ≡ false → looked (named k) ≡ k
   looked-named (K.Column a c) h =

@@ -7,7 +7,7 @@ use Rattle.sql_rows.specs.inside.Served.{Serves, kept_of}
 use Rattle.sql_rows.specs.inside.Known.{IsKnown}
 use Rattle.sql_rows.proofs.Keys.{after-put, among}
 use Rattle.sql_rows.proofs.Known.{all-exact, same_pair}
-use Rattle.sql_rows.proofs.Told.{put-known, put-serves}
+use Rattle.sql_rows.proofs.Told.{fewer, put-holds}
 use Rattle.sql_rows.proofs.cache.StatementCache.keep.Goals as goal
 
 not-true : (b : Bool) → ¬ (b ≡ true) → b ≡ false
@@ -23,20 +23,9 @@ invariant_of-self c =
     let schema = c.self.inside.schema in
     let own = subst (λ (w : Entries). IsKnown w.schema c.args.pair) (sym c.self.view_is) c.requires.known in
     let finds = all-exact schema c.self.invariant.1.1 c.self.inside.kept.entries c.self.invariant.1.0 c.args.pair own in
-    let cases = λ e h. Contains-put_entries same_pair c.self.inside.kept c.args.pair c.in_ok-kept.kept e
-    (subst (λ l. Contains l e) (ap (λ x. x.entries) c.in-Ok.ensures.entries) h) in (
-      λ e h. elim (cases e h) [
-        | inl old ↦ c.self.invariant.0 e old
-        | inr p ↦ put-serves schema c.self.inside.kept c.args.pair c.in_ok-kept.kept finds e p serves
-      ],
-      (
-        λ e h. elim (cases e h) [
-          | inl old ↦ c.self.invariant.1.0 e old
-          | inr p ↦ put-known schema c.self.inside.kept c.args.pair c.in_ok-kept.kept finds e p own
-        ],
-        c.self.invariant.1.1,
-      ),
-    )
+    put-holds schema c.self.inside.kept c.args.pair c.in_ok-kept.kept finds c.self.invariant own serves _
+    (λ e h. Contains-put_entries same_pair c.self.inside.kept c.args.pair c.in_ok-kept.kept e
+    (subst (λ l. Contains l e) (ap (λ x. x.entries) c.in-Ok.ensures.entries) h))
 
 pub returns-in-Ok-clause-kept : goal.returns-in-Ok-clause-kept
 returns-in-Ok-clause-kept c =
@@ -60,5 +49,5 @@ returns-in-Ok-clause-kept c =
 
 pub invariant_of-self-2 : goal.invariant_of-self-2
 invariant_of-self-2 c =
-    let before = λ e h. subst (λ l. Contains l e) (ap (λ x. x.entries) c.in-Err.ensures.err) h in
-    (λ e h. c.self.invariant.0 e (before e h), (λ e h. c.self.invariant.1.0 e (before e h), c.self.invariant.1.1))
+    fewer c.self.inside.schema c.self.inside.kept.entries _
+    (λ e h. subst (λ l. Contains l e) (ap (λ x. x.entries) c.in-Err.ensures.err) h) c.self.invariant

@@ -8,19 +8,22 @@ use Rattle.sql_rows.specs.contracts.cache.NamedRequestEq.TheImpl.Laws.{laws-law}
 use Rattle.sql_rows.specs.inside.Known.{IsKnown}
 use Rattle.sql_rows.proofs.Keys.{found, is-there, not-found}
 use Rattle.sql_rows.proofs.Known.{all-exact, same_pair}
+use Rattle.sql_rows.proofs.Told.{fewer}
 use Rattle.sql_rows.proofs.cache.StatementCache.look_up.Goals as goal
 
 pub invariant_of-self : goal.invariant_of-self
 invariant_of-self c =
-    let before = λ e h. Contains-promoted (same_pair c.args.pair.now) c.self.inside.kept.entries e
-    (subst (λ l. Contains l e) (ap (λ x. x.entries) c.promote.ensures.entries) h) in
-    (λ e h. c.self.invariant.0 e (before e h), (λ e h. c.self.invariant.1.0 e (before e h), c.self.invariant.1.1))
+    fewer c.self.inside.schema c.self.inside.kept.entries _
+    (λ e h. Contains-promoted (same_pair c.args.pair.now) c.self.inside.kept.entries e
+    (subst (λ l. Contains l e) (ap (λ x. x.entries) c.promote.ensures.entries) h))
+    c.self.invariant
 
 pub invariant_of-self-else-promote : goal.invariant_of-self-else-promote
 invariant_of-self-else-promote c =
-    let before = λ e h. Contains-promoted (same_pair c.args.pair.now) c.self.inside.kept.entries e
-    (subst (λ l. Contains l e) (ap (λ x. x.entries) c.promote.ensures.entries) h) in
-    (λ e h. c.self.invariant.0 e (before e h), (λ e h. c.self.invariant.1.0 e (before e h), c.self.invariant.1.1))
+    fewer c.self.inside.schema c.self.inside.kept.entries _
+    (λ e h. Contains-promoted (same_pair c.args.pair.now) c.self.inside.kept.entries e
+    (subst (λ l. Contains l e) (ap (λ x. x.entries) c.promote.ensures.entries) h))
+    c.self.invariant
 
 pub returns-then-promote-clause-found : goal.returns-then-promote-clause-found
 returns-then-promote-clause-found c =
