@@ -1,3 +1,1 @@
-pub mod Exact
-pub mod Hashed
 pub mod Mixed

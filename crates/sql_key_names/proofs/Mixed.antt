@@ -78,9 +78,9 @@ Lacks k =
 
 is-plain : (k : FlatKind) → Lacks k → IsPlain k
 is-plain (K.Column a c) h = absurd (h.0 a c refl)
-is-plain (K.Table s) h = absurd (h.1.0 s refl)
-is-plain (K.Alias a) h = absurd (h.1.1 a refl)
-is-plain _ h = (refl, (refl, refl))
+is-plain (K.Table s) h = absurd (h.1 s refl)
+is-plain (K.Alias a) h = absurd (h.2 a refl)
+is-plain _ h = (refl, refl, refl)
 
 both-plain : (j k : FlatKind) → IsPlain j → IsPlain k → (kind_ord.ghosts).cmp j k ≡ kind_cmp j k
 both-plain j k (a, b, c) (d, e, f) =
@@ -90,26 +90,26 @@ both-plain j k (a, b, c) (d, e, f) =
 before-column : (j : FlatKind) → Lacks j → (a : Option (List ℕ)) (c : DeclaredColumn)
     → (kind_ord.ghosts).cmp j (K.Column a c) ≡ kind_cmp j (K.Column a c)
 before-column (K.Column b d) h a c = absurd (h.0 b d refl)
-before-column (K.Table s) h a c = absurd (h.1.0 s refl)
-before-column (K.Alias b) h a c = absurd (h.1.1 b refl)
+before-column (K.Table s) h a c = absurd (h.1 s refl)
+before-column (K.Alias b) h a c = absurd (h.2 b refl)
 before-column _ h a c = refl
 
 before-source : (j : FlatKind) → Lacks j → (s : TableSource)
     → (kind_ord.ghosts).cmp j (K.Table s) ≡ kind_cmp j (K.Table s)
 before-source (K.Column b d) h s = absurd (h.0 b d refl)
-before-source (K.Table t) h s = absurd (h.1.0 t refl)
-before-source (K.Alias b) h s = absurd (h.1.1 b refl)
+before-source (K.Table t) h s = absurd (h.1 t refl)
+before-source (K.Alias b) h s = absurd (h.2 b refl)
 before-source _ h s = refl
 
 before-alias : (j : FlatKind) → Lacks j → (a : Alias)
     → (kind_ord.ghosts).cmp j (K.Alias a) ≡ kind_cmp j (K.Alias a)
 before-alias (K.Column b d) h a = absurd (h.0 b d refl)
-before-alias (K.Table t) h a = absurd (h.1.0 t refl)
-before-alias (K.Alias b) h a = absurd (h.1.1 b refl)
+before-alias (K.Table t) h a = absurd (h.1 t refl)
+before-alias (K.Alias b) h a = absurd (h.2 b refl)
 before-alias _ h a = refl
 
 pub other-any : (j k : FlatKind) → Lacks j → (kind_ord.ghosts).cmp j k ≡ kind_cmp j k
 other-any j (K.Column a c) h = before-column j h a c
 other-any j (K.Table s) h = before-source j h s
 other-any j (K.Alias a) h = before-alias j h a
-other-any j k h = both-plain j k (is-plain j h) (refl, (refl, refl))
+other-any j k h = both-plain j k (is-plain j h) (refl, refl, refl)

@@ -6,7 +6,7 @@ ghost use Rattle.std.specs.Cmp.{eq_by_cmp_equiv, partial_equiv_from_equiv, parti
 ghost use Rattle.std.specs.Cmp.Rules.{comparing};
 ghost use Rattle.std.proofs.Common.{rules};
 ghost use Rattle.sql_key_names.specs.inside.Named.{alias_cmp, column_cmp, key_cmp, key_hash, keys_total, kind_cmp, node_cmp, source_cmp, text_cmp};
-ghost use Rattle.sql_key_names.proofs.Hashed.{same_hash};
+ghost use Rattle.sql_key_names.specs.inside.Hashed.{same_hash};
 
 use crate::NamedKey;
 use sql_flat::{FlatKind, FlatNode};
@@ -61,14 +61,21 @@ fn cmp_aliases(one: &Alias, other: &Alias) -> Ordering
 fn cmp_kinds(one: &FlatKind, other: &FlatKind) -> Ordering
     ensures { result ≡ kind_cmp one.now other.now }
 {
-    match (one, other) {
-        (FlatKind::Column(alias, column), FlatKind::Column(other_alias, other_column)) => {
-            cmp_paths(alias, column, other_alias, other_column)
-        }
-        (FlatKind::Table(source), FlatKind::Table(other_source)) => {
-            cmp_sources(source, other_source)
-        }
-        (FlatKind::Alias(alias), FlatKind::Alias(other_alias)) => cmp_aliases(alias, other_alias),
+    match one {
+        FlatKind::Column(alias, column) => match other {
+            FlatKind::Column(other_alias, other_column) => {
+                cmp_paths(alias, column, other_alias, other_column)
+            }
+            _ => one.cmp(other),
+        },
+        FlatKind::Table(source) => match other {
+            FlatKind::Table(other_source) => cmp_sources(source, other_source),
+            _ => one.cmp(other),
+        },
+        FlatKind::Alias(alias) => match other {
+            FlatKind::Alias(other_alias) => cmp_aliases(alias, other_alias),
+            _ => one.cmp(other),
+        },
         _ => one.cmp(other),
     }
 }
