@@ -1,4 +1,4 @@
--- What the comparison of two kinds comes to, where both have declarations, and where one has none or they are of two kinds.
+-- What the comparison of two kinds comes to where the first has no declaration.
 use Rattle.std.proofs.Common.{◌≡◌, ℕ, Bool, List, [], Option, refl, sym, ◌∙◌}
 use Rattle.std.specs.declared.cmp.Ordering.{Ordering}
 use Rattle.std.specs.declared.cmp.Ordering.TheVariants.{Less, Equal, Greater}
@@ -12,55 +12,6 @@ use Rattle.sql_flat.specs.declared.kind.FlatKind.{FlatKind}
 use Rattle.sql_flat.specs.declared.kind.FlatKind.TheVariants as K
 use Rattle.sql_flat.specs.contracts.kind.FlatKindOrd.TheImpl as kind_ord
 use Rattle.sql_key_names.specs.inside.Named.{alias_cmp, blanked, column_cmp, column_name, kind_cmp, source_cmp, table_name, text_cmp}
-
-then-last : (o p : Ordering) → ordering_then o p ≡ ordering_then o (ordering_then p Equal)
-then-last Less p = refl
-then-last Greater p = refl
-then-last Equal Less = refl
-then-last Equal Equal = refl
-then-last Equal Greater = refl
-
-then-equal : (o p : Ordering) → ordering_then o p ≡ ordering_then (ordering_then o Equal) (ordering_then p Equal)
-then-equal Less p = refl
-then-equal Greater p = refl
-then-equal Equal Less = refl
-then-equal Equal Equal = refl
-then-equal Equal Greater = refl
-
-pub columns : (a b : Option (List ℕ)) (c d : DeclaredColumn)
-    → ordering_then (option_cmp text_cmp a b) (column_cmp c d) ≡ kind_cmp (K.Column a c) (K.Column b d)
-columns a b c d = then-columns (option_cmp text_cmp a b)
-  where
-    then-columns : (o : Ordering) → ordering_then o (column_cmp c d) ≡ ordering_then (ordering_then o Equal) (column_cmp c d)
-    then-columns Less = refl
-    then-columns Equal = refl
-    then-columns Greater = refl
-
-pub sources : (s t : TableSource) → source_cmp s t ≡ kind_cmp (K.Table s) (K.Table t)
-sources s t =
-    then-last (ordering_then (bool_cmp s.only t.only) (option_cmp (sample_ord.ghosts).cmp s.sample t.sample))
-    (text_cmp s.table.name t.table.name)
-
-pub aliases : (a b : Alias) → alias_cmp a b ≡ kind_cmp (K.Alias a) (K.Alias b)
-aliases a b = then-equal (text_cmp a.name b.name) (text_cmp a.table.name b.table.name)
-
--- ---- two kinds of which the declarations are not compared
-
-pub column-other : (a : Option (List ℕ)) (c : DeclaredColumn) (k : FlatKind)
-    → ((b : Option (List ℕ)) (d : DeclaredColumn) → k ≡ K.Column b d → ⊥)
-    → (kind_ord.ghosts).cmp (K.Column a c) k ≡ kind_cmp (K.Column a c) k
-column-other a c (K.Column b d) h = absurd (h b d refl)
-column-other a c _ h = refl
-
-pub source-other : (s : TableSource) (k : FlatKind) → ((t : TableSource) → k ≡ K.Table t → ⊥)
-    → (kind_ord.ghosts).cmp (K.Table s) k ≡ kind_cmp (K.Table s) k
-source-other s (K.Table t) h = absurd (h t refl)
-source-other s _ h = refl
-
-pub alias-other : (a : Alias) (k : FlatKind) → ((b : Alias) → k ≡ K.Alias b → ⊥)
-    → (kind_ord.ghosts).cmp (K.Alias a) k ≡ kind_cmp (K.Alias a) k
-alias-other a (K.Alias b) h = absurd (h b refl)
-alias-other a _ h = refl
 
 then-none : (o : Ordering) → o ≡ ordering_then o Equal
 then-none Less = refl

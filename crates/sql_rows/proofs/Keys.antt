@@ -36,13 +36,14 @@ Finds {K} {V} test k es = (e : K × V) → Contains es e → test e.0 ≡ true �
 pub among : {K V : Type 0} (test : K → Bool) (k : K) (es : List (K × V)) → Finds test k es
     → list_any test (keys_of es) ≡ true → Contains (keys_of es) k
 among test k [] exact h = absurd (true≢false (sym h))
-among {K} {V} test k (f ∷ es) exact h = go (test f.0) refl h
+among {K} {V} test k (f ∷ es) exact h =
+    go (test f.0) refl h (among test k es (λ e there t. exact e (Contains-tail f es e there) t))
   where
-    go : (b : Bool) → test f.0 ≡ b → b || list_any test (keys_of es) ≡ true → Contains (keys_of (f ∷ es)) k
-    go true t g =
+    go : (b : Bool) → test f.0 ≡ b → b || list_any test (keys_of es) ≡ true
+        → (list_any test (keys_of es) ≡ true → Contains (keys_of es) k) → Contains (keys_of (f ∷ es)) k
+    go true t g later =
         subst (Contains (keys_of (f ∷ es))) (sym (exact f (Contains-head f es) t)) (Contains-head f.0 (keys_of es))
-    go false t g =
-        Contains-tail f.0 (keys_of es) k (among test k es (λ e there p. exact e (Contains-tail f es e there) p) g)
+    go false t g later = Contains-tail f.0 (keys_of es) k (later g)
 
 -- a key among the keys stands in an entry
 pub entry-of : {K V : Type 0} (es : List (K × V)) (k : K) → Contains (keys_of es) k → (v : V) × Contains es (k, v)

@@ -26,7 +26,7 @@ use Rattle.sql_key.specs.Blank.{blank_kind, blank_node}
 use Rattle.sql_key.specs.Keys.{id_of}
 use Rattle.sql_key.proofs.Mapping.{key-blank}
 use Rattle.sql_key_names.specs.inside.Named.{column_by, named, named_node, table_by}
-use Rattle.sql_key_names.specs.contracts.key.NamedKeyPartialEq.TheImpl as named_eq
+use Rattle.sql_key_names.specs.contracts.compared.NamedKeyPartialEq.TheImpl as named_eq
 use Rattle.sql_key_names.specs.inside.Exact.{same-names}
 use Rattle.sql_rules.specs.Lists.{AnyOf}
 use Rattle.sql_rules.proofs.Tests.{column-any, table-any}

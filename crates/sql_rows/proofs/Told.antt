@@ -38,7 +38,7 @@ Holds schema es = AllServe schema es × (AllKnown schema es × (least_refusal sc
 -- it holds of fewer
 pub fewer : (schema : Declarations) (es fs : List (RequestKey × Kept))
     → ((e : RequestKey × Kept) → Contains fs e → Contains es e) → Holds schema es → Holds schema fs
-fewer schema es fs was (serve, known, sound) =
+fewer schema es fs was (serve, (known, sound)) =
     (λ e there. serve e (was e there), ((λ e there. known e (was e there)), sound))
 
 module _ (schema : Declarations) (c : LruCache RequestKey Kept) (q : RequestKey) (v : Kept) (finds : Finds (same_pair q) q c.entries) where
@@ -60,7 +60,7 @@ module _ (schema : Declarations) (c : LruCache RequestKey Kept) (q : RequestKey)
   -- what holds of the entries holds behind a put
   pub put-holds : Holds schema c.entries → IsKnown schema q → Serves schema (q, v) → (fs : List (RequestKey × Kept))
       → ((e : RequestKey × Kept) → Contains fs e → Contains c.entries e ⊎ IsPut same_pair c q v e) → Holds schema fs
-  put-holds (serve, known, sound) own serves fs was = (
+  put-holds (serve, (known, sound)) own serves fs was = (
     (λ e there. elim (was e there) [ inl old ↦ serve e old | inr put ↦ put-serves e put serves ]),
     ((λ e there. elim (was e there) [ inl old ↦ known e old | inr put ↦ put-known e put own ]), sound),
   )

@@ -109,29 +109,29 @@ answer_new-requires-clause-new g c = λ h.
     (sym (c.if-look_up.ensures.found.1
     (subst (λ (w : Entries). Contains w.keys c.in-Some.pair) (c.if-look_up.ensures.unchanged refl) h)))
 
-pub returns-clause-built : goal.returns-clause-built
-returns-clause-built g c =
+pub returns-else-look_up-clause-built : goal.returns-else-look_up-clause-built
+returns-else-look_up-clause-built g c =
     subst
     (λ (w : Entries). IfOk c.answer_new.result (λ b. IsBuilt w.schema g.DB.Backend.speaks
     (statement_tree c.args.asked.statement.now) b))
     (c.if-look_up.ensures.unchanged refl) c.answer_new.ensures.built
 
-pub returns-clause-sound : goal.returns-clause-sound
-returns-clause-sound g c =
+pub returns-else-look_up-clause-sound : goal.returns-else-look_up-clause-sound
+returns-else-look_up-clause-sound g c =
     subst
     (λ (w : Entries). IfOk c.answer_new.result (λ b. AnswersFit w.schema (statement_tree c.args.asked.statement.now)
     b.sql_types))
     (c.if-look_up.ensures.unchanged refl) c.answer_new.ensures.sound
 
-pub returns-clause-refused : goal.returns-clause-refused
-returns-clause-refused g c =
+pub returns-else-look_up-clause-refused : goal.returns-else-look_up-clause-refused
+returns-else-look_up-clause-refused g c =
     subst
     (λ (w : Entries). IfErr c.answer_new.result (λ e. (r : Rule) → rule_of e ≡ Some r
     → IsLeast r w.schema g.DB.Backend.speaks (statement_tree c.args.asked.statement.now)))
     (c.if-look_up.ensures.unchanged refl) c.answer_new.ensures.refused
 
-pub returns-clause-schema : goal.returns-clause-schema
-returns-clause-schema g c =
+pub returns-else-look_up-clause-schema : goal.returns-else-look_up-clause-schema
+returns-else-look_up-clause-schema g c =
     new-schema g.DB.Backend.speaks (statement_tree c.args.asked.statement.now) c.args.self.now c.answer_new.result c.in-Some.pair
     c.answer_new.new.self
     (subst (λ (w : Entries). OnOk c.answer_new.result (c.answer_new.new.self ≡ put w c.in-Some.pair))
@@ -139,8 +139,8 @@ returns-clause-schema g c =
     (subst (λ (w : Entries). OnErr c.answer_new.result (c.answer_new.new.self ≡ w)) (c.if-look_up.ensures.unchanged refl)
     c.answer_new.ensures.unchanged)
 
-pub returns-clause-entries : goal.returns-clause-entries
-returns-clause-entries g c =
+pub returns-else-look_up-clause-entries : goal.returns-else-look_up-clause-entries
+returns-else-look_up-clause-entries g c =
     new-next g.DB.Backend.speaks (statement_tree c.args.asked.statement.now) c.args.self.now c.answer_new.result c.in-Some.pair
     c.answer_new.new.self ((c.in_ok-pair_of.ensures c.in-Some.pair).0 c.in-Some.is)
     (λ h. true≢false (sym (c.if-look_up.ensures.found.1 h)))
