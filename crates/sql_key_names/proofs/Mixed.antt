@@ -1,17 +1,15 @@
 -- What the comparison of two kinds comes to where the first has no declaration.
-use Rattle.std.proofs.Common.{◌≡◌, ℕ, Bool, List, [], Option, refl, sym, ◌∙◌}
+use Rattle.std.proofs.Common.{◌≡◌, ℕ, List, [], Option, refl, sym, ◌∙◌}
 use Rattle.std.specs.declared.cmp.Ordering.{Ordering}
 use Rattle.std.specs.declared.cmp.Ordering.TheVariants.{Less, Equal, Greater}
-use Rattle.std.specs.Ordering.{bool_cmp, ordering_then}
-use Rattle.std.specs.Option.{option_cmp}
+use Rattle.std.specs.Ordering.{ordering_then}
 use Rattle.sql_schema.specs.Columns.{DeclaredColumn}
 use Rattle.sql_leaf.specs.declared.alias.Alias.{Alias}
 use Rattle.sql_leaf.specs.declared.table_source.TableSource.{TableSource}
-use Rattle.sql_leaf.specs.contracts.table_source.TablesampleOrd.TheImpl as sample_ord
 use Rattle.sql_flat.specs.declared.kind.FlatKind.{FlatKind}
 use Rattle.sql_flat.specs.declared.kind.FlatKind.TheVariants as K
 use Rattle.sql_flat.specs.contracts.kind.FlatKindOrd.TheImpl as kind_ord
-use Rattle.sql_key_names.specs.inside.Named.{alias_cmp, blanked, column_cmp, column_name, kind_cmp, source_cmp, table_name, text_cmp}
+use Rattle.sql_key_names.specs.inside.Named.{blanked, column_name, kind_cmp, table_name, text_cmp}
 
 then-none : (o : Ordering) → o ≡ ordering_then o Equal
 then-none Less = refl

@@ -77,9 +77,9 @@ accepted-known : (schema : Declarations) (d e : Dialect) (s : Statement) → ¬ 
 accepted-known schema d e s h q is = by-id (id_of s) refl is
   where
     by-id : (o : Option (List FlatNode)) → id_of s ≡ o → option_map (keyed d) o ≡ Some q → IsKnown schema q
-    by-id None at e = absurd (none_some q e)
-    by-id (Some k) at e =
-        let same : k ≡ q.key = ap (λ p. p.key) (let one : keyed d k ≡ q = cc in one) in
+    by-id None at one = absurd (none_some q one)
+    by-id (Some k) at one =
+        let same : k ≡ q.key = ap (λ p. p.key) (let it : keyed d k ≡ q = cc in it) in
         subst (AreKnown schema) same (key-unknown schema s k at ∙ all-known s (flat_of s) schema e refl h)
 
 pub judged-known : (schema : Declarations) (d e : Dialect) (m : Made) (j : Judgement) → Judges schema e m j

@@ -1,11 +1,11 @@
 -- Keys that the order by names does not tell apart have the same names, and are one but for the rest of their declarations.
-use Rattle.std.proofs.Common.{◌≡◌, ℕ, Bool, true, false, List, [], ◌∷◌, map, refl, sym, ap, ◌∙◌}
+use Rattle.std.proofs.Common.{◌≡◌, ℕ, true, List, [], ◌∷◌, map, refl, sym, ap, ◌∙◌}
 use Rattle.std.proofs.lemmas.Bool.{false≢true}
 use Rattle.std.specs.declared.cmp.Ordering.{Ordering}
 use Rattle.std.specs.declared.cmp.Ordering.TheVariants.{Equal}
 use Rattle.std.specs.Ordering.{on, then_cmp, nat_cmp, eq_by_cmp, is_eq, ordering_then}
 use Rattle.std.specs.Cmp.{Equal-is, first_so, second_so, tied_then}
-use Rattle.std.specs.Cmp.Lexicographic.{slice_cmp, same_text, texts_ties}
+use Rattle.std.specs.Cmp.Lexicographic.{same_text, texts_ties}
 use Rattle.sql_flat.specs.declared.kind.FlatKind.{FlatKind}
 use Rattle.sql_flat.specs.declared.kind.FlatKind.TheVariants as K
 use Rattle.sql_flat.specs.declared.kind.FlatNode.{FlatNode}

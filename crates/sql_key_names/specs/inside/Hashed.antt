@@ -7,7 +7,7 @@ use Rattle.sql_flat.specs.declared.kind.FlatKind.{FlatKind}
 use Rattle.sql_flat.specs.declared.kind.FlatKind.TheVariants as K
 use Rattle.sql_flat.specs.declared.kind.FlatNode.{FlatNode}
 use Rattle.sql_flat.specs.contracts.kind.FlatNodeHash.TheImpl as node_hash
-use Rattle.sql_key_names.specs.inside.Named.{key_cmp, key_hash, named, named_node, node_cmp}
+use Rattle.sql_key_names.specs.inside.Named.{key_cmp, key_hash, named, node_cmp}
 use Rattle.sql_key_names.specs.inside.Exact.{same-node}
 
 abbrev node-fed : FlatNode → HashWrites

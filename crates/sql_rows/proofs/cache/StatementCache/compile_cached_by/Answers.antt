@@ -1,8 +1,7 @@
-use Rattle.std.proofs.Common.{◌≡◌, ◌∙◌, Bool, true, false, sym, ap, subst, refl}
+use Rattle.std.proofs.Common.{◌∙◌, true, false, sym, ap, subst, refl}
 use Rattle.std.proofs.lemmas.Bool.{false≢true}
 use Rattle.std.specs.List.{list_any}
 use Rattle.sql_schema.specs.Declarations.{Declarations}
-use Rattle.sql_flat.specs.declared.kind.FlatNode.{FlatNode}
 use Rattle.sql_node.specs.View.{statement_tree}
 use Rattle.sql_rules_check.proofs.NamesTell.{all-known}
 use Rattle.sql_rules_check.proofs.UnknownNames.{unknown}

@@ -1,4 +1,3 @@
-use Rattle.std.proofs.Common.{◌∙◌, sym}
 use Rattle.std.proofs.lemmas.Result.{IfErr-weaker, IfOk-weaker}
 use Rattle.sql_node.specs.View.{statement_tree}
 use Rattle.sql_check.specs.Compiled.{IsBuilt}
