@@ -29,7 +29,7 @@ use Rattle.sql_tool_build.proofs.Keys.{index-told}
 use Rattle.sql_tool_build.specs.Ids.{RequestShape, request_shape, IsFirst, IsId}
 use Rattle.sql_tool_build.specs.Judgement.{Judgement, Judges, Made, accepts, made, refuses, unmade}
 use Rattle.sql_tool_build.specs.Output.{Line, StatementRequest, AreLines, line_shape}
-use Rattle.sql_tool_build.specs.Shared.{Serves, HasAccepted, OneIdServes, OneShapeOneId}
+use Rattle.sql_tool_build.specs.Shared.{OneIdServes, OneShapeOneId}
 use Rattle.sql_rows.specs.declared.cache.RequestKey.{RequestKey}
 use Rattle.sql_rows.specs.inside.Known.{AreKnown, IsKnown}
 use Rattle.sql_rows.proofs.Known.{exact-pair, key-unknown}
