@@ -7,7 +7,7 @@ mod cache;
 mod laws;
 mod sound;
 
-pub use cache::{RequestKey, StatementCache};
+pub use cache::{NamedRequest, RequestKey, StatementCache};
 pub use laws::{answered_pairs_come_first, calls_are_answered_alone, equal_ids, one_answer};
 pub use sound::{compile_sound, compile_sound_by};
 pub use sql_check::Names;

@@ -24,6 +24,6 @@ mod types;
 mod typing;
 
 pub use judgement::{Judgement, broken_but_the_last, judge};
-pub use kinds::any_lacks_on;
+pub use kinds::{any_lacks_on, any_unknown_name};
 pub use names::Names;
 pub use typing::is_condition_of;

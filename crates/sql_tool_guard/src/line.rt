@@ -13,7 +13,9 @@ use sql_check::Rule;
 use sql_dialect::Dialect;
 use sql_guard::{RestrictError, restrict};
 use sql_node::Statement;
-use sql_tool_build::{Names, RequestKey, StatementCache, refusal_line, statement_line};
+use sql_tool_build::{
+    NamedRequest, Names, StatementCache, refusal_line, schema_stands, statement_line,
+};
 use sql_tool_document::Request;
 use std::alloc::{AllocError, Global};
 use std::collections::BTreeMap;
@@ -34,7 +36,7 @@ fn refusal_name(error: RestrictError) -> &'static str
 fn restricted_line(
     alloc: Global,
     cache: &mut StatementCache,
-    seen: &mut BTreeMap<RequestKey, u64>,
+    seen: &mut BTreeMap<NamedRequest, u64>,
     number: u64,
     tenant: &Tenant,
     dialect: Dialect,
@@ -46,6 +48,7 @@ fn restricted_line(
         number (seen_at seen.old) (seen_at seen.new) (λ l. string_bytes text ≡ line_text l)) }
     ensures schema { cache.new.schema ≡ cache.old.schema }
 {
+    schema_stands(cache);
     match restrict(alloc, statement, &tenant.table, &tenant.predicate) {
         Ok(restricted) => statement_line(
             alloc,
@@ -66,7 +69,7 @@ fn restricted_line(
 pub fn guarded_line(
     alloc: Global,
     cache: &mut StatementCache,
-    seen: &mut BTreeMap<RequestKey, u64>,
+    seen: &mut BTreeMap<NamedRequest, u64>,
     number: u64,
     tenant: &Tenant,
     request: &Request,
@@ -77,6 +80,7 @@ pub fn guarded_line(
         (λ l. string_bytes text ≡ line_text l)) }
     ensures schema { cache.new.schema ≡ cache.old.schema }
 {
+    schema_stands(cache);
     match statement_to_restrict(alloc, cache.schema(), request.dialect, &request.query)? {
         None => refusal_line(alloc, Rule::UnknownName.name()),
         Some(statement) => {

@@ -30,7 +30,7 @@ returns-in-None-clause-line c =
     IfOk-weaker c.refusal_line.result _ _ (λ text is. (
       r,
       record { dialect = refl; statement = subst (λ o. IsRestricted (tenant_tree c.args.tenant.now) o (unmade name)) none refl },
-      unmade-line schema r c.args.number (seen_at c.args.seen.now) (λ l. string_bytes text ≡ line_text l) name refl
+      unmade-line schema c.schema_stands.ensures r c.args.number (seen_at c.args.seen.now) (λ l. string_bytes text ≡ line_text l) name refl
           (is ∙ ap (λ q. compact_text (refused q) ++ 10 ∷ []) c.name.ensures),
     )) c.refusal_line.ensures
 

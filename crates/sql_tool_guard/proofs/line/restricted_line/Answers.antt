@@ -30,6 +30,6 @@ returns-in-Err-clause-line c =
     IfOk-weaker c.refusal_line.result _ _ (λ text is. (
       unmade name,
       inl (e, known, c.in-Err.ensures.refused, refl),
-      unmade-line c.args.cache.now.schema r c.args.number (seen_at c.args.seen.now) (λ l. string_bytes text ≡ line_text l)
+      unmade-line c.args.cache.now.schema c.schema_stands.ensures r c.args.number (seen_at c.args.seen.now) (λ l. string_bytes text ≡ line_text l)
           name refl (is ∙ ap (λ q. compact_text (refused q) ++ 10 ∷ []) c.refusal_name.ensures),
     )) c.refusal_line.ensures
