@@ -1,14 +1,15 @@
 -- Tests of the nodes of a list that read ahead are tests of the nodes of its tree by their children.
-use Rattle.std.proofs.Common.{◌≡◌, ℕ, suc, ◌+◌, ◌<◌, ◌≤◌, ◌⊎◌, Bool, true, false, ◌||◌, List, [], ◌++◌, get_or, length, refl, sym, ap, ◌∙◌, arith}
-use Rattle.std.specs.List.{list_any}
+use Rattle.std.proofs.Common.{◌≡◌, ℕ, suc, ◌+◌, ◌<◌, ◌≤◌, ◌⊎◌, Bool, true, false, cond, ◌||◌, List, [], ◌∷◌, ◌++◌, get_or, length, refl, sym, ap, ◌∙◌, arith, ltb}
+use Rattle.std.specs.List.{flat_map, list_any}
 use Rattle.std.proofs.lemmas.List.Folds.{list_any-append}
 use Rattle.sql_flat_law.specs.Rose.{Rose, node, Roses, none, more, size, sizes, flat, flats}
 use Rattle.sql_flat_law.specs.Folds.{gathered_each, sites, sites_of}
+use Rattle.sql_flat_law.specs.Forward.{gather, next}
 use Rattle.sql_flat_law.proofs.Forward.{after-later, gather-ends, gather-turn, gathers-kids}
 use Rattle.sql_flat.specs.Flat.{flat_node}
 use Rattle.sql_flat.specs.declared.kind.FlatKind.{FlatKind}
 use Rattle.sql_flat.specs.declared.kind.FlatNode.{FlatNode}
-use Rattle.sql_rules_check.specs.inside.Ahead.{after_at, any_ahead, any_over, any_over_each, gathered_behind, gathered_from}
+use Rattle.sql_rules_check.specs.inside.Ahead.{after_at, any_ahead, any_over, any_over_each, gathered_behind, gathered_from, itself}
 use Rattle.sql_rules_check.specs.inside.Known.{Known, known_below}
 use Rattle.sql_rules_check.specs.inside.Lists.{kind_of, end_of}
 
@@ -69,6 +70,21 @@ module _ {B : Type 0} (at : FlatKind → List B) (passed : FlatKind → Bool) wh
       → gathered_behind at passed n (flat_node k (n + suc (sizes ts))) (flats flat_node (n + 1) ts rest)
       ≡ gathered_each at passed ts
   behind-kids n k ts rest = gathers-kids flat_node kind_of end_of at passed (λ _ _. refl) (λ _ _. refl) n ts rest
+
+  -- what is gathered is what each of the nodes gives
+  pub gathered-over : (e u i : ℕ) (xs : List FlatNode)
+      → gather kind_of end_of at passed e u i xs ≡ flat_map at (gather kind_of end_of itself passed e u i xs)
+  gathered-over e u i [] = refl
+  gathered-over e u i (x ∷ xs) =
+      let w = next kind_of end_of at passed (passed x.kind) x.end u in
+      by_tests (ltb i e) (ltb i u) _ _ (gather kind_of end_of itself passed e u (i + 1) xs)
+      (gather kind_of end_of itself passed e w (i + 1) xs) (gathered-over e u (i + 1) xs) (gathered-over e w (i + 1) xs)
+    where
+      by_tests : (b c : Bool) (us vs : List B) (ks ls : List FlatKind) → us ≡ flat_map at ks → vs ≡ flat_map at ls
+          → cond b (cond c us (at x.kind ++ vs)) [] ≡ flat_map at (cond b (cond c ks (x.kind ∷ ls)) [])
+      by_tests true true us vs ks ls h g = h
+      by_tests true false us vs ks ls h g = ap (λ l. at x.kind ++ l) g
+      by_tests false c us vs ks ls h g = refl
 
   pub gathered-turn : (e p : ℕ) (nodes : List FlatNode) (x : FlatNode) → p < e → p < length nodes → x ≡ get_or nodes p x
       → gathered_from at passed e p nodes ≡ at x.kind ++ gathered_from at passed e (after_at at passed p x) nodes

@@ -1,7 +1,6 @@
--- Turns of the loops over a select statement's clauses, and over the nodes of one.
-use Rattle.std.proofs.Common.{◌≡◌, ◌⊎◌, ℕ, suc, ◌+◌, ◌<◌, ◌≤◌, ◌||◌, Bool, false, List, [], ◌∷◌, ◌++◌, Option, drop, get_or, length, refl, sym, ap, ◌∙◌}
-use Rattle.std.specs.List.{list_any}
-use Rattle.std.proofs.lemmas.List.{drop_more}
+-- What the loops over a select statement's clauses give, and over the nodes of one.
+use Rattle.std.proofs.Common.{◌≡◌, ℕ, suc, ◌+◌, ◌||◌, Bool, cond, List, [], ◌∷◌, ◌++◌, Option, Some, option_map, map, drop, refl, sym, ap, ◌∙◌}
+use Rattle.std.specs.List.{find, flat_map, list_any}
 use Rattle.std.proofs.lemmas.List.Folds.{list_any-append}
 use Rattle.sql_flat_law.specs.Rose.{Roses, node, sizes, flats}
 use Rattle.sql_flat_law.specs.Forward.{gather}
@@ -13,12 +12,13 @@ use Rattle.sql_flat.specs.Flat.{flat_node}
 use Rattle.sql_flat.specs.declared.kind.FlatKind.{FlatKind}
 use Rattle.sql_flat.specs.declared.kind.FlatKind.TheVariants as K
 use Rattle.sql_flat.specs.declared.kind.FlatNode.{FlatNode}
-use Rattle.sql_rules_check.specs.inside.Ahead.{after_at}
-use Rattle.sql_rules_check.specs.inside.Grouping.{Piece, Sums, adding, all_give, field_at, field_passed, fields_from, group_in, group_or, is_aggregate, kind_gives, misgrouped, misgrouped_at, misgrouped_by, own_at, own_from, own_passed, piece_at, piece_of, summed}
-use Rattle.sql_rules_check.specs.inside.Kids.{kids_from, past}
+use Rattle.sql_rules_check.specs.inside.Ahead.{itself, kinds_from}
+use Rattle.sql_rules_check.specs.inside.Clauses.{is_group}
+use Rattle.sql_rules_check.specs.inside.Grouping.{Piece, Sums, adding, all_give, field_at, field_passed, fields_from, group_in, group_or, kind_gives, misgrouped, misgrouped_at, misgrouped_by, own_at, own_from, own_passed, piece_at, piece_of, summed}
+use Rattle.sql_rules_check.specs.inside.Kids.{children_from, kids_from}
 use Rattle.sql_rules_check.specs.inside.Lists.{kind_of, end_of}
-use Rattle.sql_rules_check.proofs.Ahead.{behind-kids, gathered-end, gathered-turn}
-use Rattle.sql_rules_check.proofs.Kids.{kids-below, kids-end, kids-turn}
+use Rattle.sql_rules_check.proofs.Ahead.{behind-kids, gathered-over}
+use Rattle.sql_rules_check.proofs.Kids.{kids-below, kids-over}
 
 pub mix-unit : (a : v.Verdict) → mix a v.Never ≡ a
 mix-unit v.No = refl
@@ -50,97 +50,64 @@ mix-mix v.Yes v.NoVerdict c = refl
 mix-mix v.Never b c = refl
 mix-mix v.NoVerdict b c = refl
 
-other-group : (k : FlatKind) (fs : List Field) (rest : Option (List Field)) → (k ≡ K.GroupBy → ⊥)
-    → group_or k fs rest ≡ rest
-other-group K.GroupBy fs rest other = absurd (other refl)
-other-group _ fs rest other = refl
+-- ---- what the loops over the nodes of a list give
+
+-- of one more node, and of one more clause
+pub give-more : (g : Option (List Field)) (ks : List FlatKind) (k : FlatKind)
+    → mix (all_give g ks) (kind_gives g k) ≡ all_give g (ks ++ k ∷ [])
+give-more g [] k = sym (mix-unit (kind_gives g k))
+give-more g (l ∷ ks) k =
+    mix-mix (kind_gives g l) (all_give g ks) (kind_gives g k) ∙ ap (mix (kind_gives g l)) (give-more g ks k)
+
+pub sum-more : {X : Type 0} (g : Option (List Field)) (piece : X → Piece) (s : Sums) (cs : List X) (c : X)
+    → adding g (summed g s (map piece cs)) (piece c).kind (piece c).own ≡ summed g s (map piece (cs ++ c ∷ []))
+sum-more g piece s [] c = refl
+sum-more g piece s (d ∷ cs) c = sum-more g piece (adding g s (piece d).kind (piece d).own) cs c
+
+any-flat : {X Y : Type 0} (test : Y → Bool) (f : X → List Y) (xs : List X)
+    → list_any (λ x. list_any test (f x)) xs ≡ list_any test (flat_map f xs)
+any-flat test f [] = refl
+any-flat test f (x ∷ xs) =
+    ap (λ b. list_any test (f x) || b) (any-flat test f xs) ∙ sym (list_any-append test (f x) (flat_map f xs))
+
+-- a clause of a list by its index
+abbrev pub piece_in : List FlatNode → ℕ × FlatNode → Piece
+piece_in nodes c = record { kind = c.1.kind; own = own_from c.1.end c.0 nodes; fields = fields_from c.1.end c.0 nodes }
 
 module _ (e p : ℕ) (nodes : List FlatNode) where
-  abbrev after_own : FlatNode → ℕ
-  after_own x = after_at own_at own_passed p x
+  pub holds-over : (o : Origin) (name : List ℕ)
+      → list_any (λ k. holds_column (field_at k) o name) (kinds_from field_passed e p nodes)
+      ≡ holds_column (fields_from e p nodes) o name
+  holds-over o name =
+      any-flat _ field_at (kinds_from field_passed e p nodes)
+      ∙ sym (ap (λ fs. holds_column fs o name) (gathered-over field_at field_passed e p p (drop p nodes)))
 
-  abbrev after_field : FlatNode → ℕ
-  after_field x = after_at field_at field_passed p x
+  abbrev piece_over : ℕ → FlatNode → List FlatNode → Piece
+  piece_over i x l = record {
+    kind = x.kind;
+    own = gather kind_of end_of itself own_passed x.end i i l;
+    fields = gather kind_of end_of field_at field_passed x.end i i l;
+  }
 
-  abbrev Out : Type 0
-  Out = (e ≤ p) ⊎ (length nodes ≤ p)
+  pub pieces-over : map (piece_in nodes) (children_from e p nodes) ≡ kids_from piece_at e p nodes
+  pieces-over =
+      sym (kids-over piece_at nodes (λ i x. piece_in nodes (i, x)) (λ i x xs h g. ap (piece_over i x) h) e p p (drop p nodes) refl)
 
-  pub own-end : Out → own_from e p nodes ≡ []
-  own-end = gathered-end own_at own_passed e p nodes
+  first-group : (cs : List (ℕ × FlatNode))
+      → option_map (λ c. fields_from c.1.end c.0 nodes) (find (λ c. is_group c.1.kind) cs) ≡ group_in (map (piece_in nodes) cs)
+  first-group [] = refl
+  first-group (c ∷ cs) = by_kind c.1.kind (first-group cs)
+    where
+      by_kind : (k : FlatKind) {a : Option (ℕ × FlatNode)} {b : Option (List Field)}
+          → option_map (λ c. fields_from c.1.end c.0 nodes) a ≡ b
+          → option_map (λ c. fields_from c.1.end c.0 nodes) (cond (is_group k) (Some c) a)
+          ≡ group_or k (fields_from c.1.end c.0 nodes) b
+      by_kind K.GroupBy h = refl
+      by_kind _ h = h
 
-  pub fields-end : Out → fields_from e p nodes ≡ []
-  fields-end = gathered-end field_at field_passed e p nodes
-
-  pub pieces-end : Out → kids_from piece_at e p nodes ≡ []
-  pieces-end = kids-end piece_at e p nodes
-
-  module _ (x : FlatNode) (h : p < e) (g : p < length nodes) (is : x ≡ get_or nodes p x) where
-    pub own-turn : own_from e p nodes ≡ x.kind ∷ own_from e (after_own x) nodes
-    own-turn = gathered-turn own_at own_passed e p nodes x h g is
-
-    pub fields-turn : fields_from e p nodes ≡ field_at x.kind ++ fields_from e (after_field x) nodes
-    fields-turn = gathered-turn field_at field_passed e p nodes x h g is
-
-    pub holds-turn : (o : Origin) (name : List ℕ)
-        → holds_column (fields_from e p nodes) o name
-        ≡ (holds_column (field_at x.kind) o name || holds_column (fields_from e (after_field x) nodes) o name)
-    holds-turn o name =
-        ap (λ fs. holds_column fs o name) fields-turn
-        ∙ list_any-append _ (field_at x.kind) (fields_from e (after_field x) nodes)
-
-    abbrev piece_here : Piece
-    piece_here = record { kind = x.kind; own = own_from x.end p nodes; fields = fields_from x.end p nodes }
-
-    abbrev piece_over : List FlatNode → Piece
-    piece_over l = record {
-      kind = x.kind;
-      own = gather kind_of end_of own_at own_passed x.end p p l;
-      fields = gather kind_of end_of field_at field_passed x.end p p l;
-    }
-
-    pub pieces-turn : kids_from piece_at e p nodes ≡ piece_here ∷ kids_from piece_at e (past p x) nodes
-    pieces-turn =
-        kids-turn piece_at e p nodes x h g is
-        ∙ ap (λ l. piece_over l ∷ kids_from piece_at e (past p x) nodes)
-        (sym (drop_more nodes p x g ∙ ap (λ y. y ∷ drop (p + 1) nodes) (sym is)))
-
-    -- what is left of each loop after a turn
-
-    pub any-later : (all : Bool) → is_aggregate x.kind ≡ false → list_any is_aggregate (own_from e p nodes) ≡ all
-        → list_any is_aggregate (own_from e (after_own x) nodes) ≡ all
-    any-later all none held =
-        ap (λ b. b || list_any is_aggregate (own_from e (after_own x) nodes)) (sym none)
-        ∙ ap (list_any is_aggregate) (sym own-turn) ∙ held
-
-    pub holds-later : (o : Origin) (name : List ℕ) (all : Bool) → holds_column (field_at x.kind) o name ≡ false
-        → holds_column (fields_from e p nodes) o name ≡ all
-        → holds_column (fields_from e (after_field x) nodes) o name ≡ all
-    holds-later o name all none held =
-        ap (λ b. b || holds_column (fields_from e (after_field x) nodes) o name) (sym none)
-        ∙ sym (holds-turn o name) ∙ held
-
-    pub verdict-later : (g : Option (List Field)) (so_far more all : v.Verdict)
-        → more ≡ mix so_far (kind_gives g x.kind) → mix so_far (all_give g (own_from e p nodes)) ≡ all
-        → mix more (all_give g (own_from e (after_own x) nodes)) ≡ all
-    verdict-later g so_far more all is held =
-        let rest = all_give g (own_from e (after_own x) nodes) in
-        ap (λ a. mix a rest) is ∙ mix-mix so_far (kind_gives g x.kind) rest
-        ∙ ap (λ ks. mix so_far (all_give g ks)) (sym own-turn) ∙ held
-
-    pub sums-later : (g : Option (List Field)) (so_far more all : Sums)
-        → more ≡ adding g so_far x.kind (own_from x.end p nodes)
-        → summed g so_far (kids_from piece_at e p nodes) ≡ all
-        → summed g more (kids_from piece_at e (past p x) nodes) ≡ all
-    sums-later g so_far more all is held =
-        ap (λ s. summed g s (kids_from piece_at e (past p x) nodes)) is
-        ∙ ap (summed g so_far) (sym pieces-turn) ∙ held
-
-    pub group-later : (all : Option (List Field)) → (x.kind ≡ K.GroupBy → ⊥)
-        → group_in (kids_from piece_at e p nodes) ≡ all
-        → group_in (kids_from piece_at e (past p x) nodes) ≡ all
-    group-later all other held =
-        sym (other-group x.kind (fields_from x.end p nodes) (group_in (kids_from piece_at e (past p x) nodes)) other)
-        ∙ ap group_in (sym pieces-turn) ∙ held
+  pub group-over : option_map (λ c. fields_from c.1.end c.0 nodes) (find (λ c. is_group c.1.kind) (children_from e p nodes))
+      ≡ group_in (kids_from piece_at e p nodes)
+  group-over = first-group (children_from e p nodes) ∙ ap group_in pieces-over
 
 -- ---- what is read ahead is what the tree has
 

@@ -1,12 +1,12 @@
 -- The loop over the children of a node passes over what is below them.
 use Rattle.std.proofs.lemmas.Bool.{le-ltb, lt-ltb, ltb-false, ltb-true}
 use Rattle.std.proofs.lemmas.List.{drop_all, drop_more, drop-drop}
-use Rattle.std.proofs.Common.{◌≡◌, ℕ, zero, suc, ◌+◌, ◌-◌, ◌<◌, ◌≤◌, ◌⊎◌, inl, inr, true, false, Bool, cond, if◌then◌else◌, List, [], ◌∷◌, ◌++◌, drop, get_or, length, ltb, refl, sym, ap, ◌∙◌, append-nil, arith}
+use Rattle.std.proofs.Common.{◌≡◌, ℕ, zero, suc, ◌+◌, ◌-◌, ◌<◌, ◌≤◌, ◌⊎◌, inl, inr, true, false, Bool, cond, if◌then◌else◌, List, [], ◌∷◌, ◌++◌, map, drop, get_or, length, ltb, refl, sym, ap, ◌∙◌, append-nil, arith}
 use Rattle.sql_flat_law.specs.Rose.{Rose, node, Roses, none, more, size, sizes, flat, flats}
 use Rattle.sql_flat.specs.Flat.{flat_node}
 use Rattle.sql_flat.specs.declared.kind.FlatKind.{FlatKind}
 use Rattle.sql_flat.specs.declared.kind.FlatNode.{FlatNode}
-use Rattle.sql_rules_check.specs.inside.Kids.{kids, kids_behind, kids_from, kids_of, past}
+use Rattle.sql_rules_check.specs.inside.Kids.{child_at, kids, kids_behind, kids_from, kids_of, past}
 
 module _ {B : Type 0} (at : ℕ → FlatNode → List FlatNode → B) where
   kids-stop : (e u i : ℕ) (xs : List FlatNode) → e ≤ i → kids at e u i xs ≡ []
@@ -49,6 +49,26 @@ module _ {B : Type 0} (at : ℕ → FlatNode → List FlatNode → B) where
           (drop-drop (x.end - (p + 1)) (p + 1) nodes ∙ ap (λ m. drop m nodes) (omega arith))
       by_test false q =
           kids-reached e x.end (p + 1) (p + 1) (drop (p + 1) nodes) (omega (arith, ltb-false p x.end q)) (omega arith)
+
+  -- what the children of a whole list give, by their indices
+  pub kids-over : (nodes : List FlatNode) (of : ℕ → FlatNode → B)
+      → ((i : ℕ) (x : FlatNode) (xs : List FlatNode) → x ∷ xs ≡ drop i nodes → xs ≡ drop (i + 1) nodes
+      → at i x xs ≡ of i x)
+      → (e u i : ℕ) (xs : List FlatNode) → xs ≡ drop i nodes
+      → kids at e u i xs ≡ map (λ c. of c.0 c.1) (kids child_at e u i xs)
+  kids-over nodes of same e u i [] h = refl
+  kids-over nodes of same e u i (x ∷ xs) h =
+      let behind : xs ≡ drop (i + 1) nodes = ap (drop 1) h ∙ drop-drop 1 i nodes ∙ ap (λ m. drop m nodes) (omega arith) in
+      by_tests (ltb i e) (ltb i u) _ _ _ (kids child_at e u (i + 1) xs) (kids child_at e x.end (i + 1) xs)
+      (same i x xs h behind) (kids-over nodes of same e u (i + 1) xs behind)
+      (kids-over nodes of same e x.end (i + 1) xs behind)
+    where
+      by_tests : (b c : Bool) (y : B) (us vs : List B) (ps qs : List (ℕ × FlatNode)) → y ≡ of i x
+          → us ≡ map (λ c. of c.0 c.1) ps → vs ≡ map (λ c. of c.0 c.1) qs
+          → cond b (cond c us (y ∷ vs)) [] ≡ map (λ c. of c.0 c.1) (cond b (cond c ps ((i, x) ∷ qs)) [])
+      by_tests true true y us vs ps qs p h g = h
+      by_tests true false y us vs ps qs p h g = λ j. p j ∷ g j
+      by_tests false c y us vs ps qs p h g = refl
 
   -- there is none after the last node
   pub kids-end : (e i : ℕ) (nodes : List FlatNode) → (e ≤ i) ⊎ (length nodes ≤ i) → kids_from at e i nodes ≡ []

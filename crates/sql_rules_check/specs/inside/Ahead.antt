@@ -4,6 +4,7 @@ use Rattle.sql_flat_law.specs.Rose.{Rose, node, Roses, none, more}
 use Rattle.sql_flat_law.specs.Forward.{after, gather}
 use Rattle.sql_flat.specs.declared.kind.FlatKind.{FlatKind}
 use Rattle.sql_flat.specs.declared.kind.FlatNode.{FlatNode}
+use Rattle.sql_rules_check.specs.declared.walk.Walk.{Walk}
 use Rattle.sql_rules_check.specs.inside.Lists.{kind_of, end_of}
 
 -- the test of a node of a tree, by its children
@@ -33,3 +34,13 @@ module _ {B : Type 0} (at : FlatKind → List B) (passed : FlatKind → Bool) wh
 
   abbrev pub after_at : ℕ → FlatNode → ℕ
   after_at = after kind_of end_of at passed
+
+-- the kinds of the nodes themselves
+abbrev pub itself : FlatKind → List FlatKind
+itself k = k ∷ []
+
+abbrev pub kinds_from : (FlatKind → Bool) → ℕ → ℕ → List FlatNode → List FlatKind
+kinds_from = gathered_from itself
+
+abbrev pub kinds_left : {P : Type 0} → (FlatKind → Bool) → Walk P → List FlatKind
+kinds_left passed w = kinds_from passed w.end w.index w.nodes.now

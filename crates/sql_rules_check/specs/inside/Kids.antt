@@ -4,6 +4,8 @@ use Rattle.std.proofs.Common.{ltb}
 use Rattle.sql_flat_law.specs.Rose.{Rose, node, Roses, none, more}
 use Rattle.sql_flat.specs.declared.kind.FlatKind.{FlatKind}
 use Rattle.sql_flat.specs.declared.kind.FlatNode.{FlatNode}
+use Rattle.sql_rules_check.specs.declared.walk.Children.{Children}
+use denote.Ref.{Bor}
 
 -- the index after a node and what is below it
 abbrev pub past : ℕ → FlatNode → ℕ
@@ -23,6 +25,19 @@ module _ {B : Type 0} (at : ℕ → FlatNode → List FlatNode → B) where
   -- of those that follow the node at an index, up to its end
   abbrev pub kids_behind : ℕ → FlatNode → List FlatNode → List B
   kids_behind i x xs = kids x.end (i + 1) (i + 1) xs
+
+-- the children themselves, each with its index
+abbrev pub child_at : ℕ → FlatNode → List FlatNode → ℕ × FlatNode
+child_at i x xs = (i, x)
+
+abbrev pub children_from : ℕ → ℕ → List FlatNode → List (ℕ × FlatNode)
+children_from = kids_from child_at
+
+abbrev pub children_left : Children → List (ℕ × FlatNode)
+children_left c = children_from c.end c.index c.nodes.now
+
+abbrev pub child_of : ℕ × Bor FlatNode → ℕ × FlatNode
+child_of c = (c.0, c.1.now)
 
 -- of a tree
 module _ {B : Type 0} (of : FlatKind → Roses FlatKind → B) where

@@ -1,46 +1,29 @@
-use Rattle.std.proofs.Common.{◌≤◌, ◌⊎◌, inl, inr, length, arith}
-use Rattle.sql_rules_check.specs.inside.Clauses.{is_group, is_having}
-use Rattle.sql_rules_check.proofs.ClauseKinds.{adds-clause, ends-clauses, group-turn, having-turn}
+use Rattle.std.proofs.Common.{◌≡◌, ◌||◌, ◌∙◌, ap, refl, rules, tests}
+use Rattle.std.specs.List.{list_any}
+use Rattle.std.proofs.lemmas.Fn.{fold_over}
+use Rattle.std.proofs.lemmas.Iterator.Consumers.{YieldsList-from_first}
+use Rattle.sql_rules_check.specs.inside.Ahead.{kinds_left}
+use Rattle.sql_rules_check.specs.inside.Clauses.{all_passed, is_group, is_having}
+use Rattle.sql_rules_check.proofs.ClauseKinds.{any-more, groups-over, havings-over}
 use Rattle.sql_rules_check.proofs.clauses.clauses.Goals as goal
 
-pub loop-index-preserved : goal.loop-index-preserved
-loop-index-preserved c = record {
-  groups =
-      rw c.past-index.ensures.next
-      (adds-clause is_group c.args.end c.loop-index.index c.args.nodes.now c.index-nodes-index.result
-      c.loop-index.present.groups _ _
-      (group-turn c.args.end c.loop-index.index c.args.nodes.now c.index-nodes-index.result
-      c.loop-index-test.true c.if-index-nodes.true c.index-nodes-index.is)
-      c.loop-index.invariant.groups c.noting-present.ensures.groups);
-  having =
-      rw c.past-index.ensures.next
-      (adds-clause is_having c.args.end c.loop-index.index c.args.nodes.now c.index-nodes-index.result
-      c.loop-index.present.having _ _
-      (having-turn c.args.end c.loop-index.index c.args.nodes.now c.index-nodes-index.result
-      c.loop-index-test.true c.if-index-nodes.true c.index-nodes-index.is)
-      c.loop-index.invariant.having c.noting-present.ensures.having);
-}
-
-pub returns-else-index-nodes : goal.returns-else-index-nodes
-returns-else-index-nodes c =
-    let h : (c.args.end ≤ c.loop-index.index) ⊎ (length c.args.nodes.now ≤ c.loop-index.index) = inr (omega arith) in
+pub returns : goal.returns
+returns c =
+    let both = fold_over _ (λ k. k.now) _
+    (λ ks p. (p.groups ≡ list_any is_group ks) × (p.having ≡ list_any is_having ks)) _
+    (λ ks a x b q held k.
+    let groups : b.groups ≡ (a.groups || is_group x.now) = search (rules, tests) in
+    let having : b.having ≡ (a.having || is_having x.now) = search (rules, tests) in
+    (
+      (
+        groups ∙ ap (λ v. v || is_group x.now) held.0 ∙ any-more is_group ks x.now,
+        having ∙ ap (λ v. v || is_having x.now) held.1 ∙ any-more is_having ks x.now,
+      ),
+      search (rules, tests),
+    ))
+    _ _ _ _ (YieldsList-from_first {s = c.new.result} (λ k. k.now) (kinds_left all_passed) _ c.new.ensures).runs (refl, refl)
+    c.fold.ensures.ran in
     record {
-      groups =
-          ends-clauses is_group c.args.end c.loop-index.index c.args.nodes.now c.loop-index.present.groups _ h
-          c.loop-index.invariant.groups;
-      having =
-          ends-clauses is_having c.args.end c.loop-index.index c.args.nodes.now c.loop-index.present.having _ h
-          c.loop-index.invariant.having;
-    }
-
-pub returns-after-loop-index : goal.returns-after-loop-index
-returns-after-loop-index c =
-    let h : (c.args.end ≤ c.loop-index.index) ⊎ (length c.args.nodes.now ≤ c.loop-index.index) = inl (omega arith) in
-    record {
-      groups =
-          ends-clauses is_group c.args.end c.loop-index.index c.args.nodes.now c.loop-index.present.groups _ h
-          c.loop-index.invariant.groups;
-      having =
-          ends-clauses is_having c.args.end c.loop-index.index c.args.nodes.now c.loop-index.present.having _ h
-          c.loop-index.invariant.having;
+      groups = both.0 ∙ groups-over c.args.end c.args.from c.args.nodes.now;
+      having = both.1 ∙ havings-over c.args.end c.args.from c.args.nodes.now;
     }
