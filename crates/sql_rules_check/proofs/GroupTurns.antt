@@ -50,6 +50,11 @@ mix-mix v.Yes v.NoVerdict c = refl
 mix-mix v.Never b c = refl
 mix-mix v.NoVerdict b c = refl
 
+other-group : (k : FlatKind) (fs : List Field) (rest : Option (List Field)) → (k ≡ K.GroupBy → ⊥)
+    → group_or k fs rest ≡ rest
+other-group K.GroupBy fs rest other = absurd (other refl)
+other-group _ fs rest other = refl
+
 -- ---- what the loops over the nodes of a list give
 
 -- of one more node, and of one more clause
@@ -58,11 +63,6 @@ pub give-more : (g : Option (List Field)) (ks : List FlatKind) (k : FlatKind)
 give-more g [] k = sym (mix-unit (kind_gives g k))
 give-more g (l ∷ ks) k =
     mix-mix (kind_gives g l) (all_give g ks) (kind_gives g k) ∙ ap (mix (kind_gives g l)) (give-more g ks k)
-
-pub sum-more : {X : Type 0} (g : Option (List Field)) (piece : X → Piece) (s : Sums) (cs : List X) (c : X)
-    → adding g (summed g s (map piece cs)) (piece c).kind (piece c).own ≡ summed g s (map piece (cs ++ c ∷ []))
-sum-more g piece s [] c = refl
-sum-more g piece s (d ∷ cs) c = sum-more g piece (adding g s (piece d).kind (piece d).own) cs c
 
 any-flat : {X Y : Type 0} (test : Y → Bool) (f : X → List Y) (xs : List X)
     → list_any (λ x. list_any test (f x)) xs ≡ list_any test (flat_map f xs)
@@ -93,21 +93,29 @@ module _ (e p : ℕ) (nodes : List FlatNode) where
   pieces-over =
       sym (kids-over piece_at nodes (λ i x. piece_in nodes (i, x)) (λ i x xs h g. ap (piece_over i x) h) e p p (drop p nodes) refl)
 
-  first-group : (cs : List (ℕ × FlatNode))
-      → option_map (λ c. fields_from c.1.end c.0 nodes) (find (λ c. is_group c.1.kind) cs) ≡ group_in (map (piece_in nodes) cs)
-  first-group [] = refl
-  first-group (c ∷ cs) = by_kind c.1.kind (first-group cs)
-    where
-      by_kind : (k : FlatKind) {a : Option (ℕ × FlatNode)} {b : Option (List Field)}
-          → option_map (λ c. fields_from c.1.end c.0 nodes) a ≡ b
-          → option_map (λ c. fields_from c.1.end c.0 nodes) (cond (is_group k) (Some c) a)
-          ≡ group_or k (fields_from c.1.end c.0 nodes) b
-      by_kind K.GroupBy h = refl
-      by_kind _ h = h
+module _ (nodes : List FlatNode) (cs ds : List (ℕ × FlatNode)) (c : ℕ × FlatNode) (is : cs ≡ c ∷ ds) where
+  -- after a clause that is no GROUP BY
+  pub group-later : (all : Option (List Field)) → (c.1.kind ≡ K.GroupBy → ⊥) → group_in (map (piece_in nodes) cs) ≡ all
+      → group_in (map (piece_in nodes) ds) ≡ all
+  group-later all other held =
+      sym (other-group c.1.kind _ (group_in (map (piece_in nodes) ds)) other)
+      ∙ ap (λ l. group_in (map (piece_in nodes) l)) (sym is) ∙ held
 
-  pub group-over : option_map (λ c. fields_from c.1.end c.0 nodes) (find (λ c. is_group c.1.kind) (children_from e p nodes))
-      ≡ group_in (kids_from piece_at e p nodes)
-  group-over = first-group (children_from e p nodes) ∙ ap group_in pieces-over
+  -- and at one
+  pub group-here : (all : Option (List Field)) → c.1.kind ≡ K.GroupBy → group_in (map (piece_in nodes) cs) ≡ all
+      → Some (fields_from c.1.end c.0 nodes) ≡ all
+  group-here all it held =
+      ap (λ k. group_or k (fields_from c.1.end c.0 nodes) (group_in (map (piece_in nodes) ds))) (sym it)
+      ∙ ap (λ l. group_in (map (piece_in nodes) l)) (sym is) ∙ held
+
+  pub sums-later : (g : Option (List Field)) (so_far more all : Sums)
+      → more ≡ adding g so_far c.1.kind (own_from c.1.end c.0 nodes)
+      → summed g so_far (map (piece_in nodes) cs) ≡ all → summed g more (map (piece_in nodes) ds) ≡ all
+  sums-later g so_far more all added held =
+      ap (λ s. summed g s (map (piece_in nodes) ds)) added
+      ∙ ap (λ l. summed g so_far (map (piece_in nodes) l)) (sym is) ∙ held
+
+pub ruleset grouping = (pieces-over, group-later, group-here, sums-later)
 
 -- ---- what is read ahead is what the tree has
 

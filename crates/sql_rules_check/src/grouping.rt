@@ -11,7 +11,7 @@
 //! 4    From       passed over
 //! 6    GroupBy    holds no aggregate
 //! ```
-#![tactic(auto)]
+#![tactic(auto, using(crate::proofs::GroupTurns::grouping))]
 
 ghost use Rattle.std.specs.Prelude.{◌≡◌, ◌+◌, ◌<◌, ◌&&◌, ◌||◌, drop};
 ghost use Rattle.std.specs.Bool.{Decides};
@@ -27,7 +27,6 @@ ghost use Rattle.sql_rules.specs.Verdicts.{holds_column, holds_key as holds_whol
 ghost use Rattle.sql_rules.specs.declared.rule.Rule.TheVariants as rule;
 ghost use Rattle.sql_flat.specs.Flat.{flat_of};
 ghost use Rattle.sql_rules_check.specs.inside.Ahead.{any_ahead};
-ghost use Rattle.sql_rules_check.specs.inside.Clauses.{is_group as groups_by};
 ghost use Rattle.sql_rules_check.specs.inside.Grouping.{adding as added, all_give, breaks as sums_break, column_gives, field_at, field_passed, fields_by, fields_from, group_in, is_aggregate as aggregates, is_none as gives_none, is_unboxed as form_unboxed, kind_gives, misgrouped_at, nothing_summed, own_at, own_from, own_passed, piece_at, select_breaks, summed, sums_of, verdict_of};
 ghost use Rattle.sql_rules_check.specs.inside.Kids.{kids_from};
 
@@ -203,24 +202,19 @@ fn own_verdict(nodes: &[FlatNode], group: Option<Group>, from: usize, end: usize
     })
 }
 
-fn is_group(kind: &FlatKind) -> bool
-    ensures { result ≡ groups_by kind.now }
-{
-    match kind {
-        FlatKind::GroupBy => true,
-        _ => false,
-    }
-}
-
 /// The GROUP BY among the clauses from one index to another.
 fn find_group(nodes: &[FlatNode], from: usize, end: usize) -> Option<Group>
     ensures { fields_by nodes.now result ≡ group_in (kids_from piece_at end from nodes.now) }
 {
-    let (start, node) = Children::new(nodes, from, end).find(|(_, node)| is_group(&node.kind))?;
-    Some(Group {
-        start,
-        end: node.end,
-    })
+    for (start, node) in Children::new(nodes, from, end) {
+        if let FlatKind::GroupBy = &node.kind {
+            return Some(Group {
+                start,
+                end: node.end,
+            });
+        }
+    }
+    None
 }
 
 impl Sums {
@@ -258,15 +252,16 @@ fn clause_sums(nodes: &[FlatNode], group: Option<Group>, from: usize, end: usize
     ensures { sums_of result
         ≡ summed (fields_by nodes.now group) nothing_summed (kids_from piece_at end from nodes.now) }
 {
-    let nothing = Sums {
+    let mut all = Sums {
         selected: Verdict::Never,
         distinct: Verdict::Never,
         ordered: Verdict::Never,
         aggregate: false,
     };
-    Children::new(nodes, from, end).fold(nothing, |all, (index, node)| {
-        all.adding(nodes, group, index, node)
-    })
+    for (index, node) in Children::new(nodes, from, end) {
+        all = all.adding(nodes, group, index, node);
+    }
+    all
 }
 
 fn is_unboxed(form: Form) -> bool

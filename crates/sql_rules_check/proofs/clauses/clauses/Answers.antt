@@ -1,5 +1,6 @@
 use Rattle.std.proofs.Common.{◌≡◌, ◌||◌, ◌∙◌, ap, refl, rules, tests}
 use Rattle.std.specs.List.{list_any}
+use Rattle.std.specs.Iterator.{YieldsFirstBy}
 use Rattle.std.proofs.lemmas.Fn.{fold_over}
 use Rattle.std.proofs.lemmas.Iterator.Consumers.{YieldsList-from_first}
 use Rattle.sql_rules_check.specs.inside.Ahead.{kinds_left}
@@ -9,7 +10,7 @@ use Rattle.sql_rules_check.proofs.clauses.clauses.Goals as goal
 
 pub returns : goal.returns
 returns c =
-    let both = fold_over _ (λ k. k.now) _
+    let both = fold_over (YieldsFirstBy (λ k. k.now) (kinds_left all_passed)) (λ k. k.now) _
     (λ ks p. (p.groups ≡ list_any is_group ks) × (p.having ≡ list_any is_having ks)) _
     (λ ks a x b q held k.
     let groups : b.groups ≡ (a.groups || is_group x.now) = search (rules, tests) in
@@ -21,7 +22,7 @@ returns c =
       ),
       search (rules, tests),
     ))
-    _ _ _ _ (YieldsList-from_first {s = c.new.result} (λ k. k.now) (kinds_left all_passed) _ c.new.ensures).runs (refl, refl)
+    c.new.result _ _ _ (YieldsList-from_first (λ k. k.now) (kinds_left all_passed) {s = c.new.result} _ c.new.ensures).runs (refl, refl)
     c.fold.ensures.ran in
     record {
       groups = both.0 ∙ groups-over c.args.end c.args.from c.args.nodes.now;

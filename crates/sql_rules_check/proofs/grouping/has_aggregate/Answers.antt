@@ -7,5 +7,5 @@ use Rattle.sql_rules_check.proofs.grouping.has_aggregate.Goals as goal
 
 pub returns : goal.returns
 returns c =
-    any_from_yields_List is_aggregate _ _ _ c.any.ensures.ran
-    (YieldsList-from_first {s = c.new.result} (λ k. k.now) (kinds_left own_passed) _ c.new.ensures) (λ x b q k. search (rules, tests))
+    any_from_yields_List is_aggregate c.any.new.self _ _ c.any.ensures.ran
+    (YieldsList-from_first (λ k. k.now) (kinds_left own_passed) {s = c.new.result} _ c.new.ensures) (λ x b q k. search (rules, tests))

@@ -10,7 +10,7 @@ use Rattle.sql_rules_check.proofs.grouping.holds.Goals as goal
 
 pub returns : goal.returns
 returns c =
-    any_from_yields_List (λ k. holds_column (field_at k) (origin_of c.args.origin) c.args.name.now) _ _ _
-    c.any.ensures.ran (YieldsList-from_first {s = c.new.result} (λ k. k.now) (kinds_left field_passed) _ c.new.ensures)
+    any_from_yields_List (λ k. holds_column (field_at k) (origin_of c.args.origin) c.args.name.now) c.any.new.self _ _
+    c.any.ensures.ran (YieldsList-from_first (λ k. k.now) (kinds_left field_passed) {s = c.new.result} _ c.new.ensures)
     (λ x b q k. search (rules, tests))
     ∙ holds-over c.args.group.end c.args.group.start c.args.nodes.now (origin_of c.args.origin) c.args.name.now
