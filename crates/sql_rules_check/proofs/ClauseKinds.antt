@@ -1,5 +1,5 @@
 -- Incompatible, by a test of select statements and the clauses that they have.
-use Rattle.std.proofs.Common.{◌≡◌, ℕ, suc, ◌+◌, List, [], ◌∷◌, ◌++◌, drop, Bool, true, false, not, ◌&&◌, ◌||◌, inl, inr, refl, sym, ap, ◌∙◌}
+use Rattle.std.proofs.Common.{◌≡◌, ℕ, suc, ◌+◌, List, [], ◌∷◌, ◌++◌, Bool, true, false, not, ◌&&◌, ◌||◌, inl, inr, refl, sym, ap, ◌∙◌}
 use Rattle.std.specs.Prelude.{IsTrue}
 use Rattle.std.specs.Bool.{Decides}
 use Rattle.std.specs.List.{flat_map, list_any}
@@ -21,8 +21,9 @@ use Rattle.sql_flat.specs.declared.kind.FlatKind.{FlatKind}
 use Rattle.sql_flat.specs.declared.kind.FlatKind.TheVariants as K
 use Rattle.sql_flat.specs.declared.kind.FlatNode.{FlatNode}
 use Rattle.sql_flat.specs.declared.kind.Selecting.{Selecting}
-use Rattle.sql_rules_check.specs.inside.Ahead.{any_ahead, gathered_from, kinds_from}
-use Rattle.sql_rules_check.specs.inside.Clauses.{all_passed, clash, clash_in, clause_at, clauses_in, has_lock, incompatible, incompatible_at, incompatible_by, is_distinct, is_group, is_having}
+use Rattle.sql_rules_check.specs.inside.Ahead.{any_ahead, gathered_from}
+use Rattle.sql_rules_check.specs.inside.Clauses.{clash, clash_in, clause_at, clauses_in, has_lock, incompatible, incompatible_at, incompatible_by, is_distinct, is_group, is_having}
+use Rattle.sql_rules_check.specs.inside.Kids.{all_passed, nodes_from}
 use Rattle.sql_rules_check.specs.inside.Known.{Known}
 use Rattle.sql_rules_check.specs.inside.Views.{Views}
 use Rattle.sql_rules_check.proofs.Absent.{Never, NoClause, NoCombination, NoExpr, NoSource, no-any-expr, no-from, no-order, no-positions}
@@ -43,30 +44,30 @@ one-having K.GroupBy = refl
 one-having K.Having = refl
 one-having _ = refl
 
-module _ (p : FlatKind → Bool) where
-  pub any-more : (ks : List FlatKind) (k : FlatKind) → (list_any p ks || p k) ≡ list_any p (ks ++ k ∷ [])
-  any-more ks k =
-      sym (list_any-append p ks (k ∷ []) ∙ ap (λ b. list_any p ks || b) (or-false (p k)))
+pub any-more : {X : Type 0} (p : X → Bool) (xs : List X) (x : X) → (list_any p xs || p x) ≡ list_any p (xs ++ x ∷ [])
+any-more p xs x = sym (list_any-append p xs (x ∷ []) ∙ ap (λ b. list_any p xs || b) (or-false (p x)))
 
-  module _ (one : (k : FlatKind) → list_any p (clause_at k) ≡ p k) where
-    flat : (ks : List FlatKind) → list_any p ks ≡ list_any p (flat_map clause_at ks)
-    flat [] = refl
-    flat (k ∷ ks) =
-        (λ i. sym (one k) i || flat ks i) ∙ sym (list_any-append p (clause_at k) (flat_map clause_at ks))
+module _ (p : FlatKind → Bool) (one : (k : FlatKind) → list_any p (clause_at k) ≡ p k) where
+  flat : (cs : List (ℕ × FlatNode))
+      → list_any (λ c. p c.1.kind) cs ≡ list_any p (flat_map (λ c. clause_at c.1.kind) cs)
+  flat [] = refl
+  flat (c ∷ cs) =
+      (λ i. sym (one c.1.kind) i || flat cs i)
+      ∙ sym (list_any-append p (clause_at c.1.kind) (flat_map (λ c. clause_at c.1.kind) cs))
 
-    over : (e i : ℕ) (nodes : List FlatNode)
-        → list_any p (kinds_from all_passed e i nodes) ≡ list_any p (gathered_from clause_at all_passed e i nodes)
-    over e i nodes =
-        flat (kinds_from all_passed e i nodes)
-        ∙ sym (ap (list_any p) (gathered-over clause_at all_passed e i i (drop i nodes)))
+  over : (e i : ℕ) (nodes : List FlatNode)
+      → list_any (λ c. p c.1.kind) (nodes_from all_passed e i nodes)
+      ≡ list_any p (gathered_from clause_at all_passed e i nodes)
+  over e i nodes =
+      flat (nodes_from all_passed e i nodes) ∙ ap (list_any p) (gathered-over clause_at all_passed e i nodes)
 
 pub groups-over : (e i : ℕ) (nodes : List FlatNode)
-    → list_any is_group (kinds_from all_passed e i nodes)
+    → list_any (λ c. is_group c.1.kind) (nodes_from all_passed e i nodes)
     ≡ list_any is_group (gathered_from clause_at all_passed e i nodes)
 groups-over = over is_group one-group
 
 pub havings-over : (e i : ℕ) (nodes : List FlatNode)
-    → list_any is_having (kinds_from all_passed e i nodes)
+    → list_any (λ c. is_having c.1.kind) (nodes_from all_passed e i nodes)
     ≡ list_any is_having (gathered_from clause_at all_passed e i nodes)
 havings-over = over is_having one-having
 

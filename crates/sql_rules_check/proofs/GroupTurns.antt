@@ -1,6 +1,6 @@
 -- What the loops over a select statement's clauses give, and over the nodes of one.
-use Rattle.std.proofs.Common.{◌≡◌, ℕ, suc, ◌+◌, ◌||◌, Bool, cond, List, [], ◌∷◌, ◌++◌, Option, Some, option_map, map, drop, refl, sym, ap, ◌∙◌}
-use Rattle.std.specs.List.{find, flat_map, list_any}
+use Rattle.std.proofs.Common.{◌≡◌, ℕ, suc, ◌+◌, ◌||◌, Bool, List, [], ◌∷◌, ◌++◌, Option, Some, option_map, map, drop, refl, sym, ap, ◌∙◌}
+use Rattle.std.specs.List.{flat_map, list_any}
 use Rattle.std.proofs.lemmas.List.Folds.{list_any-append}
 use Rattle.sql_flat_law.specs.Rose.{Roses, node, sizes, flats}
 use Rattle.sql_flat_law.specs.Forward.{gather}
@@ -12,13 +12,11 @@ use Rattle.sql_flat.specs.Flat.{flat_node}
 use Rattle.sql_flat.specs.declared.kind.FlatKind.{FlatKind}
 use Rattle.sql_flat.specs.declared.kind.FlatKind.TheVariants as K
 use Rattle.sql_flat.specs.declared.kind.FlatNode.{FlatNode}
-use Rattle.sql_rules_check.specs.inside.Ahead.{itself, kinds_from}
-use Rattle.sql_rules_check.specs.inside.Clauses.{is_group}
-use Rattle.sql_rules_check.specs.inside.Grouping.{Piece, Sums, adding, all_give, field_at, field_passed, fields_from, group_in, group_or, kind_gives, misgrouped, misgrouped_at, misgrouped_by, own_at, own_from, own_passed, piece_at, piece_of, summed}
-use Rattle.sql_rules_check.specs.inside.Kids.{children_from, kids_from}
+use Rattle.sql_rules_check.specs.inside.Grouping.{Piece, Sums, adding, all_give, field_at, field_passed, fields_from, group_in, group_or, is_aggregate, kind_gives, misgrouped, misgrouped_at, misgrouped_by, own_at, own_from, own_passed, piece_at, piece_of, summed}
+use Rattle.sql_rules_check.specs.inside.Kids.{all_passed, kids_from, nodes_from}
 use Rattle.sql_rules_check.specs.inside.Lists.{kind_of, end_of}
 use Rattle.sql_rules_check.proofs.Ahead.{behind-kids, gathered-over}
-use Rattle.sql_rules_check.proofs.Kids.{kids-below, kids-over}
+use Rattle.sql_rules_check.proofs.Kids.{kids-below, met-over}
 
 pub mix-unit : (a : v.Verdict) → mix a v.Never ≡ a
 mix-unit v.No = refl
@@ -57,12 +55,16 @@ other-group _ fs rest other = refl
 
 -- ---- what the loops over the nodes of a list give
 
--- of one more node, and of one more clause
-pub give-more : (g : Option (List Field)) (ks : List FlatKind) (k : FlatKind)
-    → mix (all_give g ks) (kind_gives g k) ≡ all_give g (ks ++ k ∷ [])
-give-more g [] k = sym (mix-unit (kind_gives g k))
-give-more g (l ∷ ks) k =
-    mix-mix (kind_gives g l) (all_give g ks) (kind_gives g k) ∙ ap (mix (kind_gives g l)) (give-more g ks k)
+abbrev pub kinds_of : List (ℕ × FlatNode) → List FlatKind
+kinds_of = map (λ c. c.1.kind)
+
+-- of one more node
+pub give-more : (g : Option (List Field)) (cs : List (ℕ × FlatNode)) (c : ℕ × FlatNode)
+    → mix (all_give g (kinds_of cs)) (kind_gives g c.1.kind) ≡ all_give g (kinds_of (cs ++ c ∷ []))
+give-more g [] c = sym (mix-unit (kind_gives g c.1.kind))
+give-more g (d ∷ cs) c =
+    mix-mix (kind_gives g d.1.kind) (all_give g (kinds_of cs)) (kind_gives g c.1.kind)
+    ∙ ap (mix (kind_gives g d.1.kind)) (give-more g cs c)
 
 any-flat : {X Y : Type 0} (test : Y → Bool) (f : X → List Y) (xs : List X)
     → list_any (λ x. list_any test (f x)) xs ≡ list_any test (flat_map f xs)
@@ -74,24 +76,39 @@ any-flat test f (x ∷ xs) =
 abbrev pub piece_in : List FlatNode → ℕ × FlatNode → Piece
 piece_in nodes c = record { kind = c.1.kind; own = own_from c.1.end c.0 nodes; fields = fields_from c.1.end c.0 nodes }
 
+singly : (cs : List (ℕ × FlatNode)) → kinds_of cs ≡ flat_map (λ c. own_at c.1.kind) cs
+singly [] = refl
+singly (c ∷ cs) = ap (λ ks. c.1.kind ∷ ks) (singly cs)
+
+any-kind : (cs : List (ℕ × FlatNode)) → list_any (λ c. is_aggregate c.1.kind) cs ≡ list_any is_aggregate (kinds_of cs)
+any-kind [] = refl
+any-kind (c ∷ cs) = ap (λ b. is_aggregate c.1.kind || b) (any-kind cs)
+
 module _ (e p : ℕ) (nodes : List FlatNode) where
+  pub own-over : kinds_of (nodes_from own_passed e p nodes) ≡ own_from e p nodes
+  own-over = singly (nodes_from own_passed e p nodes) ∙ gathered-over own_at own_passed e p nodes
+
+  pub aggregates-over : list_any (λ c. is_aggregate c.1.kind) (nodes_from own_passed e p nodes)
+      ≡ list_any is_aggregate (own_from e p nodes)
+  aggregates-over = any-kind (nodes_from own_passed e p nodes) ∙ ap (list_any is_aggregate) own-over
+
   pub holds-over : (o : Origin) (name : List ℕ)
-      → list_any (λ k. holds_column (field_at k) o name) (kinds_from field_passed e p nodes)
+      → list_any (λ c. holds_column (field_at c.1.kind) o name) (nodes_from field_passed e p nodes)
       ≡ holds_column (fields_from e p nodes) o name
   holds-over o name =
-      any-flat _ field_at (kinds_from field_passed e p nodes)
-      ∙ sym (ap (λ fs. holds_column fs o name) (gathered-over field_at field_passed e p p (drop p nodes)))
+      any-flat _ (λ c. field_at c.1.kind) (nodes_from field_passed e p nodes)
+      ∙ ap (λ fs. holds_column fs o name) (gathered-over field_at field_passed e p nodes)
 
   abbrev piece_over : ℕ → FlatNode → List FlatNode → Piece
   piece_over i x l = record {
     kind = x.kind;
-    own = gather kind_of end_of itself own_passed x.end i i l;
+    own = gather kind_of end_of own_at own_passed x.end i i l;
     fields = gather kind_of end_of field_at field_passed x.end i i l;
   }
 
-  pub pieces-over : map (piece_in nodes) (children_from e p nodes) ≡ kids_from piece_at e p nodes
+  pub pieces-over : map (piece_in nodes) (nodes_from all_passed e p nodes) ≡ kids_from piece_at e p nodes
   pieces-over =
-      sym (kids-over piece_at nodes (λ i x. piece_in nodes (i, x)) (λ i x xs h g. ap (piece_over i x) h) e p p (drop p nodes) refl)
+      sym (met-over all_passed piece_at nodes (λ i x. piece_in nodes (i, x)) (λ i x xs h. ap (piece_over i x) h) e p p (drop p nodes) refl)
 
 module _ (nodes : List FlatNode) (cs ds : List (ℕ × FlatNode)) (c : ℕ × FlatNode) (is : cs ≡ c ∷ ds) where
   -- after a clause that is no GROUP BY

@@ -8,7 +8,7 @@ use Rattle.sql_flat_law.specs.Seen.{seen}
 use Rattle.sql_flat_law.proofs.Opening.{last-opens, opens-push, seen-open}
 use Rattle.sql_flat.specs.Flat.{flat_node}
 use Rattle.sql_rules.specs.Scope.{View}
-use Rattle.sql_rules_check.specs.inside.Ahead.{kinds_from}
+use Rattle.sql_rules_check.specs.inside.Kids.{nodes_from}
 use Rattle.sql_rules_check.specs.inside.Sites.{of_select}
 use Rattle.sql_rules_check.specs.inside.Lists.{kind_of, end_of}
 use Rattle.sql_rules_check.specs.inside.Views.{Views, leaf_at, is_passed, keeps}
@@ -19,15 +19,18 @@ use Rattle.sql_rules_check.proofs.Ahead.{gathered-over}
 use Rattle.sql_rules_check.specs.declared.scope.Known.{Known}
 use Rattle.sql_flat.specs.declared.kind.FlatNode.{FlatNode}
 
-pub leaves-over : (e p : ℕ) (nodes : List FlatNode)
-    → flat_map leaf_at (kinds_from is_passed e p nodes) ≡ leaves_from e p nodes
-leaves-over e p nodes = sym (gathered-over leaf_at is_passed e p p (drop p nodes))
+abbrev leaves_of : List (ℕ × FlatNode) → View
+leaves_of = flat_map (λ c. leaf_at c.1.kind)
 
-pub leaves-more : (own new all : View) (ks ls : List FlatKind) (k : FlatKind) → ks ≡ k ∷ ls → new ≡ own ++ leaf_at k
-    → own ++ flat_map leaf_at ks ≡ all → new ++ flat_map leaf_at ls ≡ all
-leaves-more own new all ks ls k is more held =
-    ap (λ v. v ++ flat_map leaf_at ls) more ∙ append_assoc own (leaf_at k) (flat_map leaf_at ls)
-    ∙ ap (λ l. own ++ flat_map leaf_at l) (sym is) ∙ held
+pub leaves-over : (e p : ℕ) (nodes : List FlatNode)
+    → leaves_of (nodes_from is_passed e p nodes) ≡ leaves_from e p nodes
+leaves-over = gathered-over leaf_at is_passed
+
+pub leaves-more : (own new all : View) (cs ds : List (ℕ × FlatNode)) (c : ℕ × FlatNode) → cs ≡ c ∷ ds
+    → new ≡ own ++ leaf_at c.1.kind → own ++ leaves_of cs ≡ all → new ++ leaves_of ds ≡ all
+leaves-more own new all cs ds c is more held =
+    ap (λ v. v ++ leaves_of ds) more ∙ append_assoc own (leaf_at c.1.kind) (leaves_of ds)
+    ∙ ap (λ l. own ++ leaves_of l) (sym is) ∙ held
 
 -- ---- the stack of open nodes
 

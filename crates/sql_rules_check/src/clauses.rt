@@ -12,9 +12,10 @@ ghost use Rattle.sql_rules.specs.Rules.{Broken, misuse as misused};
 ghost use Rattle.sql_rules.specs.declared.rule.Rule.TheVariants as rule;
 ghost use Rattle.sql_flat.specs.Flat.{flat_of};
 ghost use Rattle.sql_rules_check.specs.inside.Ahead.{any_ahead, gathered_from};
-ghost use Rattle.sql_rules_check.specs.inside.Clauses.{all_passed, clash as clauses_clash, clause_at, has_lock as form_locked, incompatible_at, is_distinct as unique_distinct, is_group as groups_by, is_having as has_having};
+ghost use Rattle.sql_rules_check.specs.inside.Clauses.{clash as clauses_clash, clause_at, has_lock as form_locked, incompatible_at, is_distinct as unique_distinct, is_group as groups_by, is_having as has_having};
+ghost use Rattle.sql_rules_check.specs.inside.Kids.{all_passed};
 
-use crate::walk::{Passing, Walk};
+use crate::walk::{All, Walk};
 use sql_flat::{Flat, FlatKind, FlatNode, Form, Selecting, Uniqueness};
 use sql_leaf::{LockingClause, Marks};
 
@@ -55,17 +56,6 @@ impl Present {
     }
 }
 
-/// Over all nodes, from child to child.
-struct Children;
-
-impl Passing for Children {
-    ghost passed = { all_passed };
-
-    fn is_passed(_kind: &FlatKind) -> bool {
-        true
-    }
-}
-
 /// The clauses from one index to another.
 fn clauses(nodes: &[FlatNode], from: usize, end: usize) -> Present
     ensures groups { result.groups
@@ -77,7 +67,7 @@ fn clauses(nodes: &[FlatNode], from: usize, end: usize) -> Present
         groups: false,
         having: false,
     };
-    Walk::<Children>::new(nodes, from, end).fold(nothing, |present, kind| present.noting(kind))
+    Walk::<All>::new(nodes, from, end).fold(nothing, |present, (_, node)| present.noting(&node.kind))
 }
 
 fn has_lock(form: Form) -> bool

@@ -31,7 +31,7 @@ ghost use Rattle.sql_rules_check.specs.inside.Grouping.{adding as added, all_giv
 ghost use Rattle.sql_rules_check.specs.inside.Kids.{kids_from};
 
 use crate::names::origin_under;
-use crate::walk::{Children, Passing, Walk};
+use crate::walk::{All, Passing, Walk};
 use sql_flat::{Flat, FlatKind, FlatNode, Form, Selecting};
 use sql_origin::Origin;
 use sql_schema::Column;
@@ -127,7 +127,7 @@ fn is_aggregate(kind: &FlatKind) -> bool
 fn has_aggregate(nodes: &[FlatNode], from: usize, end: usize) -> bool
     ensures { result ≡ list_any aggregates (own_from end from nodes.now) }
 {
-    Walk::<Own>::new(nodes, from, end).any(|kind| is_aggregate(kind))
+    Walk::<Own>::new(nodes, from, end).any(|(_, node)| is_aggregate(&node.kind))
 }
 
 /// Whether it is the column of that name. Names are compared first: whole tables, only where they agree.
@@ -148,7 +148,8 @@ fn holds(nodes: &[FlatNode], group: Group, origin: Origin<'_>, name: &str) -> bo
         ≡ holds_column (fields_from group.end group.start nodes.now) (origin_of origin.entry)
         name.now }
 {
-    Walk::<Fields>::new(nodes, group.start, group.end).any(|kind| is_field(kind, origin, name))
+    Walk::<Fields>::new(nodes, group.start, group.end)
+        .any(|(_, node)| is_field(&node.kind, origin, name))
 }
 
 fn holds_key(nodes: &[FlatNode], group: Group, origin: Origin<'_>) -> bool
@@ -197,8 +198,8 @@ fn kind_verdict(nodes: &[FlatNode], group: Option<Group>, kind: &FlatKind) -> Ve
 fn own_verdict(nodes: &[FlatNode], group: Option<Group>, from: usize, end: usize) -> Verdict
     ensures { verdict_of result ≡ all_give (fields_by nodes.now group) (own_from end from nodes.now) }
 {
-    Walk::<Own>::new(nodes, from, end).fold(Verdict::Never, |all, kind| {
-        mix(all, kind_verdict(nodes, group, kind))
+    Walk::<Own>::new(nodes, from, end).fold(Verdict::Never, |all, (_, node)| {
+        mix(all, kind_verdict(nodes, group, &node.kind))
     })
 }
 
@@ -206,7 +207,7 @@ fn own_verdict(nodes: &[FlatNode], group: Option<Group>, from: usize, end: usize
 fn find_group(nodes: &[FlatNode], from: usize, end: usize) -> Option<Group>
     ensures { fields_by nodes.now result ≡ group_in (kids_from piece_at end from nodes.now) }
 {
-    for (start, node) in Children::new(nodes, from, end) {
+    for (start, node) in Walk::<All>::new(nodes, from, end) {
         if let FlatKind::GroupBy = &node.kind {
             return Some(Group {
                 start,
@@ -258,7 +259,7 @@ fn clause_sums(nodes: &[FlatNode], group: Option<Group>, from: usize, end: usize
         ordered: Verdict::Never,
         aggregate: false,
     };
-    for (index, node) in Children::new(nodes, from, end) {
+    for (index, node) in Walk::<All>::new(nodes, from, end) {
         all = all.adding(nodes, group, index, node);
     }
     all

@@ -68,8 +68,8 @@ fn leaves<'s>(
     ensures { IfOk result (λ v. map origin_of v.items ≡ leaves_from end from nodes.now) }
 {
     let mut all = Vec::new(alloc);
-    for kind in Walk::<Sources>::new(nodes, from, end) {
-        add_leaf(kind, &mut all)?;
+    for (_, node) in Walk::<Sources>::new(nodes, from, end) {
+        add_leaf(&node.kind, &mut all)?;
     }
     Ok(all)
 }
