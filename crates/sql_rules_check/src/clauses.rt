@@ -67,7 +67,10 @@ fn clauses(nodes: &[FlatNode], from: usize, end: usize) -> Present
         groups: false,
         having: false,
     };
-    Walk::<All>::new(nodes, from, end).fold(nothing, |present, (_, node)| present.noting(&node.kind))
+    Walk::<All>::new(nodes, from, end).fold(
+        nothing,
+        |present, (_, node)| present.noting(&node.kind),
+    )
 }
 
 fn has_lock(form: Form) -> bool

@@ -148,8 +148,9 @@ fn holds(nodes: &[FlatNode], group: Group, origin: Origin<'_>, name: &str) -> bo
         ≡ holds_column (fields_from group.end group.start nodes.now) (origin_of origin.entry)
         name.now }
 {
-    Walk::<Fields>::new(nodes, group.start, group.end)
-        .any(|(_, node)| is_field(&node.kind, origin, name))
+    Walk::<Fields>::new(nodes, group.start, group.end).any(|(_, node)| is_field(
+        &node.kind, origin, name,
+    ))
 }
 
 fn holds_key(nodes: &[FlatNode], group: Group, origin: Origin<'_>) -> bool

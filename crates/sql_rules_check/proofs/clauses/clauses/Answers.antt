@@ -14,8 +14,7 @@ returns c =
     (λ ds p. (p.groups ≡ list_any (λ d. is_group d.1.kind) ds) × (p.having ≡ list_any (λ d. is_having d.1.kind) ds)) _
     (λ ds a x b q held k.
     let groups : b.groups ≡ (a.groups || is_group x.1.now.kind) = search (rules, tests) in
-    let having : b.having ≡ (a.having || is_having x.1.now.kind) = search (rules, tests) in
-    (
+    let having : b.having ≡ (a.having || is_having x.1.now.kind) = search (rules, tests) in (
       (
         groups ∙ ap (λ v. v || is_group x.1.now.kind) held.0 ∙ any-more (λ d. is_group d.1.kind) ds (node_of x),
         having ∙ ap (λ v. v || is_having x.1.now.kind) held.1 ∙ any-more (λ d. is_having d.1.kind) ds (node_of x),
