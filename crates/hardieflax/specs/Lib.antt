@@ -141,6 +141,7 @@ pub use Rattle.sql_rows.specs.Entries
 pub use Rattle.sql_rows.specs.declared.cache.RequestKey
 -- What statements answer.
 pub use Rattle.sql_rows_meaning.specs.Answers
+pub use Rattle.sql_rows_meaning.specs.Beside as CountedBeside
 pub use Rattle.sql_rows_meaning.specs.Counted as CountedAnswers
 pub use Rattle.sql_rows_meaning.specs.Example as AnswerExample
 pub use Rattle.sql_rows_meaning.specs.Fitting as AnswerFitting

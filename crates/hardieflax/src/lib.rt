@@ -88,10 +88,10 @@ pub use sql_check::{
 // `compile` with column types that are right for NULL, a cache of its answers, and what statements answer.
 pub use sql_rows::{
     RequestKey, StatementCache, accepted_statements_have_answers, answered_pairs_come_first,
-    calls_are_answered_alone, compile_sound, compile_sound_by, equal_ids,
-    first_by_the_order_is_left, first_is_any, last_writer_is_an_answer, left_join_has_two_answers,
-    needs_nullable_is_needed, one_answer, operators_work, posts_are_counted,
-    the_example_is_accepted, types_are_sound, ungrouped_answers_are_the_same,
+    calls_are_answered_alone, compile_sound, compile_sound_by, counting_beside_is_no_promise,
+    equal_ids, first_by_the_order_is_left, first_is_any, last_writer_is_an_answer,
+    left_join_has_two_answers, needs_nullable_is_needed, one_answer, operators_work,
+    posts_are_counted, the_example_is_accepted, types_are_sound, ungrouped_answers_are_the_same,
 };
 
 // The tenant guard.

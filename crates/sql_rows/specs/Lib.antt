@@ -4,6 +4,7 @@ pub mod Entries
 pub mod inside
 -- What statements mean: `Rattle.sql_rows.specs.Fitting.{AnswersFit}` is that of `sql_rows_meaning`.
 pub use Rattle.sql_rows_meaning.specs.Answers
+pub use Rattle.sql_rows_meaning.specs.Beside
 pub use Rattle.sql_rows_meaning.specs.Counted
 pub use Rattle.sql_rows_meaning.specs.Example
 pub use Rattle.sql_rows_meaning.specs.Fitting

@@ -12,6 +12,7 @@ ghost use Rattle.sql_node.specs.Tree.{Statement};
 ghost use Rattle.sql_rules.specs.Rules.{Accepted};
 ghost use Rattle.sql_rules.specs.Types.{columns};
 ghost use Rattle.sql_rows_meaning.specs.Answers.{Answers};
+ghost use Rattle.sql_rows_meaning.specs.Beside.{ExceptionIsNeeded};
 ghost use Rattle.sql_rows_meaning.specs.Counted.{IsCounted};
 ghost use Rattle.sql_rows_meaning.specs.Example.{HasTwoAnswers};
 ghost use Rattle.sql_rows_meaning.specs.Fitting.{AnswersFit};
@@ -43,6 +44,12 @@ pub fn the_example_is_accepted()
 /// not fit.
 pub fn needs_nullable_is_needed()
     ensures { RuleIsNeeded }
+{}
+
+/// What counts beside its columns has to be left out: here is a boxed statement that breaks no rule and counts in its order alone,
+/// `SELECT "users"."id" FROM "users" ORDER BY COUNT(*)`, and over empty tables it answers a NULL that does not fit.
+pub fn counting_beside_is_no_promise()
+    ensures { ExceptionIsNeeded }
 {}
 
 /// The last of the users who have a post is an answer: a condition on a subselect that sees the outer row, an order and a limit.
