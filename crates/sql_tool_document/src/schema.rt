@@ -1,9 +1,9 @@
-ghost use Rattle.std.specs.Prelude.{◌≡◌, ◌++◌, OnOk, IfOk, option_map};
+ghost use Rattle.std.specs.Prelude.{◌≡◌, ◌++◌, OnOk, IfOk, option_map, take};
 ghost use Rattle.serde_json.specs.Find.{as_str};
 ghost use Rattle.sql_tool_document.specs.inside.Seen.{seen};
 ghost use Rattle.sql_tool_document.specs.Members.{if_any};
 ghost use Rattle.sql_tool_document.specs.Giving.{Gives};
-ghost use Rattle.sql_tool_document.specs.Schemas.{key_of, column_of, table_of, joinable_of, names_of, sound, schema_of};
+ghost use Rattle.sql_tool_document.specs.Schemas.{key_of, column_of, table_of, joinable_of, names_of, sound, schema_of, refusal_of};
 
 use crate::each::{Decode, decode_each, decode_if_any};
 use crate::look::{as_array, get};
@@ -188,4 +188,43 @@ pub(crate) fn schema(alloc: Global, value: &Value<'_>) -> Result<Schema, Refusal
     let together: Vec<(SqlText, SqlText)> = decode_if_any(alloc, get(value, "together"))?;
     let builder = declared(alloc, tables, &joinables, &together)?;
     build(builder)
+}
+
+/// How many of a schema's tables, relations and pairs are looked at.
+#[derive(Debug, Clone, Copy, PartialEq, Eq)]
+pub struct Counts {
+    pub tables: usize,
+    pub joinables: usize,
+    pub together: usize,
+}
+
+/// The first so many items, or all where there are fewer.
+fn first<T: Drop>(items: Vec<T>, count: usize) -> Vec<T>
+    ensures { result.items ≡ take count items.items }
+{
+    let mut items = items;
+    items.truncate(count);
+    items
+}
+
+/// Why the first of the declarations make no schema, where they make none.
+pub fn refusal_up_to(
+    alloc: Global,
+    value: &Value<'_>,
+    counts: Counts,
+) -> Result<Option<SchemaError>, Refusal>
+    ensures { Gives (λ o. o) result (refusal_of counts (seen value.now)) }
+{
+    let tables = items(value, "tables").ok_or(Refusal::NotADocument)?;
+    let tables = first(decode_each(alloc, tables)?, counts.tables);
+    let joinables: Vec<JoinableDecl> = decode_if_any(alloc, get(value, "joinable"))?;
+    let joinables = first(joinables, counts.joinables);
+    let together: Vec<(SqlText, SqlText)> = decode_if_any(alloc, get(value, "together"))?;
+    let together = first(together, counts.together);
+    let builder = declared(alloc, tables, &joinables, &together)?;
+    match builder.build() {
+        Ok(_) => Ok(None),
+        Err(SchemaError::NoMemory) => Err(Refusal::NoMemory),
+        Err(error) => Ok(Some(error)),
+    }
 }

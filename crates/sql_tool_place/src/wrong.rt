@@ -1,0 +1,147 @@
+ghost use Rattle.std.specs.Prelude.{◌≡◌, IfOk, MatchOption, true};
+ghost use Rattle.sql_tool_document.specs.Wanted.{has_form as has_wanted_form};
+ghost use Rattle.sql_tool_document.specs.inside.Seen.{seen};
+ghost use Rattle.sql_tool_place.specs.Places.{IsWrongAt};
+ghost use Rattle.sql_tool_place.specs.Steps.{steps_of};
+
+use crate::clash::clash;
+use crate::part::{Part, parts};
+use crate::step::Step;
+use json::Value;
+use sql_schema::SchemaError;
+use sql_tool_document::{Wanted, has_form};
+use std::alloc::{AllocError, Global};
+
+/// A value that is wrong at its place.
+#[derive(Drop)]
+pub struct Wrong<'v, 'a> {
+    pub steps: Vec<Step<'a>>,
+    pub wanted: Wanted,
+    pub value: &'v Value<'a>,
+    /// Why the declarations up to this one make no schema, where each has its form.
+    pub refusal: Option<SchemaError>,
+}
+
+/// More steps than any place is deep.
+const DEEPEST: u32 = 256;
+
+/// The first part that has not the form that is wanted of it.
+fn first_wrong<'v, 'a>(
+    alloc: Global,
+    wanted: Wanted,
+    value: &'v Value<'a>,
+) -> Result<Option<Part<'v, 'a>>, AllocError> {
+    for part in parts(alloc, wanted, value)? {
+        if !has_form(alloc, part.wanted, part.value)? {
+            return Ok(Some(part));
+        }
+    }
+    Ok(None)
+}
+
+/// The place of the first value that is wrong while all its parts are right: it has not the form that is wanted there, and each of its parts
+/// has the form that is wanted of it. None where the whole has its form.
+pub fn wrong_place<'v, 'a>(
+    alloc: Global,
+    wanted: Wanted,
+    value: &'v Value<'a>,
+) -> Result<Option<Wrong<'v, 'a>>, AllocError>
+    ensures { IfOk result (λ o. MatchOption o (has_wanted_form wanted (seen value.now) ≡ true)
+        (λ w. IsWrongAt wanted (seen value.now) (steps_of w.steps.items))) }
+{
+    if has_form(alloc, wanted, value)? {
+        return Ok(None);
+    }
+    let mut wrong = Wrong {
+        steps: Vec::new(alloc),
+        wanted,
+        value,
+        refusal: None,
+    };
+    for _ in 0..DEEPEST {
+        match first_wrong(alloc, wrong.wanted, wrong.value)? {
+            Some(part) => {
+                wrong.steps.push(part.step)?;
+                wrong.wanted = part.wanted;
+                wrong.value = part.value;
+            }
+            None => break,
+        }
+    }
+    if wrong.wanted == Wanted::Schema {
+        return Ok(Some(clash(alloc, wrong)?));
+    }
+    Ok(Some(wrong))
+}
+
+/// Whether a number's text writes a whole number of 64 bits, with a sign or without.
+fn is_whole(value: &Value<'_>) -> bool {
+    match value {
+        Value::Number(_) => value.as_i64().is_some() || value.as_u64().is_some(),
+        _ => true,
+    }
+}
+
+/// Whether no member after it has the key: of a key that comes again the last value counts.
+fn is_last(after: &[(&str, Value<'_>)], key: &str) -> bool {
+    !after.iter().any(|member| member.0 == key)
+}
+
+/// Looks for a number that is not whole, in the values that count.
+#[cycle(fraction)]
+fn find_fraction<'v, 'a>(
+    alloc: Global,
+    value: &'v Value<'a>,
+    steps: &mut Vec<Step<'a>>,
+    depth: u32,
+) -> Result<Option<&'v Value<'a>>, AllocError> {
+    if depth == 0 {
+        return Ok(None);
+    }
+    if !is_whole(value) {
+        return Ok(Some(value));
+    }
+    let length = steps.len();
+    match value {
+        Value::Array(items) => {
+            for (index, item) in items.iter().enumerate() {
+                steps.push(Step::Index(index))?;
+                let found = find_fraction(alloc, item, steps, depth - 1)?;
+                if found.is_some() {
+                    return Ok(found);
+                }
+                steps.truncate(length);
+            }
+            Ok(None)
+        }
+        Value::Object(members) => {
+            for (index, (key, member)) in members.iter().enumerate() {
+                steps.push(Step::Key(*key))?;
+                let found = find_fraction(alloc, member, steps, depth - 1)?;
+                if found.is_some() && is_last(&members[index + 1..], *key) {
+                    return Ok(found);
+                }
+                steps.truncate(length);
+            }
+            Ok(None)
+        }
+        _ => Ok(None),
+    }
+}
+
+/// The place of the first number that is not whole or has more than 64 bits, where there is one.
+pub fn fraction<'v, 'a>(
+    alloc: Global,
+    value: &'v Value<'a>,
+) -> Result<Option<Wrong<'v, 'a>>, AllocError> {
+    let mut steps = Vec::new(alloc);
+    match find_fraction(alloc, value, &mut steps, DEEPEST)? {
+        None => Ok(None),
+        Some(value) => Ok(Some(Wrong {
+            steps,
+            wanted: Wanted::Number,
+            value,
+            refusal: None,
+        })),
+    }
+}
