@@ -4,6 +4,8 @@ pub mod Documents
 pub mod Guards
 pub mod Texts
 pub mod Trees
+-- What is wanted at the places of a document.
+pub mod Wanted
 pub mod Schemas
 pub mod Queries
 pub mod Scalar

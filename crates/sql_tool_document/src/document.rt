@@ -8,7 +8,7 @@ ghost use Rattle.sql_tool_document.specs.inside.Seen.{seen, items_seen};
 use crate::look::get;
 use crate::member::{items, text};
 use crate::names::dialect;
-use crate::query::whole_query;
+use crate::query::read_query;
 use crate::reading::json;
 use crate::refusal::Refusal;
 use crate::schema::schema;
@@ -39,7 +39,7 @@ pub(crate) fn one_request(alloc: Global, value: &Value<'_>) -> Result<Request, R
     let name = text(value, "dialect").ok_or(Refusal::NotADocument)?;
     let dialect = dialect(name).ok_or(Refusal::NotADocument)?;
     let asked = get(value, "query").ok_or(Refusal::NotADocument)?;
-    let query = whole_query(alloc, asked)?;
+    let query = read_query(alloc, asked)?;
     Ok(Request { dialect, query })
 }
 

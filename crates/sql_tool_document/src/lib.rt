@@ -31,7 +31,7 @@ pub use names::{
     binary_operator, clause_call, combination, dialect, dialect_name, direction, join_kind, plain_call,
     quantified_operator, sql_type, type_name, unary_operator,
 };
-pub use query::depth_changes_nothing;
+pub use query::{depth_changes_nothing, read_query};
 pub use reading::parsed;
 pub use refusal::Refusal;
 pub use schema::{Counts, refusal_up_to};

@@ -74,11 +74,27 @@ pub fn wrong_place<'v, 'a>(
     Ok(Some(wrong))
 }
 
-/// Whether a number's text writes a whole number of 64 bits, with a sign or without.
-fn is_whole(value: &Value<'_>) -> bool {
-    match value {
-        Value::Number(_) => value.as_i64().is_some() || value.as_u64().is_some(),
-        _ => true,
+/// Which numbers are looked for.
+#[derive(Debug, Clone, Copy, PartialEq, Eq)]
+enum Number {
+    /// One that is not whole or has more than 64 bits, in the values that count.
+    Fraction,
+    /// One that is too large for any, wherever it stands.
+    TooLarge,
+}
+
+impl Number {
+    fn is_found(self, value: &Value<'_>) -> bool {
+        match (self, value) {
+            (Number::Fraction, Value::Number(digits)) => {
+                *digits == "-0" || (value.as_i64().is_none() && value.as_u64().is_none())
+            }
+            (Number::TooLarge, Value::Number(_)) => match value.as_f64() {
+                Some(float) => !float.is_finite(),
+                None => false,
+            },
+            _ => false,
+        }
     }
 }
 
@@ -87,10 +103,11 @@ fn is_last(after: &[(&str, Value<'_>)], key: &str) -> bool {
     !after.iter().any(|member| member.0 == key)
 }
 
-/// Looks for a number that is not whole, in the values that count.
+/// Looks for such a number.
 #[cycle(fraction)]
-fn find_fraction<'v, 'a>(
+fn find_number<'v, 'a>(
     alloc: Global,
+    number: Number,
     value: &'v Value<'a>,
     steps: &mut Vec<Step<'a>>,
     depth: u32,
@@ -98,7 +115,7 @@ fn find_fraction<'v, 'a>(
     if depth == 0 {
         return Ok(None);
     }
-    if !is_whole(value) {
+    if number.is_found(value) {
         return Ok(Some(value));
     }
     let length = steps.len();
@@ -106,7 +123,7 @@ fn find_fraction<'v, 'a>(
         Value::Array(items) => {
             for (index, item) in items.iter().enumerate() {
                 steps.push(Step::Index(index))?;
-                let found = find_fraction(alloc, item, steps, depth - 1)?;
+                let found = find_number(alloc, number, item, steps, depth - 1)?;
                 if found.is_some() {
                     return Ok(found);
                 }
@@ -117,8 +134,8 @@ fn find_fraction<'v, 'a>(
         Value::Object(members) => {
             for (index, (key, member)) in members.iter().enumerate() {
                 steps.push(Step::Key(*key))?;
-                let found = find_fraction(alloc, member, steps, depth - 1)?;
-                if found.is_some() && is_last(&members[index + 1..], *key) {
+                let found = find_number(alloc, number, member, steps, depth - 1)?;
+                if found.is_some() && (number == Number::TooLarge || is_last(&members[index + 1..], *key)) {
                     return Ok(found);
                 }
                 steps.truncate(length);
@@ -129,13 +146,13 @@ fn find_fraction<'v, 'a>(
     }
 }
 
-/// The place of the first number that is not whole or has more than 64 bits, where there is one.
-pub fn fraction<'v, 'a>(
+fn place_of<'v, 'a>(
     alloc: Global,
+    number: Number,
     value: &'v Value<'a>,
 ) -> Result<Option<Wrong<'v, 'a>>, AllocError> {
     let mut steps = Vec::new(alloc);
-    match find_fraction(alloc, value, &mut steps, DEEPEST)? {
+    match find_number(alloc, number, value, &mut steps, DEEPEST)? {
         None => Ok(None),
         Some(value) => Ok(Some(Wrong {
             steps,
@@ -143,5 +160,16 @@ pub fn fraction<'v, 'a>(
             value,
             refusal: None,
         })),
+    }
+}
+
+/// The place of the first number that is too large, or is not whole or has more than 64 bits, where there is one.
+pub fn fraction<'v, 'a>(
+    alloc: Global,
+    value: &'v Value<'a>,
+) -> Result<Option<Wrong<'v, 'a>>, AllocError> {
+    match place_of(alloc, Number::TooLarge, value)? {
+        Some(wrong) => Ok(Some(wrong)),
+        None => place_of(alloc, Number::Fraction, value),
     }
 }

@@ -6,6 +6,9 @@ use Rattle.std.specs.Str.Parse.{digits_value}
 use Rattle.sql_tool_document.specs.Documents.{Document, document}
 use Rattle.sql_tool_document.specs.Names.{dialect_of, dialect_text}
 use Rattle.sql_tool_document.specs.Texts.{Texts, texts_in}
+use Rattle.sql_tool_explain.specs.Explanation.{IsExplanation}
+use Rattle.sql_tool_explain.specs.declared.explain.Explained.{Explained}
+use Rattle.sql_tool_explain.specs.declared.explain.Explained.TheVariants as explained
 use Rattle.sql_tool_generate.specs.Summary.{IsSummary}
 use Rattle.sql_tool_guard.specs.Output.{IsGuardedOutput, IsGuardedOutputPrefix}
 use Rattle.sql_tool_guard.specs.Tenants.{TenantDocument, tenant_document}
@@ -15,7 +18,7 @@ use Rattle.sql_tool_read.specs.Input.{input_text}
 use Rattle.sql_tool_read.specs.Line.{IsReadingLine}
 use Rattle.sql_tool_run.specs.Limits.{most_requests}
 use Rattle.sql_tool_run.specs.declared.command.Command.{Command}
-use Rattle.sql_tool_run.specs.declared.command.Command.TheVariants.{Build, Generate, Read, Audit, Guard}
+use Rattle.sql_tool_run.specs.declared.command.Command.TheVariants.{Build, Generate, Read, Audit, Guard, Explain}
 
 -- ---- words
 
@@ -25,17 +28,32 @@ count_of word =
     if bytes_eq word (decimal (digits_value 10 word)) && nat_le (digits_value 10 word) most_requests
     then Some (digits_value 10 word) else None
 
+-- what is explained of what `guard` or `audit` reads
+abbrev pub explained_of : List ℕ → Option Explained
+explained_of word =
+    if bytes_eq word (codes "guard") then Some explained.Guard
+    else if bytes_eq word (codes "audit") then Some explained.Audit
+    else None
+
+-- the words after `explain`
+abbrev pub explained_words : Explained → List (List ℕ)
+explained_words explained.Build = []
+explained_words explained.Guard = codes "guard" ∷ []
+explained_words explained.Audit = codes "audit" ∷ []
+
 -- the command that the words are, if they are one
 abbrev pub command_of : List (List ℕ) → Option Command
 command_of [] = None
 command_of (w ∷ []) =
     if bytes_eq w (codes "build") then Some Build
     else if bytes_eq w (codes "guard") then Some Guard
+    else if bytes_eq w (codes "explain") then Some (Explain explained.Build)
     else None
 command_of (w ∷ v ∷ []) =
     if bytes_eq w (codes "generate") then option_map Generate (count_of v)
     else if bytes_eq w (codes "read") then option_map Read (dialect_of v)
     else if bytes_eq w (codes "audit") then option_map Audit (dialect_of v)
+    else if bytes_eq w (codes "explain") then option_map Explain (explained_of v)
     else None
 command_of (w ∷ v ∷ u ∷ words) = None
 
@@ -46,6 +64,7 @@ AreWordsOf (Generate n) words = (words ≡ codes "generate" ∷ decimal n ∷ []
 AreWordsOf (Read d) words = words ≡ codes "read" ∷ dialect_text d ∷ []
 AreWordsOf (Audit d) words = words ≡ codes "audit" ∷ dialect_text d ∷ []
 AreWordsOf Guard words = words ≡ codes "guard" ∷ []
+AreWordsOf (Explain e) words = words ≡ codes "explain" ∷ explained_words e
 
 -- ---- input
 
@@ -56,6 +75,7 @@ reads_source (Generate n) = false
 reads_source (Read d) = true
 reads_source (Audit d) = true
 reads_source Guard = true
+reads_source (Explain e) = true
 
 -- the bytes aren't what the command reads
 abbrev pub IsBadInput : Command → List ℕ → Type 0
@@ -64,6 +84,7 @@ IsBadInput (Generate n) given = ⊥
 IsBadInput (Read d) given = input_text given ≡ None
 IsBadInput (Audit d) given = texts_in given ≡ None
 IsBadInput Guard given = tenant_document given ≡ None
+IsBadInput (Explain e) given = ⊥
 
 -- ---- output
 
@@ -75,6 +96,7 @@ IsOutputOf (Read d) given written = (t : List ℕ) × (input_text given ≡ Some
 IsOutputOf (Audit d) given written = (x : Texts) × (texts_in given ≡ Some x) × IsAuditOutput d x written
 IsOutputOf Guard given written =
     (x : TenantDocument) × (tenant_document given ≡ Some x) × IsGuardedOutput x.document x.tenant written
+IsOutputOf (Explain e) given written = IsExplanation e given written
 
 -- the first bytes of a text
 abbrev pub IsPrefixOf : List ℕ → List ℕ → Type 0
@@ -89,6 +111,7 @@ IsOutputPrefixOf (Read d) given written =
 IsOutputPrefixOf (Audit d) given written = (x : Texts) × (texts_in given ≡ Some x) × IsAuditOutputPrefix d x written
 IsOutputPrefixOf Guard given written =
     (x : TenantDocument) × (tenant_document given ≡ Some x) × IsGuardedOutputPrefix x.document x.tenant written
+IsOutputPrefixOf (Explain e) given written = (whole : List ℕ) × IsExplanation e given whole × IsPrefixOf whole written
 
 -- What a command that is done has read and written, where its source had these bytes, AtEnd says that it is at the end now, and
 -- Written which bytes the sink has taken.

@@ -9,7 +9,7 @@ use Rattle.sql_tool_read.specs.Input.{input_text}
 use Rattle.sql_tool_run.specs.Command.{IsBadInput, IsOutputOf, IsOutputPrefixOf, reads_source}
 use Rattle.sql_tool_run.specs.Limits.{greatest_input}
 use Rattle.sql_tool_run.specs.declared.command.Command.{Command}
-use Rattle.sql_tool_run.specs.declared.command.Command.TheVariants.{Build, Generate, Read, Audit, Guard}
+use Rattle.sql_tool_run.specs.declared.command.Command.TheVariants.{Build, Generate, Read, Audit, Guard, Explain}
 use Rattle.sql_tool_run.specs.declared.status.Status.{Status}
 use Rattle.sql_tool_run.specs.declared.status.Status.TheVariants.{Done, Usage, BadDocument, ReadFault, WriteFault, NoMemory, TooLarge}
 
@@ -63,6 +63,7 @@ status_on (Generate n) input = Done
 status_on (Read d) input = status_from (input_text input)
 status_on (Audit d) input = status_from (texts_in input)
 status_on Guard input = status_from (tenant_document input)
+status_on (Explain e) input = Done
 
 -- the status of a run with no fault and enough memory
 abbrev pub status_of : Option Command → List ℕ → Status

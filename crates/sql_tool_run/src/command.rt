@@ -1,8 +1,9 @@
 ghost use Rattle.std.specs.Prelude.{◌≡◌, ◌<◌, ◌↔◌, ◌⊎◌, ◌∷◌, [], length, map, slice_index, string_bytes, IsTrue};
-ghost use Rattle.sql_tool_run.specs.Command.{command_of, count_of, reads_source};
+ghost use Rattle.sql_tool_run.specs.Command.{command_of, count_of, explained_of, reads_source};
 
 use sql_dialect::Dialect;
 use sql_tool_document::dialect;
+use sql_tool_explain::Explained;
 
 /// How many requests `generate` makes at most.
 pub const MAX_REQUESTS: u32 = 100000;
@@ -20,6 +21,9 @@ pub enum Command {
     Audit(Dialect),
     /// `guard`: reads a document with a tenant, and writes a line for each of its requests, restricted to the tenant's rows.
     Guard,
+    /// `explain`, `explain guard`, `explain audit`: reads any bytes, and writes why the command would not read them, which members it ignores,
+    /// and which parts of requests break rules.
+    Explain(Explained),
 }
 
 impl Command {
@@ -40,6 +44,7 @@ impl Command {
         match word {
             "build" => Some(Command::Build),
             "guard" => Some(Command::Guard),
+            "explain" => Some(Command::Explain(Explained::Build)),
             _ => None,
         }
     }
@@ -51,6 +56,7 @@ impl Command {
             "generate" => Some(Command::Generate(count(argument)?)),
             "read" => Some(Command::Read(dialect(argument)?)),
             "audit" => Some(Command::Audit(dialect(argument)?)),
+            "explain" => Some(Command::Explain(explained(argument)?)),
             _ => None,
         }
     }
@@ -60,9 +66,24 @@ impl Command {
         ensures { result ≡ reads_source self }
     {
         match self {
-            Command::Build | Command::Read(_) | Command::Audit(_) | Command::Guard => true,
+            Command::Build
+            | Command::Read(_)
+            | Command::Audit(_)
+            | Command::Guard
+            | Command::Explain(_) => true,
             Command::Generate(_) => false,
         }
+    }
+}
+
+/// What of `explain` the word names, beside `build`.
+fn explained(word: &str) -> Option<Explained>
+    ensures { result ≡ explained_of word.now }
+{
+    match word {
+        "guard" => Some(Explained::Guard),
+        "audit" => Some(Explained::Audit),
+        _ => None,
     }
 }
 

@@ -12,7 +12,7 @@ ghost use Rattle.sql_tool_run.specs.Command.{command_of, reads_source, AreWordsO
 ghost use Rattle.sql_tool_run.specs.Limits.{greatest_input};
 ghost use Rattle.sql_tool_run.specs.Run.{Ends, Outcome, Took, may_write, run_reads, status_of};
 ghost use Rattle.sql_tool_run.specs.inside.Responses.{Response, WroteLine};
-ghost use Rattle.sql_tool_run.specs.declared.command.Command.TheVariants.{Generate, Read};
+ghost use Rattle.sql_tool_run.specs.declared.command.Command.TheVariants.{Explain, Generate, Read};
 ghost use Rattle.sql_tool_run.specs.declared.command.Command.{Command};
 
 use crate::audit::write_audit;
@@ -21,6 +21,7 @@ use crate::command::Command;
 use crate::guard::write_guard;
 use crate::status::Status;
 use sql_dialect::Dialect;
+use sql_tool_explain::{Explained, explain};
 use sql_tool_generate::generate;
 use sql_tool_read::{input_text, reading_line};
 use sql_tool_stream::{Failed, ReadError, Sink, Source, read_all, write_all};
@@ -72,6 +73,24 @@ fn write_reading<K: Sink>(alloc: Global, dialect: Dialect, bytes: &[u8], sink: &
     }
 }
 
+/// Writes what is to be said of the bytes.
+fn write_explanation<K: Sink>(
+    alloc: Global,
+    explained: Explained,
+    bytes: &[u8],
+    sink: &mut K,
+) -> Status
+    ensures response { (written : List ℕ) × Appends (K.held sink.old) (K.held sink.new) written
+        × Response result (Explain explained) bytes.now written }
+    ensures fault { result ≡ Status.WriteFault → HasRisen (K.faults sink.old) (K.faults sink.new) }
+    ensures no_fault { (result ≡ Status.WriteFault → ⊥) → K.faults sink.new ≡ K.faults sink.old }
+{
+    match explain(alloc, explained, bytes) {
+        Ok(lines) => write_line(lines.as_str(), sink),
+        Err(AllocError) => Status::NoMemory,
+    }
+}
+
 /// Writes what the command answers to these bytes.
 fn answer<K: Sink>(alloc: Global, command: Command, bytes: &[u8], sink: &mut K) -> Status
     ensures response { (written : List ℕ) × Appends (K.held sink.old) (K.held sink.new) written
@@ -85,6 +104,7 @@ fn answer<K: Sink>(alloc: Global, command: Command, bytes: &[u8], sink: &mut K) 
         Command::Read(dialect) => write_reading(alloc, dialect, bytes, sink),
         Command::Audit(dialect) => write_audit(alloc, dialect, bytes, sink),
         Command::Guard => write_guard(alloc, bytes, sink),
+        Command::Explain(explained) => write_explanation(alloc, explained, bytes, sink),
     }
 }
 
