@@ -1,16 +1,16 @@
 -- Which places are wrong.
-use Rattle.std.specs.Prelude.{◌≡◌, ◌⊎◌, ℕ, suc, List, [], ◌∷◌, ◌++◌, codes, Bool, true, false, Option, Some, None, ⊤}
-use Rattle.std.specs.List.{list_any}
+use Rattle.std.specs.Prelude.{◌≡◌, ◌⊎◌, ◌<◌, ◌^◌, ℕ, All, suc, List, [], ◌∷◌, ◌++◌, codes, true, false, Some, None, if◌then◌else◌}
 use Rattle.std.specs.Str.{bytes_eq}
-use Rattle.serde_json.specs.Data.{Data, Members, no_members, member, object}
-use Rattle.serde_json.specs.Find.{as_object, is_float}
+use Rattle.serde_json.specs.Data.{Data, Num, number, depth}
+use Rattle.serde_json.specs.Find.{is_float, pointer}
 use Rattle.sql_schema.specs.declared.error.SchemaError.{SchemaError}
+use Rattle.sql_tool_document.specs.Queries.{nesting_bound}
 use Rattle.sql_tool_document.specs.Wanted.{has_form, refusal_of}
 use Rattle.sql_tool_document.specs.declared.schema.Counts.{Counts}
 use Rattle.sql_tool_document.specs.declared.wanted.Wanted.{Wanted}
 use Rattle.sql_tool_document.specs.declared.wanted.Wanted.TheVariants as wanted
 use Rattle.sql_tool_place.specs.Parts.{Part, parts}
-use Rattle.sql_tool_place.specs.Steps.{Step, key, index}
+use Rattle.sql_tool_place.specs.Steps.{Step, key, index, followed, pointer_text}
 
 -- one of the list
 abbrev pub IsPartOf : Part → List Part → Type 0
@@ -58,8 +58,25 @@ IsClashAt w d steps =
     × Leads w d before wanted.Schema e × IsWrong wanted.Schema e × IsClash all name n e
     × (steps ≡ before ++ (key name ∷ index n ∷ []))
 
--- ---- members that no form knows
+-- ---- numbers
 
--- the members of objects that the forms know; of other forms none is asked
-abbrev pub known_by : List (List ℕ) → List ℕ → Bool
-known_by names k = list_any (bytes_eq k) names
+-- The steps lead to a number that is not whole or has more than 64 bits.
+abbrev pub IsFractionAt : Data → List Step → Type 0
+IsFractionAt d steps = (m : Num) × (followed steps d ≡ Some (number m)) × (is_float m ≡ true)
+
+-- ---- the laws, proved in `sql_tool_place`
+
+-- No value with a wrong place has its form: where bytes are a document, no place is wrong.
+abbrev pub WrongPlacesAreWrong : Type 0
+WrongPlacesAreWrong = (w : Wanted) (d : Data) (steps : List Step) → depth d < nesting_bound → IsWrongAt w d steps → has_form w d ≡ false
+
+-- an index that 64 bits write, as each of a value in memory is
+abbrev pub IsShort : Step → Type 0
+IsShort (key k) = Unit {0}
+IsShort (index n) = n < 2 ^ 64
+
+-- The steps to a value are its pointer: RFC 6901 finds it there.
+abbrev pub PointersFind : Type 0
+PointersFind =
+    (w v : Wanted) (d e : Data) (steps : List Step) → Leads w d steps v e → All IsShort steps
+    → pointer (pointer_text steps) d ≡ Some e

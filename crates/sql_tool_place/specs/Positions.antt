@@ -1,5 +1,5 @@
 -- Lines and columns, as people count them: both from 1, a line ends with its line feed, and a column is a character of UTF-8.
-use Rattle.std.specs.Prelude.{ℕ, suc, List, [], ◌∷◌, ◌==◌, ◌&&◌, ◌||◌, Bool, nat_lt, nat_le, if◌then◌else◌}
+use Rattle.std.specs.Prelude.{ℕ, suc, List, [], ◌∷◌, ◌==◌, ◌&&◌, Bool, nat_lt, nat_le, if◌then◌else◌}
 
 -- a byte that does not begin a character (RFC 3629, 3: 10xxxxxx)
 abbrev pub continues : ℕ → Bool

@@ -3,7 +3,7 @@
 ghost use Rattle.std.specs.Prelude.{◌≡◌, IfOk, map};
 ghost use Rattle.sql_tool_document.specs.inside.Seen.{seen};
 ghost use Rattle.sql_tool_place.specs.Parts.{parts as parts_of};
-ghost use Rattle.sql_tool_place.specs.Steps.{part_of};
+ghost use Rattle.sql_tool_place.specs.inside.Texts.{part_of};
 
 use crate::step::Step;
 use json::Value;

@@ -1,6 +1,6 @@
 ghost use Rattle.std.specs.Prelude.{◌≡◌, IfOk, string_bytes};
-ghost use Rattle.sql_tool_place.specs.Places.{pointer_text};
-ghost use Rattle.sql_tool_place.specs.Steps.{steps_of};
+ghost use Rattle.sql_tool_place.specs.Steps.{pointer_text};
+ghost use Rattle.sql_tool_place.specs.inside.Texts.{steps_of};
 
 use std::alloc::{AllocError, Global};
 

@@ -1,6 +1,8 @@
-ghost use Rattle.std.specs.Prelude.{◌≡◌, IfOk, All};
+ghost use Rattle.std.specs.Prelude.{◌≡◌, ◌⊎◌, ◌++◌, ◌∷◌, [], All, IfOk, List, true};
 ghost use Rattle.sql_tool_document.specs.inside.Seen.{seen};
-ghost use Rattle.sql_tool_place.specs.Places.{IsUnknownMember};
+ghost use Rattle.sql_tool_place.specs.Known.{IsUnknownAt};
+ghost use Rattle.sql_tool_place.specs.Steps.{Step as StepTree, key as key_step};
+ghost use Rattle.sql_tool_place.specs.inside.Texts.{steps_of};
 
 use crate::known::known_members;
 use crate::part::parts;
@@ -15,8 +17,9 @@ pub struct Unknown<'a> {
     /// The steps to the object, and to the member.
     pub steps: Vec<Step<'a>>,
     pub key: &'a str,
+    /// The names that the form knows.
     pub known: &'static [&'static str],
-    /// The names that the form knows and the object has not.
+    /// Whether a member of that name comes before it. Else the form does not know it.
     pub is_repeated: bool,
 }
 
@@ -109,7 +112,9 @@ pub fn unknown_members<'a>(
     value: &Value<'a>,
     most: usize,
 ) -> Result<Vec<Unknown<'a>>, AllocError>
-    ensures { IfOk result (λ v. All (λ u. IsUnknownMember wanted (seen value.now) u) v.items) }
+    ensures { IfOk result (λ v. All (λ u. (u.is_repeated ≡ true) ⊎ ((before : List StepTree)
+        × (steps_of u.steps.items ≡ before ++ key_step u.key.now ∷ [])
+        × IsUnknownAt wanted (seen value.now) before u.key.now)) v.items) }
 {
     let mut search = Search {
         found: Vec::new(alloc),

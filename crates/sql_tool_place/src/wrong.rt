@@ -1,8 +1,11 @@
-ghost use Rattle.std.specs.Prelude.{◌≡◌, IfOk, MatchOption, true};
+ghost use Rattle.std.specs.Prelude.{◌≡◌, ◌⊎◌, IfOk, MatchOption, None, Some, false, true};
+ghost use Rattle.json.specs.Value.{value_view};
+ghost use Rattle.serde_json.specs.Read.{of_json};
+ghost use Rattle.serde_json.specs.Written.{has_float};
 ghost use Rattle.sql_tool_document.specs.Wanted.{has_form as has_wanted_form};
 ghost use Rattle.sql_tool_document.specs.inside.Seen.{seen};
-ghost use Rattle.sql_tool_place.specs.Places.{IsWrongAt};
-ghost use Rattle.sql_tool_place.specs.Steps.{steps_of};
+ghost use Rattle.sql_tool_place.specs.Places.{IsClashAt, IsFractionAt, IsWrongAt};
+ghost use Rattle.sql_tool_place.specs.inside.Texts.{steps_of};
 
 use crate::clash::clash;
 use crate::part::{Part, parts};
@@ -47,7 +50,8 @@ pub fn wrong_place<'v, 'a>(
     value: &'v Value<'a>,
 ) -> Result<Option<Wrong<'v, 'a>>, AllocError>
     ensures { IfOk result (λ o. MatchOption o (has_wanted_form wanted (seen value.now) ≡ true)
-        (λ w. IsWrongAt wanted (seen value.now) (steps_of w.steps.items))) }
+        (λ w. IsWrongAt wanted (seen value.now) (steps_of w.steps.items)
+        ⊎ IsClashAt wanted (seen value.now) (steps_of w.steps.items))) }
 {
     if has_form(alloc, wanted, value)? {
         return Ok(None);
@@ -167,7 +171,13 @@ fn place_of<'v, 'a>(
 pub fn fraction<'v, 'a>(
     alloc: Global,
     value: &'v Value<'a>,
-) -> Result<Option<Wrong<'v, 'a>>, AllocError> {
+) -> Result<Option<Wrong<'v, 'a>>, AllocError>
+    ensures { IfOk result (λ o. MatchOption o
+        ((of_json (value_view value.now) ≡ Some (seen value.now))
+        × (has_float (seen value.now) ≡ false))
+        (λ w. IsFractionAt (seen value.now) (steps_of w.steps.items)
+        ⊎ (of_json (value_view value.now) ≡ None))) }
+{
     match place_of(alloc, Number::TooLarge, value)? {
         Some(wrong) => Ok(Some(wrong)),
         None => place_of(alloc, Number::Fraction, value),
