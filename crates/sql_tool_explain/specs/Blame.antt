@@ -1,16 +1,16 @@
 -- Which part of a request breaks a rule.
-use Rattle.std.specs.Prelude.{◌≡◌, ℕ, List, [], ◌∷◌, ◌++◌, codes, Option, Some, None, false, is_some}
+use Rattle.std.specs.Prelude.{◌≡◌, ◌≢◌, ℕ, List, [], ◌∷◌, ◌++◌, Option, Some, None}
 use Rattle.serde_json.specs.Data.{Data}
 use Rattle.serde_json.specs.Find.{get, at, as_str}
-use Rattle.sql_build.specs.Built.{statement_in}
 use Rattle.sql_build_syntax.specs.Tree.{Query}
 use Rattle.sql_dialect.specs.declared.backend.Dialect.{Dialect}
-use Rattle.sql_node.specs.Tree as t
 use Rattle.sql_rules.specs.Rules.{Broken}
+use Rattle.sql_rules.specs.Texts.{rule_text}
 use Rattle.sql_rules.specs.declared.rule.Rule.{Rule}
 use Rattle.sql_schema.specs.Columns.{column_named, table_named}
 use Rattle.sql_schema.specs.Declarations.{Declarations}
 use Rattle.sql_schema.specs.declared.declaration.TableDecl.{TableDecl}
+use Rattle.sql_tool_build.specs.Judgement.{Made, made, unmade}
 use Rattle.sql_tool_document.specs.Queries.{query_of, nesting_bound}
 use Rattle.sql_tool_document.specs.Scalar.{◌>>=◌}
 use Rattle.sql_tool_document.specs.declared.wanted.Wanted.{Wanted}
@@ -21,20 +21,18 @@ use Rattle.sql_tool_place.specs.Steps.{Step, key, index}
 
 -- ---- a part without which a query does not break the rule
 
--- the statement of the query that the JSON is
-abbrev pub statement_at : Declarations → Dialect → Data → Option t.Statement
-statement_at schema dialect d = query_of nesting_bound d >>= statement_in schema dialect
+-- What is made of a query is not refused by that name: no rule of the name is broken, be it the first or not.
+abbrev pub IsRidOf : List ℕ → Declarations → Dialect → Made → Type 0
+IsRidOf name schema dialect (unmade why) = name ≢ why
+IsRidOf name schema dialect (made s) = (r : Rule) → rule_text r ≡ name → ¬ Broken r schema dialect s
 
--- The JSON is a query whose statement does not break the rule.
-abbrev pub IsRidOf : Rule → Declarations → Dialect → Data → Type 0
-IsRidOf rule schema dialect d =
-    (s : t.Statement) × (statement_at schema dialect d ≡ Some s) × (Broken rule schema dialect s → ⊥)
-
--- The part at these steps is to blame: without it the query does not break the rule.
-abbrev pub IsToBlame : Rule → Declarations → Dialect → Data → List Step → Type 0
-IsToBlame rule schema dialect d steps =
-    (e : Edit) × (place : List Step) × (after : List Step) × (steps ≡ place ++ after)
-    × IsRidOf rule schema dialect (without e place d)
+-- The part at these steps is to blame, where Makes says what is made of a query: without it, or with the join of which it is a side in its
+-- other side's place, the query is a query, and is not refused by that name.
+abbrev pub IsToBlame : (Query → Made → Type 0) → List ℕ → Declarations → Dialect → Data → List Step → Type 0
+IsToBlame Makes name schema dialect d steps =
+    (e : Edit) × (place after : List Step) × (q : Query) × (m : Made)
+    × (steps ≡ place ++ after) × (query_of nesting_bound (without e place d) ≡ Some q) × Makes q m
+    × IsRidOf name schema dialect m
 
 -- ---- a name that the schema lacks
 

@@ -1,5 +1,8 @@
 //! The lines that `explain` writes.
 
+ghost use Rattle.std.specs.Prelude.{IfOk, string_bytes};
+ghost use Rattle.sql_tool_explain.specs.Explanation.{IsExplanation};
+
 use crate::blame::Case;
 use crate::found::shortened;
 use crate::hint::did_you_mean;
@@ -382,7 +385,9 @@ fn no_json(alloc: Global, json: &str) -> Result<String, AllocError> {
 
 /// What is said of bytes to who wants them to be what a command reads: a JSON line for what is wrong with them, each member that is ignored,
 /// and each of the first requests that are refused. Nothing, where nothing is to be said.
-pub fn explain(alloc: Global, explained: Explained, bytes: &[u8]) -> Result<String, AllocError> {
+pub fn explain(alloc: Global, explained: Explained, bytes: &[u8]) -> Result<String, AllocError>
+    ensures { IfOk result (λ lines. IsExplanation explained bytes.now (string_bytes lines)) }
+{
     let json = match str::from_utf8(bytes) {
         Ok(json) => json,
         Err(error) => return no_text(alloc, bytes, error.valid_up_to()),
