@@ -1,0 +1,2 @@
+-- That no value with a wrong place has its form.
+mod Lifting
