@@ -54,8 +54,9 @@ pub(crate) fn each_request(alloc: Global, items: &Vec<Value<'_>>) -> Result<Vec<
     Ok(all)
 }
 
+/// The document that a JSON value is, else `NotADocument`; or `NoMemory`.
 #[tactic(auto, unfolding(crate::specs::Documents::document_of))]
-pub(crate) fn whole(alloc: Global, value: &Value<'_>) -> Result<Document, Refusal>
+pub fn whole_document(alloc: Global, value: &Value<'_>) -> Result<Document, Refusal>
     ensures { Gives document_tree result (document_of (seen value.now)) }
 {
     let declarations = get(value, "schema").ok_or(Refusal::NotADocument)?;
@@ -75,5 +76,5 @@ pub fn read_document(alloc: Global, bytes: &[u8]) -> Result<Document, Refusal>
 {
     let mut scratch = Scratch::new(alloc);
     let value = json(alloc, bytes, &mut scratch)?;
-    whole(alloc, &value)
+    whole_document(alloc, &value)
 }

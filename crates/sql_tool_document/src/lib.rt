@@ -25,7 +25,7 @@ mod value;
 mod wanted;
 mod whole;
 
-pub use document::{Document, Request, read_document};
+pub use document::{Document, Request, read_document, whole_document};
 pub use guard::{Guard, Guarded, read_guarded};
 pub use names::{
     binary_operator, clause_call, combination, dialect, dialect_name, direction, join_kind, plain_call,

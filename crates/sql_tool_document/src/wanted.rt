@@ -6,7 +6,7 @@ ghost use Rattle.sql_tool_document.specs.Wanted.{has_form as has_wanted_form};
 ghost use Rattle.sql_tool_document.specs.inside.Seen.{seen};
 
 use crate::call::call;
-use crate::document::{each_request, one_request, whole};
+use crate::document::{each_request, one_request, whole_document};
 use crate::each::{Decode, decode_each};
 use crate::expr::{
     binary, bind, column_name, expr, exprs, field_name, membership, quantified, values,
@@ -256,7 +256,7 @@ pub fn has_form(alloc: Global, wanted: Wanted, value: &Value<'_>) -> Result<bool
 {
     let bound = NESTING_BOUND;
     match wanted {
-        Wanted::Document => found(whole(alloc, value)),
+        Wanted::Document => found(whole_document(alloc, value)),
         Wanted::Guarded => found(whole_guarded(alloc, value)),
         Wanted::Texts => found(whole_texts(alloc, value)),
         Wanted::Guard => found(guard_in(alloc, value)),

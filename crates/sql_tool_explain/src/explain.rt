@@ -6,7 +6,7 @@ ghost use Rattle.sql_tool_explain.specs.Explanation.{IsExplanation};
 use crate::blame::Case;
 use crate::found::shortened;
 use crate::hint::did_you_mean;
-use crate::judge::Judge;
+use crate::judge::{Judge, refusal};
 use crate::line::{Line, push_line};
 use crate::name;
 use crate::rule::asks;
@@ -14,9 +14,9 @@ use crate::sides;
 use crate::words;
 use json::{Error, Scratch, Value};
 use sql_build_depth::is_too_deep;
-use sql_schema::SqlText;
+use sql_tool_build::StatementCache;
 use sql_tool_document::{
-    Document, Refusal, Request, Wanted, parsed, read_document,
+    Document, Refusal, Request, Wanted, parsed, read_document, whole_document,
 };
 use sql_tool_guard::{Tenant, TenantDocument, read_tenant};
 use sql_tool_place::{
@@ -24,6 +24,7 @@ use sql_tool_place::{
     wrong_place,
 };
 use std::alloc::{AllocError, Global};
+use std::num::NonZeroUsize;
 use std::str;
 
 /// What reads the bytes that are explained.
@@ -37,6 +38,9 @@ pub enum Explained {
 /// How many warnings are written, and how many refused requests are explained.
 const MOST_WARNINGS: usize = 50;
 const MOST_REFUSALS: usize = 20;
+
+/// How many answers are kept for requests of the same dialect and shape.
+const ENTRIES: usize = 256;
 
 /// How many values are looked at to find the parts that break rules, over all requests.
 const MOST_VALUES: usize = 2000000;
@@ -111,10 +115,6 @@ impl<'t> Explanation<'t> {
 
     /// Writes what is wrong with the value, where it is no document. Whether it is one.
     fn is_right(&mut self, wanted: Wanted, value: &Value<'_>) -> Result<bool, AllocError> {
-        if let Some(number) = fraction(self.alloc, value)? {
-            self.number(&number)?;
-            return Ok(false);
-        }
         match wrong_place(self.alloc, wanted, value)? {
             Some(wrong) => {
                 self.wrong(&wrong)?;
@@ -141,6 +141,8 @@ impl<'t> Explanation<'t> {
             let key = shortened(alloc, member.key)?;
             let warning = if member.is_repeated {
                 format!(in alloc; "the member \"{key}\" comes again; only its last value counts")?
+            } else if wanted == Wanted::Document && member.key == "guard" {
+                String::from_str(alloc, "the member \"guard\" is ignored: build restricts no statement, guard does")?
             } else {
                 let hint = did_you_mean(alloc, member.key, member.known)?;
                 format!(in alloc; "the member \"{key}\" is ignored{hint}")?
@@ -208,53 +210,49 @@ impl<'t> Explanation<'t> {
     /// Lines of the requests that are refused, up to a number of them.
     fn refusals(
         &mut self,
-        document: &Document,
+        document: Document,
         tenant: Option<&Tenant>,
         value: &Value<'_>,
     ) -> Result<(), AllocError> {
         let alloc = self.alloc;
-        let judge = Judge {
-            schema: &document.schema,
-            tenant,
-        };
+        let Document { schema, requests } = document;
+        let capacity = NonZeroUsize::new(ENTRIES).unwrap();
+        let mut cache = StatementCache::new(alloc, schema, capacity)?;
         let mut left = MOST_VALUES;
         let mut refused = 0usize;
-        for (index, request) in document.requests.as_slice().iter().enumerate() {
+        for (index, request) in requests.as_slice().iter().enumerate() {
             let number = (index as u64).saturating_add(1);
-            let Some(json) = value
-                .get("requests")
-                .and_then(|requests| requests.at(index))
-                .and_then(|request| request.get("query"))
-            else {
-                continue;
-            };
             if is_too_deep(&request.query) {
                 let steps = [Step::Key("requests"), Step::Index(index), Step::Key("query")];
                 return self.say(&steps, None, "the query nests deeper than 2,500 levels: a run ends NoMemory before the line of its request");
             }
-            let rules = judge.refusals(alloc, request.dialect, &request.query)?;
-            let Some(rule) = rules.first() else {
+            let Some(rule) = refusal(alloc, &mut cache, tenant, request.dialect, &request.query)?
+            else {
                 continue;
             };
             refused = refused.saturating_add(1);
-            if refused <= MOST_REFUSALS {
-                self.refusal(judge, *rule, number, request, json, &mut left)?;
+            if refused <= MOST_REFUSALS
+                && let Some(json) = query_at(value, index)
+            {
+                let judge = Judge {
+                    schema: cache.schema(),
+                    tenant,
+                };
+                self.refusal(judge, rule, number, request, json, &mut left)?;
             }
         }
-        if refused > MOST_REFUSALS {
-            let more = refused - MOST_REFUSALS;
-            let says = format!(in alloc; "{more} more requests are refused; the first {MOST_REFUSALS} are explained")?;
-            self.add(says.as_str())?;
-        }
-        Ok(())
+        self.more_refused(refused)
     }
 
-    fn document(&mut self, value: &Value<'_>) -> Result<(), AllocError> {
-        match read_document(self.alloc, self.json.as_bytes()) {
-            Ok(document) => self.refusals(&document, None, value),
-            Err(Refusal::NotADocument) => Ok(()),
-            Err(Refusal::NoMemory) => Err(AllocError),
+    /// A line where more requests are refused than were explained.
+    fn more_refused(&mut self, refused: usize) -> Result<(), AllocError> {
+        if refused <= MOST_REFUSALS {
+            return Ok(());
         }
+        let alloc = self.alloc;
+        let more = refused - MOST_REFUSALS;
+        let says = format!(in alloc; "{more} more requests are refused; the first {MOST_REFUSALS} are explained")?;
+        self.add(says.as_str())
     }
 
     /// The name in the guard that the schema lacks, where there is one.
@@ -291,26 +289,53 @@ impl<'t> Explanation<'t> {
     fn guarded(&mut self, value: &Value<'_>) -> Result<(), AllocError> {
         match read_tenant(self.alloc, self.json.as_bytes()) {
             Ok(TenantDocument { document, tenant }) => {
-                self.refusals(&document, Some(&tenant), value)
+                self.refusals(document, Some(&tenant), value)
             }
             Err(Refusal::NotADocument) => self.guard_name(value),
             Err(Refusal::NoMemory) => Err(AllocError),
         }
     }
 
-    fn whole(&mut self, explained: Explained, value: &Value<'_>) -> Result<(), AllocError> {
+    /// What `build` reads is decoded at once, since mostly it is right.
+    fn document(&mut self, value: &Value<'_>) -> Result<(), AllocError> {
+        match whole_document(self.alloc, value) {
+            Ok(document) => {
+                self.warnings(Wanted::Document, value)?;
+                self.refusals(document, None, value)
+            }
+            Err(Refusal::NotADocument) => {
+                self.is_right(Wanted::Document, value)?;
+                self.warnings(Wanted::Document, value)
+            }
+            Err(Refusal::NoMemory) => Err(AllocError),
+        }
+    }
+
+    fn other(&mut self, explained: Explained, value: &Value<'_>) -> Result<(), AllocError> {
         let wanted = explained.wanted();
         let is_right = self.is_right(wanted, value)?;
         self.warnings(wanted, value)?;
-        if !is_right {
-            return Ok(());
+        if is_right && explained == Explained::Guard {
+            self.guarded(value)?;
+        }
+        Ok(())
+    }
+
+    fn whole(&mut self, explained: Explained, value: &Value<'_>) -> Result<(), AllocError> {
+        if let Some(number) = fraction(self.alloc, value)? {
+            self.number(&number)?;
+            return self.warnings(explained.wanted(), value);
         }
         match explained {
             Explained::Build => self.document(value),
-            Explained::Guard => self.guarded(value),
-            Explained::Audit => Ok(()),
+            Explained::Guard | Explained::Audit => self.other(explained, value),
         }
     }
+}
+
+/// The query of the request with that index.
+fn query_at<'v, 'a>(value: &'v Value<'a>, index: usize) -> Option<&'v Value<'a>> {
+    value.get("requests")?.at(index)?.get("query")
 }
 
 /// A line of a byte.

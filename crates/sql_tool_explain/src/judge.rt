@@ -9,8 +9,62 @@ use sql_node::Statement;
 use sql_schema::Schema;
 use sql_build_syntax::Query;
 use sql_tool_document::{Refusal, read_query};
+use sql_tool_build::{Names, StatementCache, compile_cached_for};
 use sql_tool_guard::Tenant;
 use std::alloc::{AllocError, Global};
+
+/// The statement that a query makes, restricted where there is a tenant, or the name of why there is none.
+#[derive(Drop)]
+enum Made {
+    Statement(Statement),
+    Refused(&'static str),
+}
+
+fn made(
+    alloc: Global,
+    schema: &Schema,
+    tenant: Option<&Tenant>,
+    dialect: Dialect,
+    query: &Query,
+) -> Result<Made, AllocError> {
+    let found = match tenant {
+        None => statement(alloc, schema, dialect, query)?,
+        Some(_) => statement_to_restrict(alloc, schema, dialect, query)?,
+    };
+    let Some(found) = found else {
+        return Ok(Made::Refused(Rule::UnknownName.name()));
+    };
+    let Some(tenant) = tenant else {
+        return Ok(Made::Statement(found));
+    };
+    match restrict(alloc, &found, &tenant.table, &tenant.predicate) {
+        Ok(restricted) => Ok(Made::Statement(restricted)),
+        Err(RestrictError::NoMemory) => Err(AllocError),
+        Err(error) => Ok(Made::Refused(restrict_name(error))),
+    }
+}
+
+/// The name by which a query is refused, where it is. What the cache holds changes no answer.
+pub(crate) fn refusal(
+    alloc: Global,
+    cache: &mut StatementCache,
+    tenant: Option<&Tenant>,
+    dialect: Dialect,
+    query: &Query,
+) -> Result<Option<&'static str>, AllocError> {
+    match made(alloc, cache.schema(), tenant, dialect, query)? {
+        Made::Refused(name) => Ok(Some(name)),
+        Made::Statement(statement) => {
+            match compile_cached_for(alloc, dialect, Names::Asked, cache, &statement) {
+                Ok(_) => Ok(None),
+                Err(error) => match error.rule() {
+                    Some(rule) => Ok(Some(rule.name())),
+                    None => Err(AllocError),
+                },
+            }
+        }
+    }
+}
 
 /// What queries are judged by: a schema, and a tenant where their statements are restricted.
 #[derive(Clone, Copy, Drop)]
@@ -60,27 +114,16 @@ impl Judge<'_> {
         names(alloc, rules.as_slice())
     }
 
-    /// The names of all rules that the query breaks, the one that refuses it first; or the name of why it cannot be restricted.
-    pub(crate) fn refusals(
+    /// The names of all rules that the query breaks; or the name of why it has no statement.
+    fn refusals(
         &self,
         alloc: Global,
         dialect: Dialect,
         query: &Query,
     ) -> Result<Vec<&'static str>, AllocError> {
-        let made = match self.tenant {
-            None => statement(alloc, self.schema, dialect, query)?,
-            Some(_) => statement_to_restrict(alloc, self.schema, dialect, query)?,
-        };
-        let Some(made) = made else {
-            return one_name(alloc, Rule::UnknownName.name());
-        };
-        let Some(tenant) = self.tenant else {
-            return self.broken(alloc, dialect, &made);
-        };
-        match restrict(alloc, &made, &tenant.table, &tenant.predicate) {
-            Ok(restricted) => self.broken(alloc, dialect, &restricted),
-            Err(RestrictError::NoMemory) => Err(AllocError),
-            Err(error) => one_name(alloc, restrict_name(error)),
+        match made(alloc, self.schema, self.tenant, dialect, query)? {
+            Made::Refused(name) => one_name(alloc, name),
+            Made::Statement(statement) => self.broken(alloc, dialect, &statement),
         }
     }
 

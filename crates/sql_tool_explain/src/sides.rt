@@ -6,7 +6,7 @@ use sql_build::statement;
 use sql_check::compile;
 use sql_dialect::{Dialect, Pg};
 use sql_schema::{Schema, SqlType};
-use sql_tool_document::{Refusal, binary_operator, join_kind, read_query, type_name};
+use sql_tool_document::{Refusal, binary_operator, join_kind, read_query, sql_type, type_name};
 use std::alloc::{AllocError, Global};
 
 /// Whether the JSON is a call that joins.
@@ -76,13 +76,27 @@ fn sides_of<'v, 'a>(value: &'v Value<'a>) -> Option<(&'v Value<'a>, &'v Value<'a
     Some((operands.at(0)?, operands.at(1)?))
 }
 
-/// `its sides are Text? and Text`, where both have a type.
+/// The type of a bound null, where it is one that may not be null.
+fn bound_null(value: &Value<'_>) -> Option<SqlType> {
+    let typed = value.get("bind")?;
+    if !typed.at(1)?.is_null() {
+        return None;
+    }
+    let ty = sql_type(typed.at(0)?.as_str()?)?;
+    if ty.nullable { None } else { Some(ty) }
+}
+
+/// `its sides are Text? and Text`, where both have a type; or that a null does not fit its type.
 pub(crate) fn says(
     alloc: Global,
     schema: &Schema,
     query: &Value<'_>,
     value: &Value<'_>,
 ) -> Result<Option<String>, AllocError> {
+    if let Some(ty) = bound_null(value) {
+        let ty = type_name(ty);
+        return Ok(Some(format!(in alloc; "null does not fit {ty}; {ty}? takes it")?));
+    }
     let Some((left, right)) = sides_of(value) else {
         return Ok(None);
     };

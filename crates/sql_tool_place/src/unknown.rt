@@ -74,10 +74,9 @@ impl<'a> Search<'a> {
             if self.is_full() {
                 return Ok(());
             }
-            if !known.contains(key) {
-                self.add(alloc, *key, known, false)?;
-            } else if members[..index].iter().any(|member| member.0 == *key) {
-                self.add(alloc, *key, known, true)?;
+            let is_repeated = members[..index].iter().any(|member| member.0 == *key);
+            if is_repeated || !known.contains(key) {
+                self.add(alloc, *key, known, is_repeated)?;
             }
         }
         Ok(())
