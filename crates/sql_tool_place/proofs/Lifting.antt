@@ -50,9 +50,9 @@ in-one-of p (x ∷ xs) ys (inr later) = moved (in-one-of p xs ys later)
 -- a part that was looked up is what stands there
 pub is-found : (p : Part) (s : Step) (w : Wanted) (o : Option Data) → IsPartOf p (found_at s w o)
     → (p.wants ≡ w) × (o ≡ Some p.value)
-is-found p s w None ()
+is-found p s w None h = absurd h
 is-found p s w (Some d) (inl is) = (ap (λ q. q.wants) is, ap (λ q. Some q.value) (sym is))
-is-found p s w (Some d) (inr ())
+is-found p s w (Some d) (inr h) = absurd h
 
 -- where a look-up gives nothing that has the form, what follows gives nothing
 pub nothing-follows : {A B : Type 0} (o : Option Data) (f : Data → Option A) (g : A → Option B) (d : Data)
