@@ -1,11 +1,10 @@
 -- What a document wants at its places, and which JSON has the form that is wanted: the definitions of the other files, by one name each.
-use Rattle.std.specs.Prelude.{ℕ, List, [], ◌∷◌, take, Bool, false, ◌||◌, codes, Option, Some, None, is_some, if◌then◌else◌}
+use Rattle.std.specs.Prelude.{ℕ, zero, suc, List, [], ◌∷◌, Bool, false, ◌||◌, codes, Option, Some, None, is_some, if◌then◌else◌}
 use Rattle.std.specs.List.{list_any}
 use Rattle.std.specs.Str.{bytes_eq}
-use Rattle.serde_json.specs.Data.{Data}
+use Rattle.serde_json.specs.Data.{Data, Items, no_items, item}
 use Rattle.serde_json.specs.Find.{get, as_bool, as_str, as_array}
 use Rattle.sql_leaf.specs.declared.operator.Comparison.TheVariants.{Eq}
-use Rattle.sql_schema.specs.Declarations.{Declarations}
 use Rattle.sql_schema.specs.Refusals.{least_refusal}
 use Rattle.sql_schema.specs.declared.error.SchemaError.{SchemaError}
 use Rattle.sql_build_syntax.specs.Forms.{stand, stands}
@@ -16,7 +15,7 @@ use Rattle.sql_build_syntax.specs.declared.expr.Quantified.TheVariants.{EqAny}
 use Rattle.sql_build_syntax.specs.declared.form.Form.{Form}
 use Rattle.sql_tool_document.specs.Documents.{request_of, document_of}
 use Rattle.sql_tool_document.specs.Guards.{guard_of, guarded_of}
-use Rattle.sql_tool_document.specs.Members.{items_at, each, each_if_any}
+use Rattle.sql_tool_document.specs.Members.{items_at, each}
 use Rattle.sql_tool_document.specs.Names.{dialect_of, type_of, side_join_of, method_of, plain_of, clause_of, join_of, combination_of}
 use Rattle.sql_tool_document.specs.Queries.{column_name_of, field_name_of, bind_of, values_of, membership_of, binary_expr, quantified_expr, sample_of, join_source_of, item_of, place_of, expr_of, source_of, query_of, call_of, nesting_bound}
 use Rattle.sql_tool_document.specs.Scalar.{◌>>=◌, whole, small_of, medium_of, place_number_of, value_of}
@@ -113,14 +112,22 @@ has_form wanted.Number d = is_some (whole d)
 
 -- ---- declarations up to one
 
-abbrev pub first_of : Counts → Declarations → Declarations
-first_of n s = record { tables = take n.tables s.tables; joinables = take n.joinables s.joinables; together = take n.together s.together }
+-- the first so many items of an array
+abbrev pub first_items : ℕ → Items → Items
+first_items zero ds = no_items
+first_items (suc n) no_items = no_items
+first_items (suc n) (item d ds) = item d (first_items n ds)
 
--- why the first of a schema's declarations make none, where each has its form
+-- each of the first so many items of an array, and none where there is no array
+abbrev pub first_if_any : {A : Type 0} → (Data → Option A) → ℕ → Option Data → Option (List A)
+first_if_any f n None = Some []
+first_if_any f n (Some d) = as_array d >>= λ ds. each f (first_items n ds)
+
+-- why the first of a schema's declarations make none, where they have their forms
 unfoldable pub refusal_of : Counts → Data → Option (Option SchemaError)
 refusal_of n d = do
   items ← items_at (codes "tables") d
-  tables ← each table_of items
-  joinables ← each_if_any joinable_of (get (codes "joinable") d)
-  together ← each_if_any names_of (get (codes "together") d)
-  Some (least_refusal (first_of n (record { tables = tables; joinables = joinables; together = together })))
+  tables ← each table_of (first_items n.tables items)
+  joinables ← first_if_any joinable_of n.joinables (get (codes "joinable") d)
+  together ← first_if_any names_of n.together (get (codes "together") d)
+  Some (least_refusal (record { tables = tables; joinables = joinables; together = together }))

@@ -1,4 +1,4 @@
-ghost use Rattle.std.specs.Prelude.{◌≡◌, ◌++◌, OnOk, IfOk, option_map, take};
+ghost use Rattle.std.specs.Prelude.{◌≡◌, ◌++◌, OnOk, IfOk, option_map};
 ghost use Rattle.serde_json.specs.Find.{as_str};
 ghost use Rattle.sql_tool_document.specs.inside.Seen.{seen};
 ghost use Rattle.sql_tool_document.specs.Members.{if_any};
@@ -198,13 +198,32 @@ pub struct Counts {
     pub together: usize,
 }
 
-/// The first so many items, or all where there are fewer.
-fn first<T: Drop>(items: Vec<T>, count: usize) -> Vec<T>
-    ensures { result.items ≡ take count items.items }
-{
-    let mut items = items;
-    items.truncate(count);
-    items
+/// Each of the first so many items of an array, where each item has the form.
+fn decode_first<T: Decode + Drop>(
+    alloc: Global,
+    items: &[Value<'_>],
+    count: usize,
+) -> Result<Vec<T>, Refusal> {
+    let mut all = Vec::new(alloc);
+    for item in items.iter().take(count) {
+        all.push(T::decode(alloc, item)?)?;
+    }
+    Ok(all)
+}
+
+/// Each of the first so many items of an array, and none where there is no array.
+fn first_if_any<T: Decode + Drop>(
+    alloc: Global,
+    value: Option<&Value<'_>>,
+    count: usize,
+) -> Result<Vec<T>, Refusal> {
+    match value {
+        None => Ok(Vec::new(alloc)),
+        Some(value) => {
+            let items = as_array(value).ok_or(Refusal::NotADocument)?;
+            decode_first(alloc, items.as_slice(), count)
+        }
+    }
 }
 
 /// Why the first of the declarations make no schema, where they make none.
@@ -216,11 +235,11 @@ pub fn refusal_up_to(
     ensures { Gives (λ o. o) result (refusal_of counts (seen value.now)) }
 {
     let tables = items(value, "tables").ok_or(Refusal::NotADocument)?;
-    let tables = first(decode_each(alloc, tables)?, counts.tables);
-    let joinables: Vec<JoinableDecl> = decode_if_any(alloc, get(value, "joinable"))?;
-    let joinables = first(joinables, counts.joinables);
-    let together: Vec<(SqlText, SqlText)> = decode_if_any(alloc, get(value, "together"))?;
-    let together = first(together, counts.together);
+    let tables = decode_first(alloc, tables.as_slice(), counts.tables)?;
+    let joinables: Vec<JoinableDecl> =
+        first_if_any(alloc, get(value, "joinable"), counts.joinables)?;
+    let together: Vec<(SqlText, SqlText)> =
+        first_if_any(alloc, get(value, "together"), counts.together)?;
     let builder = declared(alloc, tables, &joinables, &together)?;
     match builder.build() {
         Ok(_) => Ok(None),

@@ -2,7 +2,7 @@
 #![tactic(auto)]
 
 ghost use Rattle.std.specs.Prelude.{◌≡◌, IfOk};
-ghost use Rattle.sql_tool_document.specs.Wanted.{has_form as has_wanted_form};
+ghost use Rattle.sql_tool_document.specs.Wanted.{has_form as has_wanted_form, names_call};
 ghost use Rattle.sql_tool_document.specs.inside.Seen.{seen};
 
 use crate::call::call;
@@ -161,7 +161,9 @@ fn is_call(alloc: Global, form: Form, value: &Value<'_>) -> Result<bool, AllocEr
 }
 
 /// Whether a call has that name.
-pub fn is_call_name(name: &str) -> bool {
+pub fn is_call_name(name: &str) -> bool
+    ensures { result ≡ names_call name.now }
+{
     match name {
         "find" | "order" | "order_by" | "then_order_by" | "positional_order_by" | "limit"
         | "offset" | "into_boxed" => true,

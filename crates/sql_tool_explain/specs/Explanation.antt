@@ -19,7 +19,8 @@ use Rattle.sql_tool_document.specs.Scalar.{◌>>=◌}
 use Rattle.sql_tool_document.specs.Texts.{texts_in}
 use Rattle.sql_tool_document.specs.declared.wanted.Wanted.{Wanted}
 use Rattle.sql_tool_document.specs.declared.wanted.Wanted.TheVariants as wanted
-use Rattle.sql_tool_guard.specs.Output.{IsRestricted}
+use Rattle.sql_guard.specs.declared.error.RestrictError.TheVariants.{BadPredicate}
+use Rattle.sql_tool_guard.specs.Output.{IsRestricted, refusal_text}
 use Rattle.sql_tool_guard.specs.Tenants.{Tenant, TenantDocument, tenant_document}
 use Rattle.sql_tool_explain.specs.Blame.{IsNoTable, IsStrangerAt, IsToBlame}
 use Rattle.sql_tool_explain.specs.Lines.{Line, Position, Said, wrong, refused, warning, note, lines_text}
@@ -119,7 +120,8 @@ IsRefusal explained.Build bytes l number name =
     (x : Document) × (d : Data) × (document bytes ≡ Some x) × (value_in bytes ≡ Some d) × IsOfRequest IsBuilt x d l number name
 IsRefusal explained.Guard bytes l number name =
     (x : TenantDocument) × (d : Data) × (tenant_document bytes ≡ Some x) × (value_in bytes ≡ Some d)
-    × IsOfRequest (IsGuarded x.tenant) x.document d l number name
+    × (IsOfRequest (IsGuarded x.tenant) x.document d l number name
+    ⊎ ((name ≡ refusal_text BadPredicate) × (l.pointer ≡ Some (pointer_text (key (codes "guard") ∷ (key (codes "predicate") ∷ []))))))
 IsRefusal explained.Audit bytes l number name = ⊥
 
 -- ---- all lines

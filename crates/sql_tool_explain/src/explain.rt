@@ -169,6 +169,10 @@ impl<'t> Explanation<'t> {
         let alloc = self.alloc;
         let index = number.saturating_sub(1) as usize;
         let mut steps = vec![in alloc; Step::Key("requests"), Step::Index(index), Step::Key("query")]?;
+        if rule == "BadPredicate" {
+            let steps = [Step::Key("guard"), Step::Key("predicate")];
+            return self.say(&steps, Some((rule, number)), asks(rule));
+        }
         if rule == "UnknownName"
             && let Some(stranger) = name::stranger(alloc, judge.schema, Wanted::Query, json)?
         {

@@ -7,10 +7,12 @@ use Rattle.std.proofs.lemmas.Slice.Eq.{bytes_eq-Decides}
 use Rattle.sql_dialect.specs.declared.backend.Dialect.{Dialect}
 use Rattle.sql_dialect.specs.declared.backend.Dialect.TheVariants.{Pg, Mysql, Sqlite, Bracket}
 use Rattle.sql_tool_document.specs.Names.{dialect_of, dialect_text, dialects}
+use Rattle.sql_tool_explain.specs.declared.explain.Explained.{Explained}
+use Rattle.sql_tool_explain.specs.declared.explain.Explained.TheVariants as explained
 use Rattle.sql_tool_run.proofs.Counts.{count-back, count-some}
-use Rattle.sql_tool_run.specs.Command.{AreWordsOf, command_of, count_of}
+use Rattle.sql_tool_run.specs.Command.{AreWordsOf, command_of, count_of, explained_of, explained_words}
 use Rattle.sql_tool_run.specs.declared.command.Command.{Command}
-use Rattle.sql_tool_run.specs.declared.command.Command.TheVariants.{Build, Generate, Read, Audit, Guard}
+use Rattle.sql_tool_run.specs.declared.command.Command.TheVariants.{Build, Generate, Read, Audit, Guard, Explain}
 
 -- ---- tests
 
@@ -61,13 +63,17 @@ dialect-forth Bracket = refl
 -- ---- commands
 
 -- the words that a command has are its own
-one-word : (w : List ℕ) (a b : Bool) (c : Command) → bytes_eq w (codes "build") ≡ a → bytes_eq w (codes "guard") ≡ b
-    → cond a (Some Build) (cond b (Some Guard) None) ≡ Some c → AreWordsOf c (w ∷ [])
-one-word w true b c is it h =
+one-word : (w : List ℕ) (a b e : Bool) (c : Command) → bytes_eq w (codes "build") ≡ a → bytes_eq w (codes "guard") ≡ b
+    → bytes_eq w (codes "explain") ≡ e
+    → cond a (Some Build) (cond b (Some Guard) (cond e (Some (Explain explained.Build)) None)) ≡ Some c → AreWordsOf c (w ∷ [])
+one-word w true b e c is it that h =
     let own : Build ≡ c = cc in subst (λ k. AreWordsOf k (w ∷ [])) own (ap (λ v. v ∷ []) (same-words w (codes "build") is))
-one-word w false true c is it h =
+one-word w false true e c is it that h =
     let own : Guard ≡ c = cc in subst (λ k. AreWordsOf k (w ∷ [])) own (ap (λ v. v ∷ []) (same-words w (codes "guard") it))
-one-word w false false c is it h = none_some c h
+one-word w false false true c is it that h =
+    let own : Explain explained.Build ≡ c = cc in
+    subst (λ k. AreWordsOf k (w ∷ [])) own (ap (λ v. v ∷ []) (same-words w (codes "explain") that))
+one-word w false false false c is it that h = none_some c h
 
 generated : (w v : List ℕ) (c : Command) → bytes_eq w (codes "generate") ≡ true → option_map Generate (count_of v) ≡ Some c
     → AreWordsOf c (w ∷ v ∷ [])
@@ -91,21 +97,44 @@ auditing w v c is h =
     let words : w ∷ v ∷ [] ≡ codes "audit" ∷ dialect_text d ∷ [] = λ i. same-words w (codes "audit") is i ∷ dialect-back v d named i ∷ [] in
     subst (λ k. AreWordsOf k (w ∷ v ∷ [])) own words
 
-two-words : (w v : List ℕ) (a b e : Bool) (c : Command) → bytes_eq w (codes "generate") ≡ a
-    → bytes_eq w (codes "read") ≡ b → bytes_eq w (codes "audit") ≡ e
+explained-back : (v : List ℕ) (e : Explained) (a b : Bool) → bytes_eq v (codes "guard") ≡ a → bytes_eq v (codes "audit") ≡ b
+    → cond a (Some explained.Guard) (cond b (Some explained.Audit) None) ≡ Some e → v ∷ [] ≡ explained_words e
+explained-back v e true b is it h =
+    let own : explained.Guard ≡ e = cc in
+    subst (λ k. v ∷ [] ≡ explained_words k) own (ap (λ x. x ∷ []) (same-words v (codes "guard") is))
+explained-back v e false true is it h =
+    let own : explained.Audit ≡ e = cc in
+    subst (λ k. v ∷ [] ≡ explained_words k) own (ap (λ x. x ∷ []) (same-words v (codes "audit") it))
+explained-back v e false false is it h = none_some e h
+
+explaining : (w v : List ℕ) (c : Command) → bytes_eq w (codes "explain") ≡ true → option_map Explain (explained_of v) ≡ Some c
+    → AreWordsOf c (w ∷ v ∷ [])
+explaining w v c is h =
+    let (e, named, own) = mapped Explain (explained_of v) c h in
+    let after : v ∷ [] ≡ explained_words e =
+    explained-back v e (bytes_eq v (codes "guard")) (bytes_eq v (codes "audit")) refl refl named in
+    let words : w ∷ v ∷ [] ≡ codes "explain" ∷ explained_words e = λ i. same-words w (codes "explain") is i ∷ after i in
+    subst (λ k. AreWordsOf k (w ∷ v ∷ [])) own words
+
+two-words : (w v : List ℕ) (a b e f : Bool) (c : Command) → bytes_eq w (codes "generate") ≡ a
+    → bytes_eq w (codes "read") ≡ b → bytes_eq w (codes "audit") ≡ e → bytes_eq w (codes "explain") ≡ f
     → cond a (option_map Generate (count_of v))
-    (cond b (option_map Read (dialect_of v)) (cond e (option_map Audit (dialect_of v)) None))
+    (cond b (option_map Read (dialect_of v))
+    (cond e (option_map Audit (dialect_of v)) (cond f (option_map Explain (explained_of v)) None)))
     ≡ Some c → AreWordsOf c (w ∷ v ∷ [])
-two-words w v true b e c is it that h = generated w v c is h
-two-words w v false true e c is it that h = reading w v c it h
-two-words w v false false true c is it that h = auditing w v c that h
-two-words w v false false false c is it that h = none_some c h
+two-words w v true b e f c is it that so h = generated w v c is h
+two-words w v false true e f c is it that so h = reading w v c it h
+two-words w v false false true f c is it that so h = auditing w v c that h
+two-words w v false false false true c is it that so h = explaining w v c so h
+two-words w v false false false false c is it that so h = none_some c h
 
 told : (given : List (List ℕ)) (c : Command) → command_of given ≡ Some c → AreWordsOf c given
 told [] c h = none_some c h
-told (w ∷ []) c h = one-word w (bytes_eq w (codes "build")) (bytes_eq w (codes "guard")) c refl refl h
+told (w ∷ []) c h =
+    one-word w (bytes_eq w (codes "build")) (bytes_eq w (codes "guard")) (bytes_eq w (codes "explain")) c refl refl refl h
 told (w ∷ v ∷ []) c h =
-    two-words w v (bytes_eq w (codes "generate")) (bytes_eq w (codes "read")) (bytes_eq w (codes "audit")) c refl refl refl h
+    two-words w v (bytes_eq w (codes "generate")) (bytes_eq w (codes "read")) (bytes_eq w (codes "audit"))
+    (bytes_eq w (codes "explain")) c refl refl refl refl h
 told (w ∷ v ∷ u ∷ ws) c h = none_some c h
 
 -- and with its own words a command is told
@@ -116,6 +145,9 @@ telling given (Generate n) (is, within) =
     ap command_of is ∙ ap (option_map Generate) (count-some (decimal n) n within refl)
 telling given (Read d) is = ap command_of is ∙ ap (option_map Read) (dialect-forth d)
 telling given (Audit d) is = ap command_of is ∙ ap (option_map Audit) (dialect-forth d)
+telling given (Explain explained.Build) is = ap command_of is
+telling given (Explain explained.Guard) is = ap command_of is
+telling given (Explain explained.Audit) is = ap command_of is
 
 pub is-told : (given : List (List ℕ)) (c : Command) → (command_of given ≡ Some c) ↔ AreWordsOf c given
 is-told given c = (told given c, telling given c)

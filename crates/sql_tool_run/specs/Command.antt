@@ -98,6 +98,15 @@ IsOutputOf Guard given written =
     (x : TenantDocument) × (tenant_document given ≡ Some x) × IsGuardedOutput x.document x.tenant written
 IsOutputOf (Explain e) given written = IsExplanation e given written
 
+-- What the command writes for bytes is one text. The words of `explain` are free.
+abbrev pub has_one_answer : Command → Bool
+has_one_answer Build = true
+has_one_answer (Generate n) = true
+has_one_answer (Read d) = true
+has_one_answer (Audit d) = true
+has_one_answer Guard = true
+has_one_answer (Explain e) = false
+
 -- the first bytes of a text
 abbrev pub IsPrefixOf : List ℕ → List ℕ → Type 0
 IsPrefixOf whole start = (rest : List ℕ) × (whole ≡ start ++ rest)

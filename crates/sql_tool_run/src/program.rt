@@ -1,4 +1,4 @@
-ghost use Rattle.std.specs.Prelude.{◌≡◌, ◌<◌, ◌+◌, ◌↔◌, length, ◌⊎◌, ◌++◌, List, ℕ, map, IfSome, false, Some, None, string_bytes, []};
+ghost use Rattle.std.specs.Prelude.{◌≡◌, ◌<◌, ◌+◌, ◌↔◌, length, ◌⊎◌, ◌++◌, List, ℕ, map, IfSome, true, false, Some, None, string_bytes, []};
 ghost use Rattle.std.specs.Io.KnownBytes.{Appends, Consumes, IsAtEnd, Keeps};
 ghost use Rattle.sql_schema.specs.Declarations.{Declarations};
 ghost use Rattle.sql_tool_stream.specs.Causes.{HasRisen};
@@ -8,7 +8,7 @@ ghost use Rattle.sql_tool_generate.specs.Summary.{IsSummary};
 ghost use Rattle.sql_tool_build.specs.Output.{AreLines, IsOutput, IsOutputPrefix, Line, StatementRequest};
 ghost use Rattle.sql_tool_build.specs.Shared.{OneIdServes, OneShapeOneId};
 ghost use Rattle.sql_tool_read.specs.Line.{IsReadingLine};
-ghost use Rattle.sql_tool_run.specs.Command.{command_of, reads_source, AreWordsOf, IsDone, IsOutputOf};
+ghost use Rattle.sql_tool_run.specs.Command.{command_of, has_one_answer, reads_source, AreWordsOf, IsDone, IsOutputOf};
 ghost use Rattle.sql_tool_run.specs.Limits.{greatest_input};
 ghost use Rattle.sql_tool_run.specs.Run.{Ends, Outcome, Took, may_write, run_reads, status_of};
 ghost use Rattle.sql_tool_run.specs.inside.Responses.{Response, WroteLine};
@@ -195,9 +195,9 @@ pub fn run<S: Source, K: Sink>(
         (c : Command) × (command_of (map string_bytes words.now) ≡ Some c)
         × IsDone c input (IsAtEnd (S.left source.new))
         (λ text. Appends (K.held sink.old) (K.held sink.new) text)) }
-    // What a command writes for bytes is one text.
-    ensures one_answer { (c : Command) (given a b : List ℕ) → IsOutputOf c given a
-        → IsOutputOf c given b → a ≡ b }
+    // What a command writes for bytes is one text, but for the words of `explain`.
+    ensures one_answer { (c : Command) (given a b : List ℕ) → has_one_answer c ≡ true
+        → IsOutputOf c given a → IsOutputOf c given b → a ≡ b }
     // A document has at most one output, and the output of its first requests is a prefix of it.
     ensures one_output { (d : DocumentTree) (a b : List ℕ) → IsOutput d a → IsOutput d b → a ≡ b }
     ensures prefix { (d : DocumentTree) (start whole : List ℕ) → IsOutputPrefix d start
