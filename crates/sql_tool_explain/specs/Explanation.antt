@@ -24,8 +24,8 @@ use Rattle.sql_tool_guard.specs.Output.{IsRestricted, refusal_text}
 use Rattle.sql_tool_guard.specs.Tenants.{Tenant, TenantDocument, tenant_document}
 use Rattle.sql_tool_explain.specs.Blame.{IsNoTable, IsStrangerAt, IsToBlame}
 use Rattle.sql_tool_explain.specs.Lines.{Line, Position, Said, wrong, refused, warning, note, lines_text}
-use Rattle.sql_tool_explain.specs.declared.explain.Explained.{Explained}
-use Rattle.sql_tool_explain.specs.declared.explain.Explained.TheVariants as explained
+use Rattle.sql_tool_explain.specs.declared.explanation.Explained.{Explained}
+use Rattle.sql_tool_explain.specs.declared.explanation.Explained.TheVariants as explained
 use Rattle.sql_tool_place.specs.Places.{IsClashAt, IsFractionAt, IsWrongAt, Leads}
 use Rattle.sql_tool_place.specs.Positions.{column_after, line_after}
 use Rattle.sql_tool_place.specs.Steps.{Step, index, key, pointer_text}

@@ -5,7 +5,7 @@
 mod blame;
 mod cut;
 mod edit;
-mod explain;
+mod explanation;
 mod found;
 mod hint;
 mod judge;
@@ -19,4 +19,4 @@ mod words;
 #[cfg(test)]
 mod tests;
 
-pub use explain::{Explained, explain};
+pub use explanation::{Explained, explain};

@@ -7,8 +7,8 @@ use Rattle.std.proofs.lemmas.Slice.Eq.{bytes_eq-Decides}
 use Rattle.sql_dialect.specs.declared.backend.Dialect.{Dialect}
 use Rattle.sql_dialect.specs.declared.backend.Dialect.TheVariants.{Pg, Mysql, Sqlite, Bracket}
 use Rattle.sql_tool_document.specs.Names.{dialect_of, dialect_text, dialects}
-use Rattle.sql_tool_explain.specs.declared.explain.Explained.{Explained}
-use Rattle.sql_tool_explain.specs.declared.explain.Explained.TheVariants as explained
+use Rattle.sql_tool_explain.specs.declared.explanation.Explained.{Explained}
+use Rattle.sql_tool_explain.specs.declared.explanation.Explained.TheVariants as explained
 use Rattle.sql_tool_run.proofs.Counts.{count-back, count-some}
 use Rattle.sql_tool_run.specs.Command.{AreWordsOf, command_of, count_of, explained_of, explained_words}
 use Rattle.sql_tool_run.specs.declared.command.Command.{Command}

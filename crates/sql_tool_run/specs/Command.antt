@@ -7,8 +7,8 @@ use Rattle.sql_tool_document.specs.Documents.{Document, document}
 use Rattle.sql_tool_document.specs.Names.{dialect_of, dialect_text}
 use Rattle.sql_tool_document.specs.Texts.{Texts, texts_in}
 use Rattle.sql_tool_explain.specs.Explanation.{IsExplanation}
-use Rattle.sql_tool_explain.specs.declared.explain.Explained.{Explained}
-use Rattle.sql_tool_explain.specs.declared.explain.Explained.TheVariants as explained
+use Rattle.sql_tool_explain.specs.declared.explanation.Explained.{Explained}
+use Rattle.sql_tool_explain.specs.declared.explanation.Explained.TheVariants as explained
 use Rattle.sql_tool_generate.specs.Summary.{IsSummary}
 use Rattle.sql_tool_guard.specs.Output.{IsGuardedOutput, IsGuardedOutputPrefix}
 use Rattle.sql_tool_guard.specs.Tenants.{TenantDocument, tenant_document}
