@@ -5,7 +5,6 @@ use json::Value;
 use sql_schema::{Base, Schema, SqlType};
 use sql_tool_document::{Wanted, binary_operator, sql_type};
 use sql_tool_place::{Part, Step, parts};
-use sql_build_syntax::{BinaryOperator, Form};
 use std::alloc::{AllocError, Global};
 
 /// A part of a value, and how it is taken away, where it can be: the step at which the value is edited, or none for itself, and how.
@@ -20,6 +19,12 @@ pub(crate) struct Cut<'v, 'a> {
     pub(crate) edited: usize,
 }
 
+/// The type of a condition.
+const TRUTH: SqlType = SqlType {
+    base: Base::Bool,
+    nullable: false,
+};
+
 /// The type that the schema gives a column, by the names at these indexes of an array.
 fn column_type(schema: &Schema, names: &Value<'_>, index: usize) -> Option<SqlType> {
     let table = schema.table(names.at(index)?.as_str()?)?;
@@ -31,10 +36,7 @@ fn column_type(schema: &Schema, names: &Value<'_>, index: usize) -> Option<SqlTy
 fn is_condition(name: &str) -> bool {
     match name {
         "not" | "is_null" | "is_not_null" | "exists" | "eq_any" | "ne_all" => true,
-        name => match binary_operator(name) {
-            Some(BinaryOperator::Compare(_) | BinaryOperator::Join(_)) => true,
-            None => false,
-        },
+        name => binary_operator(name).is_some(),
     }
 }
 
@@ -48,30 +50,23 @@ fn edit_of_expr(schema: &Schema, value: &Value<'_>) -> Option<Edit> {
         "col" => Some(Edit::Fit(column_type(schema, inner, 0)?)),
         "field" => Some(Edit::Fit(column_type(schema, inner, 1)?)),
         "bind" => Some(Edit::Fit(sql_type(inner.at(0)?.as_str()?)?)),
-        name if is_condition(name) => Some(Edit::True),
+        name if is_condition(name) => Some(Edit::Fit(TRUTH)),
         _ => None,
     }
 }
 
 /// How a part is taken away from the value around it.
 fn edit_of(schema: &Schema, whole: Wanted, part: &Part<'_, '_>) -> Option<Edit> {
-    match (whole, part.wanted) {
-        (_, Wanted::Call(_)) | (_, Wanted::Item) | (_, Wanted::Place) => Some(Edit::Drop),
-        (_, Wanted::Flag) | (_, Wanted::Sample) => Some(Edit::Drop),
-        (Wanted::Call(_), Wanted::Expr) | (Wanted::Source, Wanted::Expr) => {
-            match edit_of_expr(schema, part.value) {
-                Some(edit) => Some(edit),
-                None => None,
-            }
+    let is_listed = matches!(part.step, Step::Index(_))
+        && (whole == Wanted::Expr || whole == Wanted::Exprs);
+    match part.wanted {
+        Wanted::Call(_) | Wanted::Item | Wanted::Place | Wanted::Flag | Wanted::Sample => {
+            Some(Edit::Drop)
         }
-        (Wanted::Expr, Wanted::Expr) | (Wanted::Exprs, Wanted::Expr) => {
-            match (edit_of_expr(schema, part.value), part.step) {
-                (Some(edit), _) => Some(edit),
-                (None, Step::Index(_)) => Some(Edit::Drop),
-                (None, Step::Key(_)) => None,
-            }
-        }
-        (_, Wanted::Expr) => edit_of_expr(schema, part.value),
+        Wanted::Expr => match edit_of_expr(schema, part.value) {
+            None if is_listed => Some(Edit::Drop),
+            edit => edit,
+        },
         _ => None,
     }
 }
@@ -122,18 +117,9 @@ pub(crate) fn cuts<'v, 'a>(
             edited: 1,
         })?;
     }
-    let later_first = match wanted {
-        Wanted::Calls(Form::Select | Form::Boxed | Form::Combination) | Wanted::Query => true,
-        _ => false,
-    };
+    let later_first = matches!(wanted, Wanted::Calls(_) | Wanted::Query);
     if later_first {
         all.reverse();
     }
     Ok(all)
 }
-
-/// The type of a truth value.
-pub(crate) const TRUTH: SqlType = SqlType {
-    base: Base::Bool,
-    nullable: false,
-};

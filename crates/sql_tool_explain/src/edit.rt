@@ -11,9 +11,7 @@ use std::alloc::{AllocError, Global};
 pub(crate) enum Edit {
     /// The item or the member is left out.
     Drop,
-    /// `{"bind":["Bool",true]}` stands in the place of a condition.
-    True,
-    /// A value of its type that fits stands in the place of an expression.
+    /// A value of this type that fits stands in the place of an expression: `{"bind":["Bool",true]}` in that of a condition.
     Fit(SqlType),
     /// One side of a join, by its index, stands in the place of the join.
     Side(usize),
@@ -66,13 +64,6 @@ pub(crate) fn bound<'a>(alloc: Global, ty: SqlType) -> Result<Value<'a>, AllocEr
 /// What stands in the place of the value.
 fn instead<'a>(alloc: Global, value: &Value<'a>, edit: Edit) -> Result<Value<'a>, AllocError> {
     match edit {
-        Edit::True => bound(
-            alloc,
-            SqlType {
-                base: Base::Bool,
-                nullable: false,
-            },
-        ),
         Edit::Fit(ty) => bound(alloc, ty),
         Edit::Side(index) => match value.get("join").and_then(|sides| sides.at(index)) {
             Some(side) => copy(alloc, side),

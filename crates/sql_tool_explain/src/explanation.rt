@@ -3,7 +3,8 @@
 ghost use Rattle.std.specs.Prelude.{IfOk, string_bytes};
 ghost use Rattle.sql_tool_explain.specs.Explanation.{IsExplanation};
 
-use crate::blame::Case;
+use crate::blame::{Blamed, Case};
+use crate::bytes::{no_json, no_text};
 use crate::found::shortened;
 use crate::hint::did_you_mean;
 use crate::judge::{Judge, refusal};
@@ -14,14 +15,14 @@ use crate::sides;
 use crate::words;
 use json::{Error, Scratch, Value};
 use sql_build_depth::is_too_deep;
+use sql_dialect::Dialect;
 use sql_tool_build::StatementCache;
 use sql_tool_document::{
-    Document, Refusal, Request, Wanted, parsed, read_document, whole_document,
+    Document, Refusal, Wanted, parsed, read_document, whole_document,
 };
 use sql_tool_guard::{Tenant, TenantDocument, read_tenant};
 use sql_tool_place::{
-    Break, Step, Wrong, first_break, fraction, offset_of, pointer, position_at, unknown_members,
-    wrong_place,
+    Step, Unknown, Wrong, fraction, offset_of, pointer, position_at, unknown_members, wrong_place,
 };
 use std::alloc::{AllocError, Global};
 use std::num::NonZeroUsize;
@@ -52,6 +53,30 @@ impl Explained {
             Explained::Guard => Wanted::Guarded,
             Explained::Audit => Wanted::Texts,
         }
+    }
+}
+
+/// A request that is refused, by its index and its number, and the JSON of its query.
+#[derive(Drop)]
+struct Asked<'q, 'a> {
+    index: usize,
+    number: u64,
+    dialect: Dialect,
+    rule: &'static str,
+    json: &'q Value<'a>,
+}
+
+impl<'a> Asked<'_, 'a> {
+    /// The steps to what these lead to from the query.
+    fn steps(&self, alloc: Global, inner: &[Step<'a>]) -> Result<Vec<Step<'a>>, AllocError> {
+        let mut steps = Vec::new(alloc);
+        steps.push(Step::Key("requests"))?;
+        steps.push(Step::Index(self.index))?;
+        steps.push(Step::Key("query"))?;
+        for step in inner {
+            steps.push(*step)?;
+        }
+        Ok(steps)
     }
 }
 
@@ -134,19 +159,28 @@ impl<'t> Explanation<'t> {
         self.say(wrong.steps.as_slice(), None, says.as_str())
     }
 
+    /// The words of a warning.
+    fn warning(&self, wanted: Wanted, member: &Unknown<'_>) -> Result<String, AllocError> {
+        let alloc = self.alloc;
+        let key = shortened(alloc, member.key)?;
+        if member.is_repeated {
+            return format!(in alloc; "the member \"{key}\" comes again; only its last value counts");
+        }
+        if wanted == Wanted::Document && member.key == "guard" {
+            return String::from_str(
+                alloc,
+                "the member \"guard\" is ignored: build restricts no statement, guard does",
+            );
+        }
+        let hint = did_you_mean(alloc, member.key, member.known)?;
+        format!(in alloc; "the member \"{key}\" is ignored{hint}")
+    }
+
     fn warnings(&mut self, wanted: Wanted, value: &Value<'_>) -> Result<(), AllocError> {
         let alloc = self.alloc;
         let unknown = unknown_members(alloc, wanted, value, MOST_WARNINGS)?;
         for member in unknown.as_slice() {
-            let key = shortened(alloc, member.key)?;
-            let warning = if member.is_repeated {
-                format!(in alloc; "the member \"{key}\" comes again; only its last value counts")?
-            } else if wanted == Wanted::Document && member.key == "guard" {
-                String::from_str(alloc, "the member \"guard\" is ignored: build restricts no statement, guard does")?
-            } else {
-                let hint = did_you_mean(alloc, member.key, member.known)?;
-                format!(in alloc; "the member \"{key}\" is ignored{hint}")?
-            };
+            let warning = self.warning(wanted, member)?;
             self.warn(member.steps.as_slice(), warning.as_str())?;
         }
         if unknown.len() == MOST_WARNINGS {
@@ -156,38 +190,60 @@ impl<'t> Explanation<'t> {
         Ok(())
     }
 
-    /// A line of a request that is refused by that name.
+    /// A line of a name in a request's query that the schema lacks. Whether there is one.
+    fn stranger(
+        &mut self,
+        judge: Judge<'_>,
+        asked: &Asked<'_, '_>,
+    ) -> Result<bool, AllocError> {
+        let alloc = self.alloc;
+        let Some(stranger) = name::stranger(alloc, judge.schema, Wanted::Query, asked.json)? else {
+            return Ok(false);
+        };
+        let says = name::says(alloc, judge.schema, &stranger)?;
+        let steps = asked.steps(alloc, stranger.steps.as_slice())?;
+        self.say(steps.as_slice(), Some((asked.rule, asked.number)), says.as_str())?;
+        Ok(true)
+    }
+
+    /// What is said of the part that is to blame.
+    fn of_blamed(
+        &self,
+        judge: Judge<'_>,
+        asked: &Asked<'_, '_>,
+        blamed: &Blamed<'_, '_>,
+    ) -> Result<String, AllocError> {
+        if asked.rule == "TypeMismatch"
+            && let Some(says) = sides::says(self.alloc, judge.schema, asked.json, blamed.value)?
+        {
+            return Ok(says);
+        }
+        String::from_str(self.alloc, asks(asked.rule))
+    }
+
+    /// A line of a request that is refused.
     fn refusal(
         &mut self,
         judge: Judge<'_>,
-        rule: &'static str,
-        number: u64,
-        request: &Request,
-        json: &Value<'_>,
+        asked: &Asked<'_, '_>,
         left: &mut usize,
     ) -> Result<(), AllocError> {
         let alloc = self.alloc;
-        let index = number.saturating_sub(1) as usize;
-        let mut steps = vec![in alloc; Step::Key("requests"), Step::Index(index), Step::Key("query")]?;
+        let rule = asked.rule;
+        let refused = Some((rule, asked.number));
         if rule == "BadPredicate" {
             let steps = [Step::Key("guard"), Step::Key("predicate")];
-            return self.say(&steps, Some((rule, number)), asks(rule));
+            return self.say(&steps, refused, asks(rule));
         }
-        if rule == "UnknownName"
-            && let Some(stranger) = name::stranger(alloc, judge.schema, Wanted::Query, json)?
-        {
-            let says = name::says(alloc, judge.schema, &stranger)?;
-            for step in stranger.steps.as_slice() {
-                steps.push(*step)?;
-            }
-            return self.say(steps.as_slice(), Some((rule, number)), says.as_str());
+        if rule == "UnknownName" && self.stranger(judge, asked)? {
+            return Ok(());
         }
         let mut case = Case {
             alloc,
             judge,
-            dialect: request.dialect,
+            dialect: asked.dialect,
             rule,
-            query: json,
+            query: asked.json,
             left: *left,
         };
         let blamed = case.blamed()?;
@@ -195,20 +251,11 @@ impl<'t> Explanation<'t> {
         let Some(blamed) = blamed else {
             let asks = asks(rule);
             let says = format!(in alloc; "no part of the query was found without which it is not so: {asks}")?;
-            return self.say(steps.as_slice(), Some((rule, number)), says.as_str());
+            return self.say(asked.steps(alloc, &[])?.as_slice(), refused, says.as_str());
         };
-        for step in blamed.steps.as_slice() {
-            steps.push(*step)?;
-        }
-        let sides = if rule == "TypeMismatch" {
-            sides::says(alloc, judge.schema, json, blamed.value)?
-        } else {
-            None
-        };
-        match sides {
-            Some(says) => self.say(steps.as_slice(), Some((rule, number)), says.as_str()),
-            None => self.say(steps.as_slice(), Some((rule, number)), asks(rule)),
-        }
+        let says = self.of_blamed(judge, asked, &blamed)?;
+        let steps = asked.steps(alloc, blamed.steps.as_slice())?;
+        self.say(steps.as_slice(), refused, says.as_str())
     }
 
     /// Lines of the requests that are refused, up to a number of them.
@@ -242,7 +289,14 @@ impl<'t> Explanation<'t> {
                     schema: cache.schema(),
                     tenant,
                 };
-                self.refusal(judge, rule, number, request, json, &mut left)?;
+                let asked = Asked {
+                    index,
+                    number,
+                    dialect: request.dialect,
+                    rule,
+                    json,
+                };
+                self.refusal(judge, &asked, &mut left)?;
             }
         }
         self.more_refused(refused)
@@ -340,76 +394,6 @@ impl<'t> Explanation<'t> {
 /// The query of the request with that index.
 fn query_at<'v, 'a>(value: &'v Value<'a>, index: usize) -> Option<&'v Value<'a>> {
     value.get("requests")?.at(index)?.get("query")
-}
-
-/// A line of a byte.
-fn byte_line(
-    alloc: Global,
-    bytes: &[u8],
-    offset: usize,
-    says: &str,
-) -> Result<String, AllocError> {
-    let mut text = String::new(alloc);
-    let line = Line {
-        at: None,
-        position: Some(position_at(bytes, offset)),
-        refused: None,
-        says: Some(says),
-        warning: None,
-    };
-    push_line(alloc, &mut text, &line)?;
-    Ok(text)
-}
-
-/// Why a byte begins nothing of JSON.
-fn odd(bytes: &[u8], offset: usize) -> &'static str {
-    match bytes.get(offset) {
-        Some(b'\'') => "texts stand in double quotes",
-        Some(b'/' | b'#') => "JSON has no comments",
-        Some(0xef) if offset == 0 => {
-            "the input begins with a byte order mark (EF BB BF); write it as UTF-8 without one"
-        }
-        Some(b'"') => {
-            "what begins here is no text, has an escape that JSON lacks or a line break in it, does not end, or a comma is missing before it"
-        }
-        Some(b'}' | b']') => "something is missing before this bracket",
-        Some(b',') => "a value is missing before this comma",
-        Some(b':') => "a member's name, a text in double quotes, is missing before this colon",
-        _ => "no value of JSON stands here, or a comma is missing before it",
-    }
-}
-
-/// What is said of bytes that are no JSON from an offset on.
-fn break_says(bytes: &[u8], offset: usize, found: Break) -> &'static str {
-    match found {
-        Break::Empty => "the input is empty",
-        Break::Ended => "the input ends before its value does: a bracket or more are missing",
-        Break::Odd => odd(bytes, offset),
-        Break::LoneComma => "a comma stands before this bracket",
-        Break::KeyWanted => "a member is wanted: a text in double quotes, a colon and a value",
-        Break::NoKeyWanted => "a colon follows this text, which is no member's name here",
-        Break::OtherBracket => "what is open here is closed by the other bracket",
-        Break::Trailing => "the document has ended before this: one run reads one document",
-        Break::TooDeep => "arrays and objects nest deeper than 127 here",
-    }
-}
-
-fn no_text(alloc: Global, bytes: &[u8], offset: usize) -> Result<String, AllocError> {
-    let is_utf16 = bytes.starts_with(&[0xff, 0xfe]) || bytes.starts_with(&[0xfe, 0xff]);
-    let says = if is_utf16 {
-        "the input is UTF-16; write it as UTF-8"
-    } else {
-        "this byte and those after it are no character of UTF-8"
-    };
-    byte_line(alloc, bytes, offset, says)
-}
-
-fn no_json(alloc: Global, json: &str) -> Result<String, AllocError> {
-    let bytes = json.as_bytes();
-    match first_break(alloc, json)? {
-        Some((offset, found)) => byte_line(alloc, bytes, offset, break_says(bytes, offset, found)),
-        None => byte_line(alloc, bytes, 0, "the input is no JSON"),
-    }
 }
 
 /// What is said of bytes to who wants them to be what a command reads: a JSON line for what is wrong with them, each member that is ignored,

@@ -3,6 +3,7 @@
 #![tactic(auto)]
 
 mod blame;
+mod bytes;
 mod cut;
 mod edit;
 mod explanation;
