@@ -64,7 +64,7 @@ IsClashAt w d steps =
 abbrev pub IsFractionAt : Data → List Step → Type 0
 IsFractionAt d steps = (m : Num) × (followed steps d ≡ Some (number m)) × (is_float m ≡ true)
 
--- ---- the laws, proved in `sql_tool_place`
+-- ---- laws
 
 -- No value with a wrong place has its form: where bytes are a document, no place is wrong.
 abbrev pub WrongPlacesAreWrong : Type 0

@@ -6,6 +6,7 @@
 mod bytes;
 mod clash;
 mod known;
+mod laws;
 mod part;
 mod position;
 mod step;
@@ -16,6 +17,7 @@ mod wrong;
 
 pub use bytes::{Break, first_break};
 pub use known::{known_members, required_members};
+pub use laws::{pointers_find, unknown_members_change_nothing, wrong_places_are_wrong};
 pub use part::{Part, parts};
 pub use position::{Position, offset_of, position_at};
 pub use step::{Step, copied, pointer};
