@@ -55,6 +55,8 @@ INNER: dict[str, set[str]] = {
     # parts of `run`
     "sql_tool_audit": {"*"},
     "sql_tool_document": {"*"},
+    "sql_tool_place": {"*"},
+    "sql_tool_explain": {"explain"},
     "sql_tool_generate": {"*"},
     "sql_tool_guard": {"*"},
     "sql_tool_build": {"*"},

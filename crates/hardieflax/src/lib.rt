@@ -141,6 +141,7 @@ pub use sql_build_law::built_statements_know_their_names;
 
 /// The program's commands as one call, over any source and any sink of bytes.
 pub mod program {
+    pub use sql_tool_explain::Explained;
     pub use sql_tool_run::{Command, LIMIT, MAX_REQUESTS, Status, run};
     pub use sql_tool_stream::{
         CountedReader, Failed, MemorySink, MemorySource, Sink, Source, StdSink, StdSource,

@@ -3,8 +3,15 @@
 
 use sql_build::{statement, statement_to_restrict};
 use sql_dialect::Dialect;
-use sql_tool_document::{Document, read_document};
+use json::Scratch;
+use sql_tool_document::{
+    Counts, Document, Wanted, has_form, parsed, read_document, read_query, refusal_up_to, whole_document,
+};
+use sql_tool_explain::{Explained, explain};
 use sql_tool_generate::generate;
+use sql_tool_place::{
+    copied, first_break, fraction, offset_of, parts, pointer, unknown_members, wrong_place,
+};
 use sql_tool_read::reading_line;
 use sql_tool_run::{Status, run};
 use sql_tool_stream::{MemorySink, SureSource, read_all};
@@ -73,10 +80,64 @@ fn lines(alloc: Global) -> Result<(), Fail> {
     }
 }
 
+fn forms(alloc: Global) -> Result<(), Fail> {
+    let mut scratch = Scratch::new(alloc);
+    let Ok(value) = parsed(alloc, DOCUMENT, &mut scratch) else {
+        return Err("no JSON")?;
+    };
+    let schema = value.get("schema").ok_or("no schema")?;
+    let request = value.get("requests").and_then(|all| all.at(0)).ok_or("no request")?;
+    let query = read_query(alloc, request.get("query").ok_or("no query")?)?;
+    drop(query);
+    let document = whole_document(alloc, &value)?;
+    let count = document.requests.as_slice().len();
+    let all = Counts {
+        tables: 1,
+        joinables: 0,
+        together: 0,
+    };
+    let is_schema = has_form(alloc, Wanted::Schema, schema)?;
+    if is_schema && count == 1 && refusal_up_to(alloc, schema, all)?.is_none() {
+        Ok(())
+    } else {
+        Err("another document")?
+    }
+}
+
+fn places(alloc: Global) -> Result<(), Fail> {
+    let mut scratch = Scratch::new(alloc);
+    let Ok(value) = parsed(alloc, DOCUMENT, &mut scratch) else {
+        return Err("no JSON")?;
+    };
+    let wrong = wrong_place(alloc, Wanted::Guarded, &value)?.ok_or("no place")?;
+    let steps = copied(alloc, wrong.steps.as_slice())?;
+    let at = pointer(alloc, steps.as_slice())?;
+    let offset = offset_of(alloc, DOCUMENT, steps.as_slice())?;
+    let count = parts(alloc, Wanted::Document, &value)?.len();
+    let is_right = at.is_empty() && offset == 0 && count == 2;
+    let is_whole = fraction(alloc, &value)?.is_none() && first_break(alloc, DOCUMENT)?.is_none();
+    if is_right && is_whole && unknown_members(alloc, Wanted::Document, &value, 1)?.is_empty() {
+        Ok(())
+    } else {
+        Err("another place")?
+    }
+}
+
+fn explained(alloc: Global) -> Result<(), Fail> {
+    if explain(alloc, Explained::Build, DOCUMENT.as_bytes())?.is_empty() {
+        Ok(())
+    } else {
+        Err("a line")?
+    }
+}
+
 #[test]
 fn every_call_once(rt: HostRuntime) -> Result<(), Fail> {
     let alloc = rt.alloc();
     documents(alloc)?;
+    forms(alloc)?;
+    places(alloc)?;
+    explained(alloc)?;
     lines(alloc)?;
     the_program(alloc)
 }
