@@ -138,11 +138,15 @@ IsIgnored e bytes l =
     × (l.pointer ≡ Some (pointer_text (steps ++ key k ∷ [])))
     × ((v : Wanted) × (o : Data) × Leads (wanted_by e) d steps v o × (has k o ≡ true))
 
+-- The line is of the query of some request, at which a run ends NoMemory, since it nests too deep (which is tested only).
+abbrev pub IsOfQuery : Line → Type 0
+IsOfQuery l = (n : ℕ) × (l.pointer ≡ Some (pointer_text (key (codes "requests") ∷ (index n ∷ (key (codes "query") ∷ [])))))
+
 -- What a line says is so.
 abbrev pub IsTrue : Explained → List ℕ → Line → Said → Type 0
 IsTrue e bytes l (wrong text) = IsRightly e bytes l ⊎ IsWrongGuard e bytes l
 IsTrue e bytes l (refused number name text) = IsRefusal e bytes l number name
-IsTrue e bytes l (warning text) = IsIgnored e bytes l
+IsTrue e bytes l (warning text) = IsIgnored e bytes l ⊎ IsOfQuery l
 IsTrue e bytes l (note text) = Unit {0}
 
 -- a line that says that the input is not what is wanted

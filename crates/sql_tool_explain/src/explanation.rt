@@ -14,7 +14,8 @@ use crate::rule::asks;
 use crate::sides;
 use crate::words;
 use json::{Error, Scratch, Value};
-use sql_build_depth::is_too_deep;
+use sql_build_depth::{is_too_deep, is_too_deep_restricted};
+use sql_build_syntax::Query;
 use sql_dialect::Dialect;
 use sql_tool_build::StatementCache;
 use sql_tool_document::{
@@ -273,9 +274,9 @@ impl<'t> Explanation<'t> {
         let mut refused = 0usize;
         for (index, request) in requests.as_slice().iter().enumerate() {
             let number = (index as u64).saturating_add(1);
-            if is_too_deep(&request.query) {
+            if is_deep(&request.query, tenant) {
                 let steps = [Step::Key("requests"), Step::Index(index), Step::Key("query")];
-                return self.say(&steps, None, "the query nests deeper than 2,500 levels: a run ends NoMemory before the line of its request");
+                return self.warn(&steps, TOO_DEEP);
             }
             let Some(rule) = refusal(alloc, &mut cache, tenant, request.dialect, &request.query)?
             else {
@@ -316,8 +317,10 @@ impl<'t> Explanation<'t> {
     /// The name in the guard that the schema lacks, where there is one.
     fn guard_name(&mut self, value: &Value<'_>) -> Result<(), AllocError> {
         let alloc = self.alloc;
-        let Ok(document) = read_document(alloc, self.json.as_bytes()) else {
-            return Ok(());
+        let document = match read_document(alloc, self.json.as_bytes()) {
+            Ok(document) => document,
+            Err(Refusal::NotADocument) => return Ok(()),
+            Err(Refusal::NoMemory) => return Err(AllocError),
         };
         let Some(guard) = value.get("guard") else {
             return Ok(());
@@ -388,6 +391,18 @@ impl<'t> Explanation<'t> {
             Explained::Build => self.document(value),
             Explained::Guard | Explained::Audit => self.other(explained, value),
         }
+    }
+}
+
+/// What is said of a query that is too deep.
+const TOO_DEEP: &str =
+    "the query nests deeper than 2,500 levels: a run ends NoMemory before the line of its request";
+
+/// Whether the statement of a query nests too deep, restricted where there is a tenant.
+fn is_deep(query: &Query, tenant: Option<&Tenant>) -> bool {
+    match tenant {
+        None => is_too_deep(query),
+        Some(_) => is_too_deep_restricted(query),
     }
 }
 
