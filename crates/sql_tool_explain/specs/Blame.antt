@@ -1,5 +1,5 @@
 -- Which part of a request breaks a rule.
-use Rattle.std.specs.Prelude.{◌≡◌, ◌≢◌, ℕ, zero, suc, List, [], ◌∷◌, ◌++◌, Option, Some, None}
+use Rattle.std.specs.Prelude.{◌≡◌, ◌≢◌, ◌⊎◌, codes, ℕ, zero, suc, List, [], ◌∷◌, ◌++◌, Option, Some, None}
 use Rattle.serde_json.specs.Data.{Data}
 use Rattle.serde_json.specs.Find.{get, at, as_str}
 use Rattle.sql_build_syntax.specs.Tree.{Query}
@@ -51,7 +51,7 @@ table_of_name schema name = name >>= table_named schema.tables
 
 -- What of the value the step leads to a name that the schema lacks: a source's table, or the table or the column of a column's name.
 abbrev pub IsStranger : Declarations → Wanted → Data → Step → Type 0
-IsStranger schema wanted.Source d (key k) = IsNoTable schema (get k d >>= as_str)
+IsStranger schema wanted.Source d (key k) = ((k ≡ codes "table") ⊎ (k ≡ codes "of")) × IsNoTable schema (get k d >>= as_str)
 IsStranger schema wanted.ColumnName d (index zero) = IsNoTable schema (at 0 d >>= as_str)
 IsStranger schema wanted.ColumnName d (index (suc zero)) = lacks_column (table_of_name schema (at 0 d >>= as_str)) (at 1 d >>= as_str)
 IsStranger schema wanted.FieldName d (index (suc zero)) = IsNoTable schema (at 1 d >>= as_str)
