@@ -10,7 +10,6 @@ use Rattle.sql_leaf.specs.declared.table_source.JoinKind.TheVariants.{Inner}
 use Rattle.sql_leaf.specs.declared.limit_offset.LimitOffsetClause.{LimitOffsetClause}
 use Rattle.sql_leaf.specs.declared.marks.Marks.{Marks}
 use Rattle.sql_node.specs.Tree.{Origin, Form, unboxed, boxed, Expr, MaybeExpr, an_expr, Source, join, From, no_source, from, Distinct, Order, select}
-use Rattle.sql_origin.specs.Leaves.{leaves}
 use Rattle.sql_origin.specs.Origins.{a_table}
 use Rattle.sql_origin.proofs.OriginLaws.{same-origin_itself, table-decides}
 use Rattle.sql_rules.specs.Lists.{Each}
@@ -26,7 +25,7 @@ use Rattle.sql_rows_meaning.proofs.Functional.{Filtered-is}
 use Rattle.sql_rows_meaning.proofs.Kept.{Clean, in_widest}
 use Rattle.sql_rows_meaning.proofs.Lists.{Each-weaken}
 use Rattle.sql_guard_law.specs.Guarded.{guarded_maybe, guarded_source, guarded_from}
-use Rattle.sql_guard_law.specs.Restricted.{predicates, predicates_from, with_all, open_leaves, if_same}
+use Rattle.sql_guard_law.specs.Restricted.{predicates_from, with_all, open_leaves, if_same}
 use Rattle.sql_guard_law.specs.Tenant.{IsCut}
 use Rattle.sql_guard_law.proofs.Cuts.{narrowed, widened}
 use Rattle.sql_guard_law.proofs.Evaluate.{eval, true_at, holds-true, aimed, aimed-eval, aimed-own}
