@@ -1,10 +1,9 @@
 -- A loop over the nodes from the first to the last that passes over what is inside nodes of some kinds.
-use Rattle.std.proofs.lemmas.List.{drop_all, drop_more, drop-drop}
-use Rattle.std.proofs.Common.{◌&&◌, ◌-◌, ◌⊎◌, inl, inr, ◌≡◌, drop, get_or, length, if◌then◌else◌, zero, ℕ, suc, ◌+◌, ◌<◌, ◌≤◌, true, false, Bool, cond, List, [], ◌∷◌, ◌++◌, refl, sym, ap, ◌∙◌, arith, ltb, append_assoc, append-nil}
+use Rattle.std.proofs.Common.{◌≡◌, ℕ, suc, ◌+◌, ◌<◌, ◌≤◌, true, false, Bool, cond, List, [], ◌∷◌, ◌++◌, refl, sym, ap, ◌∙◌, arith, ltb, append_assoc, append-nil}
 use Rattle.sql_flat_law.specs.Rose.{Rose, node, Roses, none, more, size, sizes, flat, flats}
 use Rattle.sql_flat_law.specs.Forward as loop
 use Rattle.sql_flat_law.specs.Folds.{gathered, gathered_each}
-use Rattle.std.proofs.lemmas.Bool.{lt-ltb, ltb-false, ltb-true, le-ltb}
+use Rattle.std.proofs.lemmas.Bool.{lt-ltb, le-ltb}
 
 module _ {K N B : Type 0} (make : K → ℕ → N) (kind : N → K) (end : N → ℕ) (at : K → List B) (passed : K → Bool) where
   abbrev next : Bool → ℕ → ℕ → ℕ
@@ -12,9 +11,6 @@ module _ {K N B : Type 0} (make : K → ℕ → N) (kind : N → K) (end : N →
 
   abbrev gather : ℕ → ℕ → ℕ → List N → List B
   gather = loop.gather kind end at passed
-
-  abbrev after : ℕ → N → ℕ
-  after = loop.after kind end at passed
 
   pub gather-stops : (e u i : ℕ) (xs : List N) → e ≤ i → gather e u i xs ≡ []
   gather-stops e u i [] h = refl
@@ -32,54 +28,6 @@ module _ {K N B : Type 0} (make : K → ℕ → N) (kind : N → K) (end : N →
           → gather e (next b (end x) u) (i + 1) xs ≡ gather e (next b (end x) w) (i + 1) xs
       by_test true g = refl
       by_test false g = g
-
-  -- nothing is gathered before the index u
-  gather-jumps : (k e u i : ℕ) (xs : List N) → i + k ≡ u → gather e u i xs ≡ gather e u u (drop k xs)
-  gather-jumps zero e u i xs h = ap (λ j. gather e u j xs) (omega arith)
-  gather-jumps (suc k) e u i [] h = ap (gather e u u) (sym (drop_all (suc k) [] (omega arith)))
-  gather-jumps (suc k) e u i (x ∷ xs) h =
-      rw (lt-ltb i u (omega arith)) (by_test (ltb i e) refl (gather-jumps k e u (i + 1) xs (omega arith)))
-    where
-      by_test : (b : Bool) → ltb i e ≡ b → gather e u (i + 1) xs ≡ gather e u u (drop k xs)
-          → cond b (gather e u (i + 1) xs) [] ≡ gather e u u (drop k xs)
-      by_test true q g = g
-      by_test false q g =
-          sym (gather-stops e u u (drop k xs) (omega (arith, ltb-false i e q)))
-
-  pub after-later : (p : ℕ) (x : N) → p < after p x
-  after-later p x = by_test (passed (kind x)) (ltb p (end x)) refl
-    where
-      by_test : (b c : Bool) → ltb p (end x) ≡ c → p < (if b && c then end x else p + 1)
-      by_test false c h = omega arith
-      by_test true true h = ltb-true p (end x) h
-      by_test true false h = omega arith
-
-  -- a turn of the loop
-  pub gather-turn : (e p : ℕ) (nodes : List N) (x : N) → p < e → p < length nodes → x ≡ get_or nodes p x
-      → gather e p p (drop p nodes) ≡ at (kind x) ++ gather e (after p x) (after p x) (drop (after p x) nodes)
-  gather-turn e p nodes x h g is =
-      ap (gather e p p) (drop_more nodes p x g ∙ ap (λ y. y ∷ drop (p + 1) nodes) (sym is))
-      ∙ rw (lt-ltb p e h, le-ltb p p (omega arith))
-      (ap (λ l. at (kind x) ++ l) (by_test (passed (kind x)) (ltb p (end x)) refl))
-    where
-      by_test : (b c : Bool) → ltb p (end x) ≡ c
-          → gather e (next b (end x) p) (p + 1) (drop (p + 1) nodes)
-          ≡ gather e (if b && c then end x else p + 1) (if b && c then end x else p + 1)
-          (drop (if b && c then end x else p + 1) nodes)
-      by_test false c q = gather-reached e p (p + 1) (p + 1) (drop (p + 1) nodes) (omega arith) (omega arith)
-      by_test true true q =
-          let l : p < end x = ltb-true p (end x) q in
-          gather-jumps (end x - (p + 1)) e (end x) (p + 1) (drop (p + 1) nodes) (omega arith)
-          ∙ ap (gather e (end x) (end x))
-          (drop-drop (end x - (p + 1)) (p + 1) nodes ∙ ap (λ m. drop m nodes) (omega arith))
-      by_test true false q =
-          gather-reached e (end x) (p + 1) (p + 1) (drop (p + 1) nodes) (omega (arith, ltb-false p (end x) q))
-          (omega arith)
-
-  -- there is nothing behind the last node
-  pub gather-ends : (e u i : ℕ) (nodes : List N) → (e ≤ i) ⊎ (length nodes ≤ i) → gather e u i (drop i nodes) ≡ []
-  gather-ends e u i nodes (inl h) = gather-stops e u i (drop i nodes) h
-  gather-ends e u i nodes (inr h) = ap (gather e u i) (drop_all i nodes h)
 
   module _ (kind-make : (k : K) (e : ℕ) → kind (make k e) ≡ k) (end-make : (k : K) (e : ℕ) → end (make k e) ≡ e) where
     mutual

@@ -1,5 +1,5 @@
 -- A loop over the nodes from the first to the last that passes over what is inside nodes of some kinds.
-use Rattle.std.specs.Prelude.{ℕ, ◌+◌, true, false, Bool, ◌&&◌, cond, if◌then◌else◌, List, [], ◌∷◌, ◌++◌}
+use Rattle.std.specs.Prelude.{ℕ, ◌+◌, true, false, Bool, cond, List, [], ◌∷◌, ◌++◌}
 use Rattle.std.proofs.Common.{ltb}
 
 module _ {K N B : Type 0} (kind : N → K) (end : N → ℕ) (at : K → List B) (passed : K → Bool) where
@@ -16,7 +16,3 @@ module _ {K N B : Type 0} (kind : N → K) (end : N → ℕ) (at : K → List B)
       (cond (ltb i u) (gather e u (i + 1) xs)
       (at (kind x) ++ gather e (next (passed (kind x)) (end x) u) (i + 1) xs))
       []
-
-  -- the index of the node after the one at p that is not passed over
-  abbrev pub after : ℕ → N → ℕ
-  after p x = if passed (kind x) && ltb p (end x) then end x else p + 1

@@ -1,14 +1,16 @@
 -- Tests of the nodes of a list that read ahead are tests of the nodes of its tree by their children.
-use Rattle.std.proofs.Common.{◌≡◌, ℕ, suc, ◌+◌, ◌<◌, ◌≤◌, ◌⊎◌, Bool, true, false, ◌||◌, List, [], ◌++◌, get_or, length, refl, sym, ap, ◌∙◌, arith}
-use Rattle.std.specs.List.{list_any}
+use Rattle.std.proofs.Common.{◌≡◌, ℕ, suc, ◌+◌, Bool, true, false, cond, ◌||◌, List, [], ◌∷◌, ◌++◌, drop, refl, sym, ap, ◌∙◌, arith, ltb}
+use Rattle.std.specs.List.{flat_map, list_any}
 use Rattle.std.proofs.lemmas.List.Folds.{list_any-append}
 use Rattle.sql_flat_law.specs.Rose.{Rose, node, Roses, none, more, size, sizes, flat, flats}
 use Rattle.sql_flat_law.specs.Folds.{gathered_each, sites, sites_of}
-use Rattle.sql_flat_law.proofs.Forward.{after-later, gather-ends, gather-turn, gathers-kids}
+use Rattle.sql_flat_law.specs.Forward.{gather}
+use Rattle.sql_flat_law.proofs.Forward.{gathers-kids}
 use Rattle.sql_flat.specs.Flat.{flat_node}
 use Rattle.sql_flat.specs.declared.kind.FlatKind.{FlatKind}
 use Rattle.sql_flat.specs.declared.kind.FlatNode.{FlatNode}
-use Rattle.sql_rules_check.specs.inside.Ahead.{after_at, any_ahead, any_over, any_over_each, gathered_behind, gathered_from}
+use Rattle.sql_rules_check.specs.inside.Ahead.{any_ahead, any_over, any_over_each, gathered_behind, gathered_from}
+use Rattle.sql_rules_check.specs.inside.Kids.{met, node_at, nodes_from}
 use Rattle.sql_rules_check.specs.inside.Known.{Known, known_below}
 use Rattle.sql_rules_check.specs.inside.Lists.{kind_of, end_of}
 
@@ -70,13 +72,22 @@ module _ {B : Type 0} (at : FlatKind → List B) (passed : FlatKind → Bool) wh
       ≡ gathered_each at passed ts
   behind-kids n k ts rest = gathers-kids flat_node kind_of end_of at passed (λ _ _. refl) (λ _ _. refl) n ts rest
 
-  pub gathered-turn : (e p : ℕ) (nodes : List FlatNode) (x : FlatNode) → p < e → p < length nodes → x ≡ get_or nodes p x
-      → gathered_from at passed e p nodes ≡ at x.kind ++ gathered_from at passed e (after_at at passed p x) nodes
-  gathered-turn e p nodes x h g is = gather-turn flat_node kind_of end_of at passed e p nodes x h g is
+  -- what is gathered is what each of the nodes gives that are met
+  gathered-met : (e u i : ℕ) (xs : List FlatNode)
+      → gather kind_of end_of at passed e u i xs ≡ flat_map (λ c. at c.1.kind) (met passed node_at e u i xs)
+  gathered-met e u i [] = refl
+  gathered-met e u i (x ∷ xs) =
+      let w = cond (passed x.kind) x.end u in
+      by_tests (ltb i e) (ltb i u) _ _ (met passed node_at e u (i + 1) xs) (met passed node_at e w (i + 1) xs)
+      (gathered-met e u (i + 1) xs) (gathered-met e w (i + 1) xs)
+    where
+      by_tests : (b c : Bool) (us vs : List B) (ps qs : List (ℕ × FlatNode)) → us ≡ flat_map (λ c. at c.1.kind) ps
+          → vs ≡ flat_map (λ c. at c.1.kind) qs
+          → cond b (cond c us (at x.kind ++ vs)) [] ≡ flat_map (λ c. at c.1.kind) (cond b (cond c ps ((i, x) ∷ qs)) [])
+      by_tests true true us vs ps qs h g = h
+      by_tests true false us vs ps qs h g = ap (λ l. at x.kind ++ l) g
+      by_tests false c us vs ps qs h g = refl
 
-  pub gathered-end : (e p : ℕ) (nodes : List FlatNode) → (e ≤ p) ⊎ (length nodes ≤ p)
-      → gathered_from at passed e p nodes ≡ []
-  gathered-end e p nodes h = gather-ends flat_node kind_of end_of at passed e p p nodes h
-
-  pub gathered-later : (p : ℕ) (x : FlatNode) → p < after_at at passed p x
-  gathered-later p x = after-later flat_node kind_of end_of at passed p x
+  pub gathered-over : (e p : ℕ) (nodes : List FlatNode)
+      → flat_map (λ c. at c.1.kind) (nodes_from passed e p nodes) ≡ gathered_from at passed e p nodes
+  gathered-over e p nodes = sym (gathered-met e p p (drop p nodes))

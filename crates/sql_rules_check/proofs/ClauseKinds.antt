@@ -1,8 +1,8 @@
 -- Incompatible, by a test of select statements and the clauses that they have.
-use Rattle.std.proofs.Common.{◌≡◌, ◌⊎◌, ℕ, suc, ◌+◌, ◌<◌, ◌≤◌, List, [], ◌++◌, Bool, true, false, not, ◌&&◌, ◌||◌, length, get_or, inl, inr, refl, sym, ap, ◌∙◌}
+use Rattle.std.proofs.Common.{◌≡◌, ℕ, suc, ◌+◌, List, [], ◌∷◌, ◌++◌, Bool, true, false, not, ◌&&◌, ◌||◌, inl, inr, refl, sym, ap, ◌∙◌}
 use Rattle.std.specs.Prelude.{IsTrue}
 use Rattle.std.specs.Bool.{Decides}
-use Rattle.std.specs.List.{list_any}
+use Rattle.std.specs.List.{flat_map, list_any}
 use Rattle.std.proofs.lemmas.Bool.{false≢true}
 use Rattle.std.proofs.lemmas.Bool.Decides.{Decides-and, Decides-not, Decides-or}
 use Rattle.std.proofs.lemmas.List.Folds.{list_any-append}
@@ -21,17 +21,18 @@ use Rattle.sql_flat.specs.declared.kind.FlatKind.{FlatKind}
 use Rattle.sql_flat.specs.declared.kind.FlatKind.TheVariants as K
 use Rattle.sql_flat.specs.declared.kind.FlatNode.{FlatNode}
 use Rattle.sql_flat.specs.declared.kind.Selecting.{Selecting}
-use Rattle.sql_rules_check.specs.inside.Ahead.{after_at, any_ahead, gathered_from}
-use Rattle.sql_rules_check.specs.inside.Clauses.{all_passed, clash, clash_in, clause_at, clauses_in, has_lock, incompatible, incompatible_at, incompatible_by, is_distinct, is_group, is_having}
+use Rattle.sql_rules_check.specs.inside.Ahead.{any_ahead, gathered_from}
+use Rattle.sql_rules_check.specs.inside.Clauses.{clash, clash_in, clause_at, clauses_in, has_lock, incompatible, incompatible_at, incompatible_by, is_distinct, is_group, is_having}
+use Rattle.sql_rules_check.specs.inside.Kids.{all_passed, nodes_from}
 use Rattle.sql_rules_check.specs.inside.Known.{Known}
 use Rattle.sql_rules_check.specs.inside.Views.{Views}
 use Rattle.sql_rules_check.proofs.Absent.{Never, NoClause, NoCombination, NoExpr, NoSource, no-any-expr, no-from, no-order, no-positions}
-use Rattle.sql_rules_check.proofs.Ahead.{behind-kids, gathered-end, gathered-turn, or-assoc, or-false}
+use Rattle.sql_rules_check.proofs.Ahead.{behind-kids, gathered-over, or-false}
 use Rattle.sql_rules_check.proofs.Decided.{decides-ahead, decides-rule}
 use Rattle.sql_rules_check.proofs.Seen as seen
 use Rattle.sql_rules_check.proofs.SourceLeaves.{select_roses}
 
--- ---- a turn of the loop over the clauses of a select statement
+-- ---- the loop over the clauses of a select statement
 
 one-group : (k : FlatKind) → list_any is_group (clause_at k) ≡ is_group k
 one-group K.GroupBy = refl
@@ -43,44 +44,32 @@ one-having K.GroupBy = refl
 one-having K.Having = refl
 one-having _ = refl
 
-turn : (p : FlatKind → Bool) → ((k : FlatKind) → list_any p (clause_at k) ≡ p k) → (e i : ℕ) (nodes : List FlatNode)
-    (x : FlatNode) → i < e → i < length nodes → x ≡ get_or nodes i x
-    → list_any p (gathered_from clause_at all_passed e i nodes)
-    ≡ (p x.kind || list_any p (gathered_from clause_at all_passed e (after_at clause_at all_passed i x) nodes))
-turn p one e i nodes x h g is =
-    let behind = gathered_from clause_at all_passed e (after_at clause_at all_passed i x) nodes in
-    ap (list_any p) (gathered-turn clause_at all_passed e i nodes x h g is)
-    ∙ list_any-append p (clause_at x.kind) behind ∙ ap (λ b. b || list_any p behind) (one x.kind)
+pub any-more : {X : Type 0} (p : X → Bool) (xs : List X) (x : X) → (list_any p xs || p x) ≡ list_any p (xs ++ x ∷ [])
+any-more p xs x = sym (list_any-append p xs (x ∷ []) ∙ ap (λ b. list_any p xs || b) (or-false (p x)))
 
-pub group-turn : (e i : ℕ) (nodes : List FlatNode) (x : FlatNode) → i < e → i < length nodes → x ≡ get_or nodes i x
-    → list_any is_group (gathered_from clause_at all_passed e i nodes)
-    ≡ (is_group x.kind
-    || list_any is_group (gathered_from clause_at all_passed e (after_at clause_at all_passed i x) nodes))
-group-turn = turn is_group one-group
+module _ (p : FlatKind → Bool) (one : (k : FlatKind) → list_any p (clause_at k) ≡ p k) where
+  flat : (cs : List (ℕ × FlatNode))
+      → list_any (λ c. p c.1.kind) cs ≡ list_any p (flat_map (λ c. clause_at c.1.kind) cs)
+  flat [] = refl
+  flat (c ∷ cs) =
+      (λ i. sym (one c.1.kind) i || flat cs i)
+      ∙ sym (list_any-append p (clause_at c.1.kind) (flat_map (λ c. clause_at c.1.kind) cs))
 
-pub having-turn : (e i : ℕ) (nodes : List FlatNode) (x : FlatNode) → i < e → i < length nodes → x ≡ get_or nodes i x
-    → list_any is_having (gathered_from clause_at all_passed e i nodes)
-    ≡ (is_having x.kind
-    || list_any is_having (gathered_from clause_at all_passed e (after_at clause_at all_passed i x) nodes))
-having-turn = turn is_having one-having
+  over : (e i : ℕ) (nodes : List FlatNode)
+      → list_any (λ c. p c.1.kind) (nodes_from all_passed e i nodes)
+      ≡ list_any p (gathered_from clause_at all_passed e i nodes)
+  over e i nodes =
+      flat (nodes_from all_passed e i nodes) ∙ ap (list_any p) (gathered-over clause_at all_passed e i nodes)
 
--- one more clause is noted
-pub adds-clause : (p : FlatKind → Bool) (e i : ℕ) (nodes : List FlatNode) (x : FlatNode) (noted more all : Bool)
-    → list_any p (gathered_from clause_at all_passed e i nodes)
-    ≡ (p x.kind || list_any p (gathered_from clause_at all_passed e (after_at clause_at all_passed i x) nodes))
-    → (noted || list_any p (gathered_from clause_at all_passed e i nodes)) ≡ all → more ≡ (noted || p x.kind)
-    → (more || list_any p (gathered_from clause_at all_passed e (after_at clause_at all_passed i x) nodes)) ≡ all
-adds-clause p e i nodes x noted more all one held is =
-    let behind = list_any p (gathered_from clause_at all_passed e (after_at clause_at all_passed i x) nodes) in
-    ap (λ b. b || behind) is ∙ or-assoc noted (p x.kind) behind ∙ ap (λ b. noted || b) (sym one) ∙ held
+pub groups-over : (e i : ℕ) (nodes : List FlatNode)
+    → list_any (λ c. is_group c.1.kind) (nodes_from all_passed e i nodes)
+    ≡ list_any is_group (gathered_from clause_at all_passed e i nodes)
+groups-over = over is_group one-group
 
--- and none is left
-pub ends-clauses : (p : FlatKind → Bool) (e i : ℕ) (nodes : List FlatNode) (noted all : Bool)
-    → (e ≤ i) ⊎ (length nodes ≤ i) → (noted || list_any p (gathered_from clause_at all_passed e i nodes)) ≡ all
-    → noted ≡ all
-ends-clauses p e i nodes noted all h held =
-    sym (or-false noted)
-    ∙ ap (λ ks. noted || list_any p ks) (sym (gathered-end clause_at all_passed e i nodes h)) ∙ held
+pub havings-over : (e i : ℕ) (nodes : List FlatNode)
+    → list_any (λ c. is_having c.1.kind) (nodes_from all_passed e i nodes)
+    ≡ list_any is_having (gathered_from clause_at all_passed e i nodes)
+havings-over = over is_having one-having
 
 -- ---- the clauses of a select statement
 

@@ -1,7 +1,6 @@
--- Turns of the loops over a select statement's clauses, and over the nodes of one.
-use Rattle.std.proofs.Common.{◌≡◌, ◌⊎◌, ℕ, suc, ◌+◌, ◌<◌, ◌≤◌, ◌||◌, Bool, false, List, [], ◌∷◌, ◌++◌, Option, drop, get_or, length, refl, sym, ap, ◌∙◌}
-use Rattle.std.specs.List.{list_any}
-use Rattle.std.proofs.lemmas.List.{drop_more}
+-- What the loops over a select statement's clauses give, and over the nodes of one.
+use Rattle.std.proofs.Common.{◌≡◌, ℕ, suc, ◌+◌, ◌||◌, Bool, List, [], ◌∷◌, ◌++◌, Option, Some, option_map, map, drop, refl, sym, ap, ◌∙◌}
+use Rattle.std.specs.List.{flat_map, list_any}
 use Rattle.std.proofs.lemmas.List.Folds.{list_any-append}
 use Rattle.sql_flat_law.specs.Rose.{Roses, node, sizes, flats}
 use Rattle.sql_flat_law.specs.Forward.{gather}
@@ -13,12 +12,11 @@ use Rattle.sql_flat.specs.Flat.{flat_node}
 use Rattle.sql_flat.specs.declared.kind.FlatKind.{FlatKind}
 use Rattle.sql_flat.specs.declared.kind.FlatKind.TheVariants as K
 use Rattle.sql_flat.specs.declared.kind.FlatNode.{FlatNode}
-use Rattle.sql_rules_check.specs.inside.Ahead.{after_at}
 use Rattle.sql_rules_check.specs.inside.Grouping.{Piece, Sums, adding, all_give, field_at, field_passed, fields_from, group_in, group_or, is_aggregate, kind_gives, misgrouped, misgrouped_at, misgrouped_by, own_at, own_from, own_passed, piece_at, piece_of, summed}
-use Rattle.sql_rules_check.specs.inside.Kids.{kids_from, past}
+use Rattle.sql_rules_check.specs.inside.Kids.{all_passed, kids_from, nodes_from}
 use Rattle.sql_rules_check.specs.inside.Lists.{kind_of, end_of}
-use Rattle.sql_rules_check.proofs.Ahead.{behind-kids, gathered-end, gathered-turn}
-use Rattle.sql_rules_check.proofs.Kids.{kids-below, kids-end, kids-turn}
+use Rattle.sql_rules_check.proofs.Ahead.{behind-kids, gathered-over}
+use Rattle.sql_rules_check.proofs.Kids.{kids-below, met-over}
 
 pub mix-unit : (a : v.Verdict) → mix a v.Never ≡ a
 mix-unit v.No = refl
@@ -55,92 +53,86 @@ other-group : (k : FlatKind) (fs : List Field) (rest : Option (List Field)) → 
 other-group K.GroupBy fs rest other = absurd (other refl)
 other-group _ fs rest other = refl
 
+-- ---- what the loops over the nodes of a list give
+
+abbrev pub kinds_of : List (ℕ × FlatNode) → List FlatKind
+kinds_of = map (λ c. c.1.kind)
+
+-- of one more node
+pub give-more : (g : Option (List Field)) (cs : List (ℕ × FlatNode)) (c : ℕ × FlatNode)
+    → mix (all_give g (kinds_of cs)) (kind_gives g c.1.kind) ≡ all_give g (kinds_of (cs ++ c ∷ []))
+give-more g [] c = sym (mix-unit (kind_gives g c.1.kind))
+give-more g (d ∷ cs) c =
+    mix-mix (kind_gives g d.1.kind) (all_give g (kinds_of cs)) (kind_gives g c.1.kind)
+    ∙ ap (mix (kind_gives g d.1.kind)) (give-more g cs c)
+
+any-flat : {X Y : Type 0} (test : Y → Bool) (f : X → List Y) (xs : List X)
+    → list_any (λ x. list_any test (f x)) xs ≡ list_any test (flat_map f xs)
+any-flat test f [] = refl
+any-flat test f (x ∷ xs) =
+    ap (λ b. list_any test (f x) || b) (any-flat test f xs) ∙ sym (list_any-append test (f x) (flat_map f xs))
+
+-- a clause of a list by its index
+abbrev pub piece_in : List FlatNode → ℕ × FlatNode → Piece
+piece_in nodes c = record { kind = c.1.kind; own = own_from c.1.end c.0 nodes; fields = fields_from c.1.end c.0 nodes }
+
+singly : (cs : List (ℕ × FlatNode)) → kinds_of cs ≡ flat_map (λ c. own_at c.1.kind) cs
+singly [] = refl
+singly (c ∷ cs) = ap (λ ks. c.1.kind ∷ ks) (singly cs)
+
+any-kind : (cs : List (ℕ × FlatNode)) → list_any (λ c. is_aggregate c.1.kind) cs ≡ list_any is_aggregate (kinds_of cs)
+any-kind [] = refl
+any-kind (c ∷ cs) = ap (λ b. is_aggregate c.1.kind || b) (any-kind cs)
+
 module _ (e p : ℕ) (nodes : List FlatNode) where
-  abbrev after_own : FlatNode → ℕ
-  after_own x = after_at own_at own_passed p x
+  pub own-over : kinds_of (nodes_from own_passed e p nodes) ≡ own_from e p nodes
+  own-over = singly (nodes_from own_passed e p nodes) ∙ gathered-over own_at own_passed e p nodes
 
-  abbrev after_field : FlatNode → ℕ
-  after_field x = after_at field_at field_passed p x
+  pub aggregates-over : list_any (λ c. is_aggregate c.1.kind) (nodes_from own_passed e p nodes)
+      ≡ list_any is_aggregate (own_from e p nodes)
+  aggregates-over = any-kind (nodes_from own_passed e p nodes) ∙ ap (list_any is_aggregate) own-over
 
-  abbrev Out : Type 0
-  Out = (e ≤ p) ⊎ (length nodes ≤ p)
+  pub holds-over : (o : Origin) (name : List ℕ)
+      → list_any (λ c. holds_column (field_at c.1.kind) o name) (nodes_from field_passed e p nodes)
+      ≡ holds_column (fields_from e p nodes) o name
+  holds-over o name =
+      any-flat _ (λ c. field_at c.1.kind) (nodes_from field_passed e p nodes)
+      ∙ ap (λ fs. holds_column fs o name) (gathered-over field_at field_passed e p nodes)
 
-  pub own-end : Out → own_from e p nodes ≡ []
-  own-end = gathered-end own_at own_passed e p nodes
+  abbrev piece_over : ℕ → FlatNode → List FlatNode → Piece
+  piece_over i x l = record {
+    kind = x.kind;
+    own = gather kind_of end_of own_at own_passed x.end i i l;
+    fields = gather kind_of end_of field_at field_passed x.end i i l;
+  }
 
-  pub fields-end : Out → fields_from e p nodes ≡ []
-  fields-end = gathered-end field_at field_passed e p nodes
+  pub pieces-over : map (piece_in nodes) (nodes_from all_passed e p nodes) ≡ kids_from piece_at e p nodes
+  pieces-over =
+      sym (met-over all_passed piece_at nodes (λ i x. piece_in nodes (i, x)) (λ i x xs h. ap (piece_over i x) h) e p p (drop p nodes) refl)
 
-  pub pieces-end : Out → kids_from piece_at e p nodes ≡ []
-  pieces-end = kids-end piece_at e p nodes
+module _ (nodes : List FlatNode) (cs ds : List (ℕ × FlatNode)) (c : ℕ × FlatNode) (is : cs ≡ c ∷ ds) where
+  -- after a clause that is no GROUP BY
+  pub group-later : (all : Option (List Field)) → (c.1.kind ≡ K.GroupBy → ⊥) → group_in (map (piece_in nodes) cs) ≡ all
+      → group_in (map (piece_in nodes) ds) ≡ all
+  group-later all other held =
+      sym (other-group c.1.kind _ (group_in (map (piece_in nodes) ds)) other)
+      ∙ ap (λ l. group_in (map (piece_in nodes) l)) (sym is) ∙ held
 
-  module _ (x : FlatNode) (h : p < e) (g : p < length nodes) (is : x ≡ get_or nodes p x) where
-    pub own-turn : own_from e p nodes ≡ x.kind ∷ own_from e (after_own x) nodes
-    own-turn = gathered-turn own_at own_passed e p nodes x h g is
+  -- and at one
+  pub group-here : (all : Option (List Field)) → c.1.kind ≡ K.GroupBy → group_in (map (piece_in nodes) cs) ≡ all
+      → Some (fields_from c.1.end c.0 nodes) ≡ all
+  group-here all it held =
+      ap (λ k. group_or k (fields_from c.1.end c.0 nodes) (group_in (map (piece_in nodes) ds))) (sym it)
+      ∙ ap (λ l. group_in (map (piece_in nodes) l)) (sym is) ∙ held
 
-    pub fields-turn : fields_from e p nodes ≡ field_at x.kind ++ fields_from e (after_field x) nodes
-    fields-turn = gathered-turn field_at field_passed e p nodes x h g is
+  pub sums-later : (g : Option (List Field)) (so_far more all : Sums)
+      → more ≡ adding g so_far c.1.kind (own_from c.1.end c.0 nodes)
+      → summed g so_far (map (piece_in nodes) cs) ≡ all → summed g more (map (piece_in nodes) ds) ≡ all
+  sums-later g so_far more all added held =
+      ap (λ s. summed g s (map (piece_in nodes) ds)) added
+      ∙ ap (λ l. summed g so_far (map (piece_in nodes) l)) (sym is) ∙ held
 
-    pub holds-turn : (o : Origin) (name : List ℕ)
-        → holds_column (fields_from e p nodes) o name
-        ≡ (holds_column (field_at x.kind) o name || holds_column (fields_from e (after_field x) nodes) o name)
-    holds-turn o name =
-        ap (λ fs. holds_column fs o name) fields-turn
-        ∙ list_any-append _ (field_at x.kind) (fields_from e (after_field x) nodes)
-
-    abbrev piece_here : Piece
-    piece_here = record { kind = x.kind; own = own_from x.end p nodes; fields = fields_from x.end p nodes }
-
-    abbrev piece_over : List FlatNode → Piece
-    piece_over l = record {
-      kind = x.kind;
-      own = gather kind_of end_of own_at own_passed x.end p p l;
-      fields = gather kind_of end_of field_at field_passed x.end p p l;
-    }
-
-    pub pieces-turn : kids_from piece_at e p nodes ≡ piece_here ∷ kids_from piece_at e (past p x) nodes
-    pieces-turn =
-        kids-turn piece_at e p nodes x h g is
-        ∙ ap (λ l. piece_over l ∷ kids_from piece_at e (past p x) nodes)
-        (sym (drop_more nodes p x g ∙ ap (λ y. y ∷ drop (p + 1) nodes) (sym is)))
-
-    -- what is left of each loop after a turn
-
-    pub any-later : (all : Bool) → is_aggregate x.kind ≡ false → list_any is_aggregate (own_from e p nodes) ≡ all
-        → list_any is_aggregate (own_from e (after_own x) nodes) ≡ all
-    any-later all none held =
-        ap (λ b. b || list_any is_aggregate (own_from e (after_own x) nodes)) (sym none)
-        ∙ ap (list_any is_aggregate) (sym own-turn) ∙ held
-
-    pub holds-later : (o : Origin) (name : List ℕ) (all : Bool) → holds_column (field_at x.kind) o name ≡ false
-        → holds_column (fields_from e p nodes) o name ≡ all
-        → holds_column (fields_from e (after_field x) nodes) o name ≡ all
-    holds-later o name all none held =
-        ap (λ b. b || holds_column (fields_from e (after_field x) nodes) o name) (sym none)
-        ∙ sym (holds-turn o name) ∙ held
-
-    pub verdict-later : (g : Option (List Field)) (so_far more all : v.Verdict)
-        → more ≡ mix so_far (kind_gives g x.kind) → mix so_far (all_give g (own_from e p nodes)) ≡ all
-        → mix more (all_give g (own_from e (after_own x) nodes)) ≡ all
-    verdict-later g so_far more all is held =
-        let rest = all_give g (own_from e (after_own x) nodes) in
-        ap (λ a. mix a rest) is ∙ mix-mix so_far (kind_gives g x.kind) rest
-        ∙ ap (λ ks. mix so_far (all_give g ks)) (sym own-turn) ∙ held
-
-    pub sums-later : (g : Option (List Field)) (so_far more all : Sums)
-        → more ≡ adding g so_far x.kind (own_from x.end p nodes)
-        → summed g so_far (kids_from piece_at e p nodes) ≡ all
-        → summed g more (kids_from piece_at e (past p x) nodes) ≡ all
-    sums-later g so_far more all is held =
-        ap (λ s. summed g s (kids_from piece_at e (past p x) nodes)) is
-        ∙ ap (summed g so_far) (sym pieces-turn) ∙ held
-
-    pub group-later : (all : Option (List Field)) → (x.kind ≡ K.GroupBy → ⊥)
-        → group_in (kids_from piece_at e p nodes) ≡ all
-        → group_in (kids_from piece_at e (past p x) nodes) ≡ all
-    group-later all other held =
-        sym (other-group x.kind (fields_from x.end p nodes) (group_in (kids_from piece_at e (past p x) nodes)) other)
-        ∙ ap group_in (sym pieces-turn) ∙ held
+pub ruleset grouping = (pieces-over, group-later, group-here, sums-later)
 
 -- ---- what is read ahead is what the tree has
 

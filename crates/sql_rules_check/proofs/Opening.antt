@@ -1,35 +1,36 @@
 -- Turns of the loops from the first node on.
 use Rattle.std.proofs.Common.{◌-◌, Bool, Some, slice_get, take, ◌≡◌, ℕ, ◌<◌, ◌≤◌, ◌+◌, ◌⊎◌, List, [], ◌∷◌, ◌++◌, map, drop, get_or, length, refl, sym, ap, ◌∙◌, arith, append_assoc}
+use Rattle.std.specs.List.{flat_map}
 use Rattle.sql_flat_law.specs.declared.opened.Opened.{Opened}
 use Rattle.sql_flat_law.specs.Opened as stack
 use Rattle.sql_flat_law.specs.Opened.{still_open}
 use Rattle.sql_flat_law.specs.Seen.{seen}
-use Rattle.sql_flat_law.proofs.Forward.{gather-turn, gather-ends, after-later}
 use Rattle.sql_flat_law.proofs.Opening.{last-opens, opens-push, seen-open}
 use Rattle.sql_flat.specs.Flat.{flat_node}
 use Rattle.sql_rules.specs.Scope.{View}
+use Rattle.sql_rules_check.specs.inside.Kids.{nodes_from}
 use Rattle.sql_rules_check.specs.inside.Sites.{of_select}
 use Rattle.sql_rules_check.specs.inside.Lists.{kind_of, end_of}
 use Rattle.sql_rules_check.specs.inside.Views.{Views, leaf_at, is_passed, keeps}
 use Rattle.sql_flat.specs.declared.kind.FlatKind.{FlatKind}
 use Rattle.sql_flat.specs.declared.kind.FlatKind.TheVariants as K
-use Rattle.sql_rules_check.specs.inside.Walks.{after_node, entered_at, around, leaves_from, opens, views_of}
+use Rattle.sql_rules_check.specs.inside.Walks.{entered_at, around, leaves_from, opens, views_of}
+use Rattle.sql_rules_check.proofs.Ahead.{gathered-over}
 use Rattle.sql_rules_check.specs.declared.scope.Known.{Known}
 use Rattle.sql_flat.specs.declared.kind.FlatNode.{FlatNode}
 
-pub leaves-turn : (e p : ℕ) (nodes : List FlatNode) (x : FlatNode) (own new all : View) → p < e → p < length nodes
-    → x ≡ get_or nodes p x → own ++ leaves_from e p nodes ≡ all → new ≡ own ++ leaf_at x.kind
-    → new ++ leaves_from e (after_node p x) nodes ≡ all
-leaves-turn e p nodes x own new all h g is held more =
-    ap (λ v. v ++ leaves_from e (after_node p x) nodes) more
-    ∙ append_assoc own (leaf_at x.kind) (leaves_from e (after_node p x) nodes)
-    ∙ ap (λ v. own ++ v) (sym (gather-turn flat_node kind_of end_of leaf_at is_passed e p nodes x h g is)) ∙ held
+abbrev leaves_of : List (ℕ × FlatNode) → View
+leaves_of = flat_map (λ c. leaf_at c.1.kind)
 
-pub leaves-end : (e p : ℕ) (nodes : List FlatNode) → (e ≤ p) ⊎ (length nodes ≤ p) → leaves_from e p nodes ≡ []
-leaves-end e p nodes h = gather-ends flat_node kind_of end_of leaf_at is_passed e p p nodes h
+pub leaves-over : (e p : ℕ) (nodes : List FlatNode)
+    → leaves_of (nodes_from is_passed e p nodes) ≡ leaves_from e p nodes
+leaves-over = gathered-over leaf_at is_passed
 
-pub later : (p : ℕ) (x : FlatNode) → p < after_node p x
-later p x = after-later flat_node kind_of end_of leaf_at is_passed p x
+pub leaves-more : (own new all : View) (cs ds : List (ℕ × FlatNode)) (c : ℕ × FlatNode) → cs ≡ c ∷ ds
+    → new ≡ own ++ leaf_at c.1.kind → own ++ leaves_of cs ≡ all → new ++ leaves_of ds ≡ all
+leaves-more own new all cs ds c is more held =
+    ap (λ v. v ++ leaves_of ds) more ∙ append_assoc own (leaf_at c.1.kind) (leaves_of ds)
+    ∙ ap (λ l. own ++ leaves_of l) (sym is) ∙ held
 
 -- ---- the stack of open nodes
 
@@ -51,4 +52,4 @@ pub entered-within : (t : View → Bool) (k : FlatKind) (e : ℕ) (w : Views) (�
 entered-within t (K.Select s) e w σ = refl
 entered-within t _ e w σ = refl
 
-pub ruleset opening = (entered-within, leaves-turn, leaves-end, later, opens-push, closes, open-around)
+pub ruleset opening = (entered-within, leaves-over, leaves-more, opens-push, closes, open-around)

@@ -9,9 +9,9 @@ use Rattle.sql_flat.specs.declared.kind.FlatKind.{FlatKind}
 use Rattle.sql_flat.specs.declared.kind.FlatNode.{FlatNode}
 use Rattle.sql_rules_check.specs.declared.order.Standing.{Standing}
 use Rattle.sql_rules_check.specs.declared.order.Token.{Token}
-use Rattle.sql_rules_check.specs.inside.Kids.{past}
+use Rattle.sql_rules_check.specs.inside.Kids.{after, all_passed}
 use Rattle.sql_rules_check.specs.inside.Words.{Nest, Word, begins_inner, chosen_words, clash, clause_at, clause_words, entered, is_inner, same_word, standing_in, visited, word_at, word_of, words_from}
-use Rattle.sql_rules_check.proofs.Kids.{kids-end, kids-turn}
+use Rattle.sql_rules_check.proofs.Kids.{met-end, met-turn}
 use Rattle.sql_rules_check.proofs.WordTrees.{words-stop}
 
 -- the innermost open node
@@ -50,18 +50,18 @@ words-end σ e p nodes own all h held =
 module _ (chosen : FlatKind → Bool) (e p : ℕ) (nodes : List FlatNode) where
   module _ (x : FlatNode) (h : p < e) (g : p < length nodes) (is : x ≡ get_or nodes p x) where
     turn : clause_words chosen e p nodes
-        ≡ cond (chosen x.kind) (words_from [] x.end (p + 1) (drop (p + 1) nodes)) (clause_words chosen e (past p x) nodes)
-    turn = ap (chosen_words chosen) (kids-turn clause_at e p nodes x h g is)
+        ≡ cond (chosen x.kind) (words_from [] x.end (p + 1) (drop (p + 1) nodes)) (clause_words chosen e (after all_passed p x) nodes)
+    turn = ap (chosen_words chosen) (met-turn all_passed clause_at e p nodes x h g is)
 
     pub clause-here : chosen x.kind ≡ true
         → words_from [] x.end (p + 1) (drop (p + 1) nodes) ≡ clause_words chosen e p nodes
     clause-here q = sym (turn ∙ rw q refl)
 
-    pub clause-behind : chosen x.kind ≡ false → clause_words chosen e (past p x) nodes ≡ clause_words chosen e p nodes
+    pub clause-behind : chosen x.kind ≡ false → clause_words chosen e (after all_passed p x) nodes ≡ clause_words chosen e p nodes
     clause-behind q = sym (turn ∙ rw q refl)
 
   pub no-clause-left : (e ≤ p) ⊎ (length nodes ≤ p) → [] ≡ clause_words chosen e p nodes
-  no-clause-left h = sym (ap (chosen_words chosen) (kids-end clause_at e p nodes h))
+  no-clause-left h = sym (ap (chosen_words chosen) (met-end all_passed clause_at e p nodes h))
 
 -- ---- two lists of words
 

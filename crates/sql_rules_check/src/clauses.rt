@@ -11,10 +11,11 @@ ghost use Rattle.sql_node.specs.Tree.{Statement};
 ghost use Rattle.sql_rules.specs.Rules.{Broken, misuse as misused};
 ghost use Rattle.sql_rules.specs.declared.rule.Rule.TheVariants as rule;
 ghost use Rattle.sql_flat.specs.Flat.{flat_of};
-ghost use Rattle.sql_rules_check.specs.inside.Ahead.{after_at, any_ahead, gathered_from};
-ghost use Rattle.sql_rules_check.specs.inside.Clauses.{all_passed, clash as clauses_clash, clause_at, has_lock as form_locked, incompatible_at, is_distinct as unique_distinct, is_group as groups_by, is_having as has_having};
+ghost use Rattle.sql_rules_check.specs.inside.Ahead.{any_ahead, gathered_from};
+ghost use Rattle.sql_rules_check.specs.inside.Clauses.{clash as clauses_clash, clause_at, has_lock as form_locked, incompatible_at, is_distinct as unique_distinct, is_group as groups_by, is_having as has_having};
+ghost use Rattle.sql_rules_check.specs.inside.Kids.{all_passed};
 
-use crate::jump::past;
+use crate::walk::{All, Walk};
 use sql_flat::{Flat, FlatKind, FlatNode, Form, Selecting, Uniqueness};
 use sql_leaf::{LockingClause, Marks};
 
@@ -62,17 +63,14 @@ fn clauses(nodes: &[FlatNode], from: usize, end: usize) -> Present
     ensures having { result.having
         ≡ list_any has_having (gathered_from clause_at all_passed end from nodes.now) }
 {
-    let mut present = Present {
+    let nothing = Present {
         groups: false,
         having: false,
     };
-    let mut index = from;
-    while index < end && index < nodes.len() {
-        let node = &nodes[index];
-        present = present.noting(&node.kind);
-        index = past(index, node);
-    }
-    present
+    Walk::<All>::new(nodes, from, end).fold(
+        nothing,
+        |present, (_, node)| present.noting(&node.kind),
+    )
 }
 
 fn has_lock(form: Form) -> bool

@@ -11,7 +11,7 @@
 //! 4    From       passed over
 //! 6    GroupBy    holds no aggregate
 //! ```
-#![tactic(auto)]
+#![tactic(auto, using(crate::proofs::GroupTurns::grouping))]
 
 ghost use Rattle.std.specs.Prelude.{◌≡◌, ◌+◌, ◌<◌, ◌&&◌, ◌||◌, drop};
 ghost use Rattle.std.specs.Bool.{Decides};
@@ -26,12 +26,12 @@ ghost use Rattle.sql_rules.specs.Rules.{Broken};
 ghost use Rattle.sql_rules.specs.Verdicts.{holds_column, holds_key as holds_whole_key, mix as mixed};
 ghost use Rattle.sql_rules.specs.declared.rule.Rule.TheVariants as rule;
 ghost use Rattle.sql_flat.specs.Flat.{flat_of};
-ghost use Rattle.sql_rules_check.specs.inside.Ahead.{after_at, any_ahead};
+ghost use Rattle.sql_rules_check.specs.inside.Ahead.{any_ahead};
 ghost use Rattle.sql_rules_check.specs.inside.Grouping.{adding as added, all_give, breaks as sums_break, column_gives, field_at, field_passed, fields_by, fields_from, group_in, is_aggregate as aggregates, is_none as gives_none, is_unboxed as form_unboxed, kind_gives, misgrouped_at, nothing_summed, own_at, own_from, own_passed, piece_at, select_breaks, summed, sums_of, verdict_of};
 ghost use Rattle.sql_rules_check.specs.inside.Kids.{kids_from};
 
-use crate::jump::past;
 use crate::names::origin_under;
+use crate::walk::{All, Passing, Walk};
 use sql_flat::{Flat, FlatKind, FlatNode, Form, Selecting};
 use sql_origin::Origin;
 use sql_schema::Column;
@@ -85,50 +85,32 @@ fn is_none(verdict: Verdict) -> bool
     }
 }
 
-/// Whether it is a subselect or a list of values, or what is counted is below it.
-fn is_passed(kind: &FlatKind) -> bool
-    ensures { result ≡ own_passed kind.now }
-{
-    match kind {
-        FlatKind::Count | FlatKind::Values(_) => true,
-        FlatKind::Select(_) | FlatKind::Combination(_) => true,
-        _ => false,
+/// Over all but what is counted, subselects and lists of values.
+struct Own;
+
+impl Passing for Own {
+    ghost passed = { own_passed };
+
+    fn is_passed(kind: &FlatKind) -> bool {
+        match kind {
+            FlatKind::Count | FlatKind::Values(_) => true,
+            FlatKind::Select(_) | FlatKind::Combination(_) => true,
+            _ => false,
+        }
     }
 }
 
-/// The index of the next node outside subselects.
-fn after_own(index: usize, node: &FlatNode) -> usize
-    requires { index < 18446744073709551615 }
-    ensures next { result ≡ after_at own_at own_passed index node.now }
-    ensures later { index < result }
-{
-    if is_passed(&node.kind) {
-        past(index, node)
-    } else {
-        index + 1
-    }
-}
+/// Over the nodes that may be fields of a GROUP BY.
+struct Fields;
 
-/// Whether no field of a GROUP BY is below it.
-fn is_closed(kind: &FlatKind) -> bool
-    ensures { result ≡ field_passed kind.now }
-{
-    match kind {
-        FlatKind::List | FlatKind::Nullable | FlatKind::GroupBy => false,
-        _ => true,
-    }
-}
+impl Passing for Fields {
+    ghost passed = { field_passed };
 
-/// The index of the next node that may be a field of a GROUP BY.
-fn after_field(index: usize, node: &FlatNode) -> usize
-    requires { index < 18446744073709551615 }
-    ensures next { result ≡ after_at field_at field_passed index node.now }
-    ensures later { index < result }
-{
-    if is_closed(&node.kind) {
-        past(index, node)
-    } else {
-        index + 1
+    fn is_passed(kind: &FlatKind) -> bool {
+        match kind {
+            FlatKind::List | FlatKind::Nullable | FlatKind::GroupBy => false,
+            _ => true,
+        }
     }
 }
 
@@ -145,15 +127,7 @@ fn is_aggregate(kind: &FlatKind) -> bool
 fn has_aggregate(nodes: &[FlatNode], from: usize, end: usize) -> bool
     ensures { result ≡ list_any aggregates (own_from end from nodes.now) }
 {
-    let mut index = from;
-    while index < end && index < nodes.len() {
-        let node = &nodes[index];
-        if is_aggregate(&node.kind) {
-            return true;
-        }
-        index = after_own(index, node);
-    }
-    false
+    Walk::<Own>::new(nodes, from, end).any(|(_, node)| is_aggregate(&node.kind))
 }
 
 /// Whether it is the column of that name. Names are compared first: whole tables, only where they agree.
@@ -174,15 +148,9 @@ fn holds(nodes: &[FlatNode], group: Group, origin: Origin<'_>, name: &str) -> bo
         ≡ holds_column (fields_from group.end group.start nodes.now) (origin_of origin.entry)
         name.now }
 {
-    let mut index = group.start;
-    while index < group.end && index < nodes.len() {
-        let node = &nodes[index];
-        if is_field(&node.kind, origin, name) {
-            return true;
-        }
-        index = after_field(index, node);
-    }
-    false
+    Walk::<Fields>::new(nodes, group.start, group.end).any(|(_, node)| is_field(
+        &node.kind, origin, name,
+    ))
 }
 
 fn holds_key(nodes: &[FlatNode], group: Group, origin: Origin<'_>) -> bool
@@ -231,30 +199,22 @@ fn kind_verdict(nodes: &[FlatNode], group: Option<Group>, kind: &FlatKind) -> Ve
 fn own_verdict(nodes: &[FlatNode], group: Option<Group>, from: usize, end: usize) -> Verdict
     ensures { verdict_of result ≡ all_give (fields_by nodes.now group) (own_from end from nodes.now) }
 {
-    let mut all = Verdict::Never;
-    let mut index = from;
-    while index < end && index < nodes.len() {
-        let node = &nodes[index];
-        all = mix(all, kind_verdict(nodes, group, &node.kind));
-        index = after_own(index, node);
-    }
-    all
+    Walk::<Own>::new(nodes, from, end).fold(Verdict::Never, |all, (_, node)| {
+        mix(all, kind_verdict(nodes, group, &node.kind))
+    })
 }
 
 /// The GROUP BY among the clauses from one index to another.
 fn find_group(nodes: &[FlatNode], from: usize, end: usize) -> Option<Group>
     ensures { fields_by nodes.now result ≡ group_in (kids_from piece_at end from nodes.now) }
 {
-    let mut index = from;
-    while index < end && index < nodes.len() {
-        let node = &nodes[index];
+    for (start, node) in Walk::<All>::new(nodes, from, end) {
         if let FlatKind::GroupBy = &node.kind {
             return Some(Group {
-                start: index,
+                start,
                 end: node.end,
             });
         }
-        index = past(index, node);
     }
     None
 }
@@ -300,11 +260,8 @@ fn clause_sums(nodes: &[FlatNode], group: Option<Group>, from: usize, end: usize
         ordered: Verdict::Never,
         aggregate: false,
     };
-    let mut index = from;
-    while index < end && index < nodes.len() {
-        let node = &nodes[index];
+    for (index, node) in Walk::<All>::new(nodes, from, end) {
         all = all.adding(nodes, group, index, node);
-        index = past(index, node);
     }
     all
 }

@@ -27,7 +27,8 @@ fn is_unknown_name(schema: &Schema, kind: &FlatKind) -> bool
     }
 }
 
-pub(crate) fn any_unknown_name(schema: &Schema, nodes: &[FlatNode]) -> bool
+/// Whether one of the nodes has a column or a table that is not one that the schema declares. Whole declarations are compared.
+pub fn any_unknown_name(schema: &Schema, nodes: &[FlatNode]) -> bool
     ensures { result ≡ list_any (λ x. kind_is_unknown schema.now x.kind) nodes.now }
 {
     nodes.iter().any(|node| is_unknown_name(schema, &node.kind))

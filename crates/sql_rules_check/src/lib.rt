@@ -9,7 +9,6 @@ mod given;
 mod grouping;
 mod judgement;
 mod judging;
-mod jump;
 mod kinds;
 mod leaves;
 mod names;
@@ -22,8 +21,9 @@ mod stack;
 mod tables;
 mod types;
 mod typing;
+mod walk;
 
 pub use judgement::{Judgement, broken_but_the_last, judge};
-pub use kinds::any_lacks_on;
+pub use kinds::{any_lacks_on, any_unknown_name};
 pub use names::Names;
 pub use typing::is_condition_of;

@@ -27,8 +27,8 @@ ghost use Rattle.sql_rules_check.specs.inside.Ahead.{any_ahead};
 ghost use Rattle.sql_rules_check.specs.inside.Walks.{option_list};
 ghost use Rattle.sql_rules_check.specs.inside.Words.{begins_inner as begins, below as stands_below, clash, clause_words as words_of_clause, disordered_at, entered, is_clause as kind_is_clause, is_distinct_on as kind_is_distinct_on, is_group as kind_is_group, is_inner as stands_inner, is_nullable as kind_is_nullable, is_order_by as kind_is_order_by, is_ordered as selects_ordered, is_silent as kind_is_silent, same_standing, same_word, standing_in as stands_in, word_at, word_of, words_from};
 
-use crate::jump::past;
 use crate::shapes::is_same_kind;
+use crate::walk::{All, after};
 use sql_flat::{Flat, FlatKind, FlatNode, Form, Selecting, Uniqueness};
 use sql_flat_law::{Opened, close};
 use sql_schema::NoMemory;
@@ -230,7 +230,7 @@ fn clause_words<'s>(
         if is_clause(clause, &node.kind) {
             return words(alloc, nodes, index + 1, node.end);
         }
-        index = past(index, node);
+        index = after::<All>(index, node);
     }
     Ok(Vec::new(alloc))
 }

@@ -5,8 +5,9 @@ ghost use Rattle.std.specs.Prelude.{◌≡◌, ◌<◌, ◌+◌, ◌++◌, IfOk,
 ghost use Rattle.sql_flat_law.specs.Opened.{still_open};
 ghost use Rattle.sql_origin.specs.Borrowed.{origin_of};
 ghost use Rattle.sql_rules_check.specs.inside.Views.{is_passed as kind_is_passed, keeps as kind_keeps, leaf_at, widened as widened_view, within as views_within};
-ghost use Rattle.sql_rules_check.specs.inside.Walks.{after_node, around as around_of, entered_at, leaves_from, opens, option_list, views_of};
+ghost use Rattle.sql_rules_check.specs.inside.Walks.{around as around_of, entered_at, leaves_from, opens, option_list, views_of};
 
+use crate::walk::{Passing, Walk};
 use sql_flat::{FlatKind, FlatNode, Form};
 use sql_flat_law::Opened;
 use sql_origin::Origin;
@@ -30,25 +31,17 @@ fn leaf(kind: &FlatKind) -> Option<Origin<'_>>
     }
 }
 
-fn is_passed(kind: &FlatKind) -> bool
-    ensures { result ≡ kind_is_passed kind.now }
-{
-    match kind {
-        FlatKind::Join(_, _) => false,
-        FlatKind::From => false,
-        _ => true,
-    }
-}
+/// Over what is no source.
+struct Sources;
 
-/// The index of the next node to be looked at.
-fn after(index: usize, node: &FlatNode) -> usize
-    requires { index < 18446744073709551615 }
-    ensures { result ≡ after_node index node.now }
-{
-    if is_passed(&node.kind) && index < node.end {
-        node.end
-    } else {
-        index + 1
+impl Passing for Sources {
+    ghost passed = { kind_is_passed };
+
+    fn is_passed(kind: &FlatKind) -> bool {
+        match kind {
+            FlatKind::Join(_, _) | FlatKind::From => false,
+            _ => true,
+        }
     }
 }
 
@@ -75,11 +68,8 @@ fn leaves<'s>(
     ensures { IfOk result (λ v. map origin_of v.items ≡ leaves_from end from nodes.now) }
 {
     let mut all = Vec::new(alloc);
-    let mut index = from;
-    while index < end && index < nodes.len() {
-        let node = &nodes[index];
+    for (_, node) in Walk::<Sources>::new(nodes, from, end) {
         add_leaf(&node.kind, &mut all)?;
-        index = after(index, node);
     }
     Ok(all)
 }

@@ -3,6 +3,7 @@ use Rattle.std.proofs.Common.{◌≡◌, ◌∙◌, ℕ, zero, suc, ◌+◌, ◌
 use Rattle.std.proofs.lemmas.Slice.Eq.{bytes_eq-Decides}
 use Rattle.std.specs.BTreeMap.{get_by_text}
 use Rattle.sql_schema.specs.Declarations.{Declarations}
+use Rattle.sql_schema.specs.Refusals.{least_refusal}
 use Rattle.sql_schema.specs.declared.types.SqlType.{SqlType}
 use Rattle.sql_node.specs.Tree.{Statement}
 use Rattle.sql_rules.specs.Texts.{rule_text}
@@ -120,7 +121,7 @@ module _ (n : ℕ) (old new : Counts) (l : Line) where
 
 -- ---- the line of a request
 
-module _ (schema : Declarations) (r : StatementRequest) (n : ℕ) (f : RequestKey → Option ℕ) (old new : Counts) where
+module _ (schema : Declarations) (sound : least_refusal schema ≡ None) (r : StatementRequest) (n : ℕ) (f : RequestKey → Option ℕ) (old new : Counts) where
   pub accepted-counted : (s : Statement) (b : Built) (g : RequestKey → Option ℕ) → made s ≡ r.statement
       → IsBuilt schema r.dialect s b → IsRead r.dialect s b.sql b.binds
       → new
@@ -137,6 +138,7 @@ module _ (schema : Declarations) (r : StatementRequest) (n : ℕ) (f : RequestKe
         tell-accepted n old new (line_found f n d (accepts s ts)) s ts refl
             (is ∙ (λ i. with_accepted (length (built.binds i)) (length (built.sql i)) (is_own n (id_found f n (option_map (keyed d) (built.id i)))) old)),
         subst (λ k. IsKept f g n (option_map (keyed d) k)) built.id kept,
+        sound,
       )
 
   pub refused-counted : (s : Statement) (rule : Rule) → made s ≡ r.statement → IsLeast rule schema r.dialect s
@@ -146,4 +148,5 @@ module _ (schema : Declarations) (r : StatementRequest) (n : ℕ) (f : RequestKe
     subst (λ o. Judges schema r.dialect o (refuses (rule_text rule))) some (rule, least, refl),
     tell-refused n old new (line_found f n r.dialect (refuses (rule_text rule))) (rule_text rule) refl refl is,
     kept-none f n,
+    sound,
   )

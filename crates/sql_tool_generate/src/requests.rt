@@ -16,7 +16,9 @@ use sql_check::{Built, CompileError};
 use sql_dialect::Dialect;
 use sql_key::QueryKey;
 use sql_schema::NoMemory;
-use sql_tool_build::{Names, RequestKey, StatementCache, compile_cached_for, request_id};
+use sql_tool_build::{
+    NamedRequest, Names, StatementCache, compile_cached_for, request_id, schema_stands,
+};
 use sql_tool_series::{Named, dialect_of, form_of, series_schema};
 use std::alloc::{AllocError, Global};
 use std::collections::BTreeMap;
@@ -44,7 +46,7 @@ fn key_of(built: Built) -> Option<QueryKey>
 
 fn accept(
     dialect: Dialect,
-    seen: &mut BTreeMap<RequestKey, u64>,
+    seen: &mut BTreeMap<NamedRequest, u64>,
     counts: &mut Counts,
     number: u64,
     built: Built,
@@ -79,7 +81,7 @@ fn count(
     alloc: Global,
     named: &Named,
     cache: &mut StatementCache,
-    seen: &mut BTreeMap<RequestKey, u64>,
+    seen: &mut BTreeMap<NamedRequest, u64>,
     counts: &mut Counts,
     number: u32,
 ) -> Result<(), AllocError>
@@ -89,6 +91,7 @@ fn count(
         (seen_at seen.old) (seen_at seen.new) (TellMore (number + 1) counts.old counts.new)) }
     ensures schema { cache.new.schema ≡ cache.old.schema }
 {
+    schema_stands(cache);
     let dialect = dialect_of(number);
     let statement = named.statement(alloc, form_of(number), dialect, number)?;
     match compile_cached_for(alloc, dialect, Names::Asked, cache, &statement) {
@@ -106,7 +109,7 @@ pub fn generate(alloc: Global, requests: u32) -> Result<String, NoMemory>
     let named = Named::new(alloc)?;
     let capacity = NonZeroUsize::new(ENTRIES).unwrap();
     let mut cache = StatementCache::new(alloc, series_schema(alloc)?, capacity)?;
-    let mut seen: BTreeMap<RequestKey, u64> = BTreeMap::new(alloc);
+    let mut seen: BTreeMap<NamedRequest, u64> = BTreeMap::new(alloc);
     let mut counts = Counts::new(alloc);
     for number in 0..requests {
         count(alloc, &named, &mut cache, &mut seen, &mut counts, number)?;

@@ -1,7 +1,7 @@
 -- Tests of nodes that read ahead what is below a node.
 use Rattle.std.specs.Prelude.{ℕ, ◌+◌, Bool, false, ◌||◌, List, [], ◌∷◌, drop}
 use Rattle.sql_flat_law.specs.Rose.{Rose, node, Roses, none, more}
-use Rattle.sql_flat_law.specs.Forward.{after, gather}
+use Rattle.sql_flat_law.specs.Forward.{gather}
 use Rattle.sql_flat.specs.declared.kind.FlatKind.{FlatKind}
 use Rattle.sql_flat.specs.declared.kind.FlatNode.{FlatNode}
 use Rattle.sql_rules_check.specs.inside.Lists.{kind_of, end_of}
@@ -30,6 +30,3 @@ module _ {B : Type 0} (at : FlatKind → List B) (passed : FlatKind → Bool) wh
   -- the same of those that follow the node at an index, up to its end
   abbrev pub gathered_behind : ℕ → FlatNode → List FlatNode → List B
   gathered_behind i x xs = gather kind_of end_of at passed x.end (i + 1) (i + 1) xs
-
-  abbrev pub after_at : ℕ → FlatNode → ℕ
-  after_at = after kind_of end_of at passed

@@ -14,10 +14,7 @@ use Rattle.sql_flat.specs.declared.kind.Selecting.{Selecting}
 use Rattle.sql_flat.specs.declared.kind.Uniqueness.{Uniqueness}
 use Rattle.sql_flat.specs.declared.kind.Uniqueness.TheVariants as unique
 use Rattle.sql_rules_check.specs.inside.Ahead.{gathered_behind}
-
--- the children alone are looked at
-abbrev pub all_passed : FlatKind → Bool
-all_passed k = true
+use Rattle.sql_rules_check.specs.inside.Kids.{all_passed}
 
 abbrev pub clause_at : FlatKind → List FlatKind
 clause_at K.GroupBy = K.GroupBy ∷ []

@@ -2,7 +2,7 @@
 use Rattle.std.specs.Prelude.{Bool, ℕ, ◌+◌, List, [], ◌∷◌, Option, None, Some, map, drop}
 use Rattle.sql_flat_law.specs.Around.{entered, top, walk}
 use Rattle.sql_flat_law.specs.Folds.{Site}
-use Rattle.sql_flat_law.specs.Forward.{after, gather}
+use Rattle.sql_flat_law.specs.Forward.{gather}
 use Rattle.sql_flat_law.specs.Opened as stack
 use Rattle.sql_flat_law.specs.Seen.{seen}
 use Rattle.sql_flat_law.specs.declared.opened.Opened.{Opened}
@@ -24,9 +24,6 @@ opens os = seen views_of (stack.opens os)
 abbrev pub option_list : {X : Type 0} → Option X → List X
 option_list None = []
 option_list (Some x) = x ∷ []
-
-abbrev pub after_node : ℕ → FlatNode → ℕ
-after_node = after kind_of end_of leaf_at is_passed
 
 -- the leaves from one index to another
 abbrev pub leaves_from : ℕ → ℕ → List FlatNode → View

@@ -1,20 +1,21 @@
-use Rattle.std.proofs.Common.{inl, sym, ap, ◌∙◌, arith}
+use Rattle.std.proofs.Common.{◌≡◌, ◌∙◌, ap, map, refl, rules, tests}
+use Rattle.std.specs.Iterator.{YieldsFirstBy}
+use Rattle.std.proofs.lemmas.Fn.{fold_over}
+use Rattle.std.proofs.lemmas.Iterator.Consumers.{YieldsList-from_first}
 use Rattle.sql_rules.specs.Verdicts.{mix}
-use Rattle.sql_rules_check.specs.inside.Grouping.{all_give, fields_by, verdict_of}
-use Rattle.sql_rules_check.proofs.GroupTurns.{mix-unit, own-end, verdict-later}
+use Rattle.sql_rules_check.specs.inside.Grouping.{all_give, fields_by, kind_gives, own_passed, verdict_of}
+use Rattle.sql_rules_check.specs.inside.Kids.{node_of, nodes_left}
+use Rattle.sql_rules_check.proofs.GroupTurns.{give-more, kinds_of, own-over}
 use Rattle.sql_rules_check.proofs.grouping.own_verdict.Goals as goal
 
-pub loop-index-preserved : goal.loop-index-preserved
-loop-index-preserved c =
-    rw c.after_own-index.ensures.next
-    (verdict-later c.args.end c.loop-index.index c.args.nodes.now c.index-nodes-index.result c.loop-index-test.true
-    c.if-index-nodes.true c.index-nodes-index.is (fields_by c.args.nodes.now c.args.group) (verdict_of c.loop-index.all)
-    (verdict_of c.mix-all.result) _
-    (c.mix-all.ensures ∙ ap (mix (verdict_of c.loop-index.all)) c.kind_verdict.ensures) c.loop-index.invariant)
-
-pub returns-after-loop-index : goal.returns-after-loop-index
-returns-after-loop-index c =
-    sym (mix-unit (verdict_of c.loop-index.all))
-    ∙ ap (λ ks. mix (verdict_of c.loop-index.all) (all_give (fields_by c.args.nodes.now c.args.group) ks))
-    (sym (own-end c.args.end c.loop-index.index c.args.nodes.now (inl (omega arith))))
-    ∙ c.loop-index.invariant
+pub returns : goal.returns
+returns c =
+    let g = fields_by c.args.nodes.now c.args.group in
+    fold_over (YieldsFirstBy node_of (nodes_left own_passed)) node_of _
+    (λ ds v. verdict_of v ≡ all_give g (kinds_of ds)) _
+    (λ ds a x b q held k.
+    let is : verdict_of b ≡ mix (verdict_of a) (kind_gives g x.1.now.kind) = search (rules, tests) in
+    (is ∙ ap (λ v. mix v (kind_gives g x.1.now.kind)) held ∙ give-more g ds (node_of x), search (rules, tests)))
+    c.new.result _ _ _ (YieldsList-from_first node_of (nodes_left own_passed) {s = c.new.result} _ c.new.ensures).runs
+    refl c.fold.ensures.ran
+    ∙ ap (all_give g) (own-over c.args.end c.args.from c.args.nodes.now)

@@ -6,7 +6,7 @@ use Rattle.sql_rules_check.proofs.order.clause_words.Goals as goal
 
 pub loop-index-preserved : goal.loop-index-preserved
 loop-index-preserved c =
-    rw c.past-index.ensures.next
+    rw c.after-index.ensures.next
     (clause-behind (is_clause c.args.clause) c.args.end c.loop-index.index c.args.nodes.now
     c.index-nodes-index.result c.loop-index-test.true c.if-index-nodes.true c.index-nodes-index.is
     (sym c.is_clause.ensures ∙ c.if-is_clause.false)

@@ -45,8 +45,8 @@ returns-in-Ok-clause-line c =
     subst (λ m. HasLine declarations (request i) (m + 1) f g (TellMore (m + 1) c.args.counts.now c.accept.new.counts)) at
     (subst (λ r. HasLine declarations r n f g (TellMore n c.args.counts.now c.accept.new.counts)) same
     (subst (λ x. HasLine x (of d s) n f g (TellMore n c.args.counts.now c.accept.new.counts)) c.requires.schema
-    (accepted-counted schema (of d s) n f c.args.counts.now c.accept.new.counts s c.in-Ok.built g refl
-    c.in-Ok.ensures.built c.in-Ok.ensures.read counted kept))))
+    (accepted-counted schema c.schema_stands.ensures (of d s) n f c.args.counts.now c.accept.new.counts s c.in-Ok.built g refl
+    c.in-Ok.ensures.compiled.built c.in-Ok.ensures.compiled.read counted kept))))
     c.accept.ensures.counted c.accept.ensures.kept
 
 pub returns-clause-line : goal.returns-clause-line
@@ -61,6 +61,6 @@ returns-clause-line c =
     on_ok_weaker c.refuse.result (λ h. let (rule, is, told) = h in
     subst (λ r. HasLine declarations r n f f (TellMore n c.args.counts.now c.refuse.new.counts)) same
     (subst (λ x. HasLine x (of d s) n f f (TellMore n c.args.counts.now c.refuse.new.counts)) c.requires.schema
-    (refused-counted schema (of d s) n f c.args.counts.now c.refuse.new.counts s rule refl
-    (c.in-Err.ensures.refused rule is) told)))
+    (refused-counted schema c.schema_stands.ensures (of d s) n f c.args.counts.now c.refuse.new.counts s rule refl
+    (c.in-Err.ensures.compiled.refused rule is) told)))
     c.refuse.ensures

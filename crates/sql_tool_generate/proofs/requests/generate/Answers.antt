@@ -1,5 +1,6 @@
 use Rattle.std.proofs.Common.{◌≡◌, ◌∙◌, ◌+◌, ◌∷◌, ◌++◌, [], sym, subst, ap, arith, rules}
 use Rattle.std.proofs.lemmas.Result.{IfOk-weaker}
+use Rattle.sql_tool_build.proofs.Ids.{lines-known}
 use Rattle.sql_tool_build.proofs.Lines.{line-found, line-kept, lines-more}
 use Rattle.sql_tool_build.specs.Output.{AreLines}
 use Rattle.sql_rows.specs.Entries.{Entries}
@@ -20,12 +21,13 @@ loop-number-preserved c =
     let f = seen_at l.seen in
     let h = seen_at c.count.new.seen in
     let (ls, lines, told, tells, schema) = l.invariant in
-    let (j, judged, more, kept) = c.in_ok-count.ensures.line in
+    let (j, judged, more, kept, sound) = c.in_ok-count.ensures.line in
     let at = next-number i ls lines in
     let one = line_found f (i + 1) (dialect_of i) j in
     let grown =
     lines-more declarations [] (generated i) ls (request i) one lines
-    (line-found declarations f h ls (i + 1) at tells (request i) j judged) in (
+    (line-found declarations f h ls (i + 1) at tells sound (lines-known declarations [] (generated i) ls lines) (request i) j
+    judged) in (
       ls ++ one ∷ [],
       subst (λ rs. AreLines declarations [] rs (ls ++ one ∷ [])) (sym (generated-more i)) grown,
       more ls at told,
