@@ -78,7 +78,7 @@ known_tables schema (l ∷ ls) h =
 
 -- ---- values that do not fit
 
-abbrev IsMisfit : Expr → Type 0
+abbrev pub IsMisfit : Expr → Type 0
 IsMisfit (value t x) = fits t x ≡ false
 IsMisfit _ = ⊥
 
@@ -97,10 +97,10 @@ misfit_ill (single q) h = absurd h
 misfit_ill (among_values n e t xs) h = absurd h
 misfit_ill (among_rows n e q) h = absurd h
 
-abbrev IllInside : Expr → Type 0
+abbrev pub IllInside : Expr → Type 0
 IllInside e = AnyOf IsIllTyped (nodes e)
 
-inside : (e : Expr) → AnyOf IsMisfit (nodes e) → IllInside e
+pub inside : (e : Expr) → AnyOf IsMisfit (nodes e) → IllInside e
 inside e h = any_each IsMisfit IsIllTyped misfit_ill (nodes e) h
 
 under_nullable : (e : Expr) → IllInside e → IllInside (nullable e)
@@ -162,7 +162,7 @@ node-fits schema v (single q) known seen fit = tt
 node-fits schema v (among_values n e t xs) known seen fit = tt
 node-fits schema v (among_rows n e q) known seen fit = tt
 
-nodes-fit : (schema : Declarations) (v : View) (es : List Expr) → ¬ AnyOf (IsUnknownColumn schema) es
+pub nodes-fit : (schema : Declarations) (v : View) (es : List Expr) → ¬ AnyOf (IsUnknownColumn schema) es
     → ¬ AnyOf (IsOutOfScope v) es → ¬ AnyOf IsMisfit es → Each (NodeFits v) es
 nodes-fit schema v [] known seen fit = tt
 nodes-fit schema v (e ∷ es) known seen fit = (

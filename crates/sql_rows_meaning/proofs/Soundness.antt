@@ -40,11 +40,11 @@ use Rattle.sql_rows_meaning.proofs.Kept.{Clean, Clean-left, Clean-right, accepte
 use Rattle.sql_rows_meaning.proofs.Cases.{AllFit, one-step, compared-step, joined-step, unary-step, among_values-step, among_rows-step, single-step, nullable-step, no_exprs-step, more_exprs-step, all-weaken, no_cause-fits, form-fits}
 
 -- a column in it whose row may be missing stands under no nullable
-abbrev IsBare : List Leaf → View → Type 0
+abbrev pub IsBare : List Leaf → View → Type 0
 IsBare ls os = AnyOf (IsMissing ls) os
 
 -- or the group has no row
-abbrev Cause : List Leaf → Group → View → Type 0 → Type 0
+abbrev pub Cause : List Leaf → Group → View → Type 0 → Type 0
 Cause ls rows os Loose = IsBare ls os ⊎ (rows ≡ []) × Loose
 
 cause_left : (ls : List Leaf) (rows : Group) (os ps : View) (A B : Type 0) → Cause ls rows os A
@@ -75,20 +75,20 @@ counted-fits (Some u) n t e = subst (λ w. Fits w (V.BigInt (pos n))) (some_same
 
 -- ---- statements that keep the rules, and of which none counts beside what it selects
 
-abbrev IsFine : Declarations → Dialect → List Part → Type 0
+abbrev pub IsFine : Declarations → Dialect → List Part → Type 0
 IsFine schema d ps = Clean schema d ps × ¬ AnyOf CountsBeside ps
 
-fine-left : (schema : Declarations) (d : Dialect) (ps qs : List Part) → IsFine schema d (ps ++ qs) → IsFine schema d ps
+pub fine-left : (schema : Declarations) (d : Dialect) (ps qs : List Part) → IsFine schema d (ps ++ qs) → IsFine schema d ps
 fine-left schema d ps qs h = (Clean-left schema d ps qs h.0, λ i. h.1 (any_left CountsBeside ps qs i))
 
-fine-right : (schema : Declarations) (d : Dialect) (ps qs : List Part) → IsFine schema d (ps ++ qs)
+pub fine-right : (schema : Declarations) (d : Dialect) (ps qs : List Part) → IsFine schema d (ps ++ qs)
     → IsFine schema d qs
 fine-right schema d ps qs h = (Clean-right schema d ps qs h.0, λ i. h.1 (any_right CountsBeside ps qs i))
 
 -- ---- groups
 
 -- what is known of a group: what holds of its rows, and that it has one, or else something else
-abbrev IsGood : (Frame → Type 0) → Type 0 → Group → Type 0
+abbrev pub IsGood : (Frame → Type 0) → Type 0 → Group → Type 0
 IsGood P Empty rows = Each P rows × (rows ≡ [] → Empty)
 
 abbrev AreGood : (Frame → Type 0) → List Keyed → Type 0
@@ -117,7 +117,7 @@ alone-good : (P : Frame → Type 0) (Empty : Type 0) (rows : List Frame) → Eac
 alone-good P Empty [] h = tt
 alone-good P Empty (row ∷ rows) h = (((h.0, tt), λ e. absurd cc), alone-good P Empty rows h.1)
 
-groups-good : (places : NullPlaces) (db : Database) (P : Frame → Type 0) (Empty : Type 0) (g : MaybeExpr) (counted : Bool)
+pub groups-good : (places : NullPlaces) (db : Database) (P : Frame → Type 0) (Empty : Type 0) (g : MaybeExpr) (counted : Bool)
     (rows : List Frame) (groups : List Group) → (¬ Present g → counted ≡ true → Empty)
     → GroupedBy places g counted db rows groups
     → Each P rows → Each (IsGood P Empty) groups
@@ -192,7 +192,7 @@ module _ (places : NullPlaces) (schema : Declarations) (d : Dialect) (db : Datab
           a.4 a.5 a.11 kept_fit
 
   mutual
-    gives-fit : (e : Expr) (ls : List Leaf) (f : Group) (ts : List SqlType) (vs : List Value)
+    pub gives-fit : (e : Expr) (ls : List Leaf) (f : Group) (ts : List SqlType) (vs : List Value)
         → Each (NodeFits (map (λ l. l.origin) ls)) (nodes e)
         → IsFine schema d (in_expr (map (λ l. l.origin) ls) e) → Each (FrameFits ls) f
         → element_types (given e) ≡ map Some ts

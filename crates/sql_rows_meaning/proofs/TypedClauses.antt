@@ -89,7 +89,7 @@ key-typed v every n = tt
 key-typed v distinct n = tt
 key-typed v (distinct_on e) n = flat-typed e (λ i. n (inl (inl i)))
 
-items-typed : (v : View) (is : Items) → ¬ AnyOf IsIllTypedClause (item_clauses v is) → AreTypedItems is
+pub items-typed : (v : View) (is : Items) → ¬ AnyOf IsIllTypedClause (item_clauses v is) → AreTypedItems is
 items-typed v no_items n = tt
 items-typed v (more_items e by is) n =
     (typed-top e (λ i. n (inl (inl (inl i)))), items-typed v is (λ i. n (inr i)))

@@ -12,7 +12,9 @@ ghost use Rattle.sql_node.specs.Tree.{Statement};
 ghost use Rattle.sql_rules.specs.Rules.{Accepted};
 ghost use Rattle.sql_rules.specs.Types.{columns};
 ghost use Rattle.sql_rows_meaning.specs.Answers.{Answers};
+ghost use Rattle.sql_rows_meaning.specs.Beside.{ExceptionIsNeeded};
 ghost use Rattle.sql_rows_meaning.specs.Counted.{IsCounted};
+ghost use Rattle.sql_rows_meaning.specs.DistinctOn.{FirstIsShown};
 ghost use Rattle.sql_rows_meaning.specs.Example.{HasTwoAnswers};
 ghost use Rattle.sql_rows_meaning.specs.Fitting.{AnswersFit};
 ghost use Rattle.sql_rows_meaning.specs.Frames.{Database, Frame};
@@ -45,6 +47,12 @@ pub fn needs_nullable_is_needed()
     ensures { RuleIsNeeded }
 {}
 
+/// What counts beside its columns has to be left out: here is a boxed statement that breaks no rule and counts in its order alone,
+/// `SELECT "users"."id" FROM "users" ORDER BY COUNT(*)`, and over empty tables it answers a NULL that does not fit.
+pub fn counting_beside_is_no_promise()
+    ensures { ExceptionIsNeeded }
+{}
+
 /// The last of the users who have a post is an answer: a condition on a subselect that sees the outer row, an order and a limit.
 pub fn last_writer_is_an_answer()
     ensures { HasLastWriter }
@@ -65,6 +73,13 @@ pub fn first_is_any()
 /// it. What is left is in that order too, so each answer is one of those where any row of each key may be left.
 pub fn first_by_the_order_is_left()
     ensures { FirstIsLeft }
+{}
+
+/// Each answer of a statement with `DISTINCT ON` and an order keeps of each set of rows that it takes for equal the first row by that
+/// order: `SELECT DISTINCT ON (a) a, b FROM t ORDER BY a, b` shows the least `b` of each `a`. Where no two rows of a set tie, that one
+/// comes before every other row of its set.
+pub fn distinct_on_keeps_the_first()
+    ensures { (schema : Declarations) (d : Dialect) (s : Statement) → Accepted schema d s → FirstIsShown schema s }
 {}
 
 /// Where nothing is grouped or counted, the answers are those of each row by itself.
