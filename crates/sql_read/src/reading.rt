@@ -77,12 +77,15 @@ fn is_too_deep(tokens: &[Token]) -> bool {
     false
 }
 
-/// Whether the tree is written with the text's tokens.
+/// Whether the tree is written with the text's tokens. Where it is written as the text, byte for byte, nothing is cut into tokens.
 fn is_written(alloc: Global, dialect: Dialect, tree: &Tree, text: &str) -> Result<bool, NoMemory>
     ensures { IfOk result (λ same. IsTrue same
         ↔ (tokens dialect (text_of dialect (tree_of tree.now)) ≡ tokens dialect text.now)) }
 {
     let written = write(alloc, dialect, tree)?;
+    if written.as_str() == text {
+        return Ok(true);
+    }
     let a = text_tokens(alloc, dialect, written.as_str())?;
     let b = text_tokens(alloc, dialect, text)?;
     Ok(same_found(&a, &b))
