@@ -1,5 +1,5 @@
 -- What the answer says of a statement that breaks no rule, and how that is read.
-use Rattle.std.specs.Prelude.{◌≡◌, ◌++◌, ℕ, List, ◌∷◌, map, length, Some}
+use Rattle.std.specs.Prelude.{◌≡◌, ◌++◌, ℕ, List, ◌∷◌, map, length, Some, Result, IfOk, IfErr}
 use Rattle.sql_schema.specs.Declarations.{Declarations}
 use Rattle.sql_dialect.specs.declared.backend.Dialect.{Dialect}
 use Rattle.sql_grammar.specs.Numbering.{Fills}
@@ -20,6 +20,8 @@ use Rattle.sql_rules.specs.Types.{columns}
 pub use Rattle.sql_rules.specs.Safety.{is_safe_in}
 use Rattle.sql_rules.specs.declared.rule.Rule.{Rule}
 use Rattle.sql_check.specs.declared.built.Built.{Built}
+use Rattle.sql_check.specs.declared.error.CompileError.{CompileError}
+use Rattle.sql_check.specs.Errors.{rule_of}
 
 -- the text, where places are numbered from the first
 abbrev pub sql_of : Dialect → Statement → List ℕ
@@ -50,3 +52,9 @@ pub record IsRead (d : Dialect) (s : Statement) (sql : List ℕ) (binds : List B
 pub record IsLeast (r : Rule) (schema : Declarations) (d : Dialect) (s : Statement) : Type 0 where
   pub broken : Broken r schema d s
   pub before : (front rest : List Rule) × (all_rules ≡ front ++ r ∷ rest) × Each (λ q. ¬ Broken q schema d s) front
+
+-- What `compile` answers of the statement: it is built, and read as itself; or the rule that an error names is the first that is broken.
+pub record Compiles (schema : Declarations) (d : Dialect) (s : Statement) (answer : Result Built CompileError) : Type 0 where
+  pub built : IfOk answer (λ b. IsBuilt schema d s b)
+  pub read : IfOk answer (λ b. IsRead d s b.sql b.binds)
+  pub refused : IfErr answer (λ e. (r : Rule) → rule_of e ≡ Some r → IsLeast r schema d s)

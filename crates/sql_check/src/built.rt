@@ -5,7 +5,7 @@ ghost use Rattle.sql_node.specs.View.{statement_tree};
 ghost use Rattle.sql_flat.specs.Flat.{flat_of};
 ghost use Rattle.sql_rules_check.specs.First.{IsFirst, inner_rules};
 ghost use Rattle.sql_rules_check.specs.declared.names.Names.TheVariants as name;
-ghost use Rattle.sql_check.specs.Compiled.{IsBuilt, IsLeast, IsRead};
+ghost use Rattle.sql_check.specs.Compiled.{Compiles, IsBuilt, IsLeast, IsRead};
 ghost use Rattle.sql_check.specs.Errors.{rule_of};
 ghost use Rattle.sql_check.specs.Fused.{IsFused};
 ghost use Rattle.sql_check.specs.Typed.{known};
@@ -138,12 +138,7 @@ pub fn compile_flat_by<DB: Backend>(
 ) -> Result<Built, CompileError>
     requires { names ≡ name.Known → (s : t.Statement) → flat.now ≡ flat_of s
         → ¬ Broken rule.UnknownName schema.now DB.speaks s }
-    ensures built { IfOk result (λ b. (s : t.Statement) → flat.now ≡ flat_of s
-        → IsBuilt schema.now DB.speaks s b) }
-    ensures read { IfOk result (λ b. (s : t.Statement) → flat.now ≡ flat_of s
-        → IsRead DB.speaks s b.sql b.binds) }
-    ensures refused { IfErr result (λ e. (r : Rule) → rule_of e ≡ Some r
-        → (s : t.Statement) → flat.now ≡ flat_of s → IsLeast r schema.now DB.speaks s) }
+    ensures { (s : t.Statement) → flat.now ≡ flat_of s → Compiles schema.now DB.speaks s result }
 {
     let Judgement { first, columns } = judge(alloc, names, backend, schema, flat)?;
     match first {
@@ -165,12 +160,7 @@ pub fn compile_by<DB: Backend>(
 ) -> Result<Built, CompileError>
     requires { names ≡ name.Known
         → ¬ Broken rule.UnknownName schema.now DB.speaks (statement_tree statement.now) }
-    ensures built { IfOk result (λ b. IsBuilt schema.now DB.speaks (statement_tree statement.now)
-        b) }
-    ensures read { IfOk result (λ b. IsRead DB.speaks (statement_tree statement.now)
-        b.sql b.binds) }
-    ensures refused { IfErr result (λ e. (r : Rule) → rule_of e ≡ Some r
-        → IsLeast r schema.now DB.speaks (statement_tree statement.now)) }
+    ensures { Compiles schema.now DB.speaks (statement_tree statement.now) result }
 {
     let flat = flatten(alloc, statement)?;
     compile_flat_by(alloc, names, backend, schema, &flat)

@@ -21,7 +21,7 @@ use Rattle.sql_rules_law.proofs.SafeLaws.{safe_alike}
 use Rattle.sql_rules_law.proofs.TypeLaws.{types}
 
 -- an id is the key of a statement that has one
-own-key : (s : Statement) (k : List FlatNode) → id_of s ≡ Some k → (has_id s ≡ true) × (key s ≡ k)
+pub own-key : (s : Statement) (k : List FlatNode) → id_of s ≡ Some k → (has_id s ≡ true) × (key s ≡ k)
 own-key s k h = go (has_id s) h
   where
     go : (b : Bool) → cond b (Some (key s)) None ≡ Some k → (b ≡ true) × (key s ≡ k)

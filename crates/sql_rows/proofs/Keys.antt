@@ -1,10 +1,11 @@
 -- The keys of a cache's pairs, behind a look-up and behind a put.
-use Rattle.std.proofs.Common.{◌≡◌, ℕ, zero, suc, ◌-◌, Bool, true, false, true≢false, cond, ◌||◌, List, [], ◌∷◌, ◌++◌, Option, Some, None, is_some, take, Contains, refl, sym, ap, ◌∙◌, arith}
+use Rattle.std.proofs.Common.{◌≡◌, ℕ, zero, suc, ◌-◌, Bool, true, false, true≢false, cond, ◌||◌, List, [], ◌∷◌, ◌++◌, Option, Some, None, is_some, take, length, ◌<◌, Contains, refl, sym, ap, ◌∙◌, subst, arith}
 use Rattle.std.specs.List.{list_any, slice_get}
 use Rattle.std.specs.Map.{keys_of, lookup, lookup_entry, remove_entry}
 use Rattle.std.specs.Option.{option_map_or}
 use Rattle.lru.specs.LruCache.{LruCache, promoted, put_entries}
 use Rattle.lru.proofs.CallerLemmas.{Contains-lookup_entry}
+use Rattle.lru.proofs.Splits.{Contains-head, Contains-tail}
 
 -- ## Whether a key is there
 
@@ -27,6 +28,33 @@ module _ {K V : Type 0} (test : K → Bool) where
       go true h = refl
       go false h = h
 
+-- each key that passes the test is that one
+abbrev pub Finds : {K V : Type 0} → (K → Bool) → K → List (K × V) → Type 0
+Finds {K} {V} test k es = (e : K × V) → Contains es e → test e.0 ≡ true → k ≡ e.0
+
+-- a key that passes is among the keys, where each that passes is the one
+pub among : {K V : Type 0} (test : K → Bool) (k : K) (es : List (K × V)) → Finds test k es
+    → list_any test (keys_of es) ≡ true → Contains (keys_of es) k
+among test k [] exact h = absurd (true≢false (sym h))
+among {K} {V} test k (f ∷ es) exact h =
+    go (test f.0) refl h (among test k es (λ e there t. exact e (Contains-tail f es e there) t))
+  where
+    go : (b : Bool) → test f.0 ≡ b → b || list_any test (keys_of es) ≡ true
+        → (list_any test (keys_of es) ≡ true → Contains (keys_of es) k) → Contains (keys_of (f ∷ es)) k
+    go true t g later =
+        subst (Contains (keys_of (f ∷ es))) (sym (exact f (Contains-head f es) t)) (Contains-head f.0 (keys_of es))
+    go false t g later = Contains-tail f.0 (keys_of es) k (later g)
+
+-- a key among the keys stands in an entry
+pub entry-of : {K V : Type 0} (es : List (K × V)) (k : K) → Contains (keys_of es) k → (v : V) × Contains es (k, v)
+entry-of [] k (i, l, e) = let n : i < 0 = l in absurd (omega (arith, n))
+entry-of (f ∷ es) k (zero, l, e) = (f.1, (0, omega arith, λ i. (e i, f.1)))
+entry-of (f ∷ es) k (suc i, l, e) =
+    let n : suc i < suc (length (keys_of es)) = l in
+    let m : i < length (keys_of es) = omega (arith, n) in
+    let (v, there) = entry-of es k (i, m, e) in
+    (v, Contains-tail f es (k, v) there)
+
 -- ## Behind a look-up
 
 -- keys are cut at one, and it is gone
@@ -37,22 +65,26 @@ IsCut {K} k ks after = (front : List K) × (back : List K) × (ks ≡ front ++ k
 abbrev pub IsFound : {K : Type 0} → K → List K → List K → Type 0
 IsFound {K} k ks after = (front : List K) × (back : List K) × (ks ≡ front ++ k ∷ back) × (after ≡ k ∷ (front ++ back))
 
-module _ {K V : Type 0} (test : K → Bool) (k : K) (exact : (a : K) → test a ≡ true → k ≡ a) where
-  cut : (es : List (K × V)) (e : K × V) → lookup_entry test es ≡ Some e
+module _ {K V : Type 0} (test : K → Bool) (k : K) where
+  later : (f : K × V) (es : List (K × V)) → Finds test k (f ∷ es) → Finds test k es
+  later f es exact e there t = exact e (Contains-tail f es e there) t
+
+  cut : (es : List (K × V)) → Finds test k es → (e : K × V) → lookup_entry test es ≡ Some e
       → IsCut k (keys_of es) (keys_of (remove_entry test es))
-  cut [] e h = absurd (cc)
-  cut (f ∷ es) e h =
+  cut [] exact e h = absurd (cc)
+  cut (f ∷ es) exact e h =
       (elim (test f.0) as (λ y. test f.0 ≡ y → cond y (Some f) (lookup_entry test es) ≡ Some e
       → IsCut k (keys_of (f ∷ es)) (keys_of (cond y es (f ∷ remove_entry test es)))) [
-        | true ↦ λ t g. ([], keys_of es, (λ i. sym (exact f.0 t) i ∷ keys_of es), refl)
+        | true ↦ λ t g. ([], keys_of es, (λ i. sym (exact f (Contains-head f es) t) i ∷ keys_of es), refl)
         | false ↦ λ t g.
-            let on = cut es e g in
+            let on = cut es (later f es exact) e g in
             (f.0 ∷ on.0, on.1, ap (λ ks. f.0 ∷ ks) on.2, ap (λ ks. f.0 ∷ ks) on.3)
       ])
       refl h
 
-  pub found : (es : List (K × V)) → is_some (lookup test es) ≡ true → IsFound k (keys_of es) (keys_of (promoted test es))
-  found es h = go (lookup_entry test es) refl
+  pub found : (es : List (K × V)) → Finds test k es → is_some (lookup test es) ≡ true
+      → IsFound k (keys_of es) (keys_of (promoted test es))
+  found es exact h = go (lookup_entry test es) refl
     where
       go : (o : Option (K × V)) → lookup_entry test es ≡ o
           → IsFound k (keys_of es) (keys_of (option_map_or (λ e. e ∷ remove_entry test es) o es))
@@ -60,8 +92,9 @@ module _ {K V : Type 0} (test : K → Bool) (k : K) (exact : (a : K) → test a 
           let there : is_some (lookup_entry test es) ≡ true = entry-there test es ∙ sym (is-there test es) ∙ h in
           absurd (true≢false (sym there ∙ ap is_some n))
       go (Some e) s =
-          let c = cut es e s in
-          let key : e.0 ≡ k = sym (exact e.0 (Contains-lookup_entry test es e s).1) in
+          let c = cut es exact e s in
+          let at = Contains-lookup_entry test es e s in
+          let key : e.0 ≡ k = sym (exact e at.0 at.1) in
           (c.0, c.1, c.2, (λ i. key i ∷ c.3 i))
 
   pub not-found : (es : List (K × V)) → is_some (lookup test es) ≡ false → promoted test es ≡ es

@@ -3,6 +3,7 @@ pub mod Alone
 pub mod Counted
 pub mod Exact
 pub mod Keys
+pub mod Known
 pub mod Next
 pub mod Once
 pub mod Told

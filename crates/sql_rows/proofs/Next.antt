@@ -1,14 +1,23 @@
 -- What a call makes of the entries, where its pair is there, or new, or there is none.
 use Rattle.std.proofs.Common.{◌≡◌, ◌↔◌, true, false, true≢false, List, None, Some, Contains, inr, refl, sym, ap, ◌∙◌, subst}
-use Rattle.std.specs.Prelude.{Result, Ok, Err, OnOk, OnErr}
+use Rattle.std.specs.Prelude.{Result, Ok, Err, IfOk, OnOk, OnErr}
+use Rattle.std.proofs.lemmas.Bool.{false≢true}
 use Rattle.sql_dialect.specs.declared.backend.Dialect.{Dialect}
 use Rattle.sql_node.specs.Tree.{Statement}
+use Rattle.sql_flat.specs.Flat.{flat_of}
 use Rattle.sql_key.specs.Keys.{id_of}
 use Rattle.sql_flat.specs.declared.kind.FlatNode.{FlatNode}
 use Rattle.sql_rules_law.proofs.FitLaws.{test as fit-test}
 use Rattle.sql_rules_law.specs.Fitting.{values_fit}
 use Rattle.sql_rows.specs.declared.cache.RequestKey.{RequestKey}
+use Rattle.sql_rules.specs.Rules.{Broken}
+use Rattle.sql_rules.specs.declared.rule.Rule.TheVariants.{UnknownName}
+use Rattle.sql_rules_check.proofs.UnknownNames.{unknown}
+use Rattle.sql_check.specs.Compiled.{IsBuilt}
+use Rattle.sql_check.specs.declared.built.Built.{Built}
 use Rattle.sql_rows.specs.Entries.{Entries, IsLookedUp, IsHit, IsNext, put}
+use Rattle.sql_rows.specs.inside.Known.{AreKnown, IsKnown}
+use Rattle.sql_rows.proofs.Known.{key-unknown}
 
 on-ok : {A E P : Type 0} (r : Result A E) → P → OnOk r P
 on-ok (Ok a) p = p
@@ -82,3 +91,21 @@ module _ {A E : Type 0} (d : Dialect) (s : Statement) (before : Entries) where
       → OnErr r (after ≡ before) → after.schema ≡ before.schema
   new-schema (Ok a) pair after ok err = ap (λ (w : Entries). w.schema) ok
   new-schema (Err e) pair after ok err = ap (λ (w : Entries). w.schema) err
+
+module _ {E : Type 0} (d : Dialect) (s : Statement) (before : Entries) where
+  -- a statement of which a name is not the schema's is refused, and no pair of it is kept
+  pub unknown-next : (r : Result Built E) → ((pair : RequestKey) → Contains before.keys pair → IsKnown before.schema pair)
+      → Broken UnknownName before.schema d s → IfOk r (λ b. IsBuilt before.schema d s b) → IsNext d s before r before
+  unknown-next r all broken built = record {
+    found = λ pair at there.
+        let known : AreKnown before.schema (flat_of s) =
+        sym (key-unknown before.schema s pair.key at.id) ∙ all pair there in
+        absurd (false≢true ((unknown s (flat_of s) false before.schema refl (sym known) d).1 broken));
+    not_found = λ pair at new. (refused r built pair, on-err r refl);
+    not_looked_up = λ none. refl;
+  }
+    where
+      refused : (r : Result Built E) → IfOk r (λ b. IsBuilt before.schema d s b) → (pair : RequestKey)
+          → OnOk r (before ≡ put before pair)
+      refused (Ok b) h pair = absurd (h.accepted UnknownName broken)
+      refused (Err e) h pair = tt

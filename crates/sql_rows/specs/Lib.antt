@@ -1,10 +1,13 @@
 -- What a statement cache holds, and what each call makes of it.
 pub mod Calls
 pub mod Entries
+pub mod Sound
 pub mod inside
 -- What statements mean: `Rattle.sql_rows.specs.Fitting.{AnswersFit}` is that of `sql_rows_meaning`.
 pub use Rattle.sql_rows_meaning.specs.Answers
+pub use Rattle.sql_rows_meaning.specs.Beside
 pub use Rattle.sql_rows_meaning.specs.Counted
+pub use Rattle.sql_rows_meaning.specs.DistinctOn
 pub use Rattle.sql_rows_meaning.specs.Example
 pub use Rattle.sql_rows_meaning.specs.Fitting
 pub use Rattle.sql_rows_meaning.specs.Frames

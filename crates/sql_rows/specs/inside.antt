@@ -1,2 +1,3 @@
--- Devices: what is kept with a pair.
+-- Devices: what is kept with a pair, and that its names are the schema's.
+pub mod Known
 pub mod Served

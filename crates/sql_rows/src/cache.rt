@@ -1,4 +1,5 @@
 ghost use Rattle.std.specs.Prelude.{◌≡◌, ◌≢◌, ◌↔◌, ◌≤◌, [], length, false, slice_get, Contains, AllPairs, IfOk, IfErr, OnOk, OnErr, IsTrue, Some};
+ghost use Rattle.std.specs.List.{list_any};
 ghost use Rattle.std.specs.NonZero.{non_zero_usize_get};
 ghost use Rattle.sql_schema.specs.Declarations.{Declarations};
 ghost use Rattle.sql_node.specs.Tree.{Statement as Tree};
@@ -6,6 +7,7 @@ ghost use Rattle.sql_node.specs.View.{statement_tree};
 ghost use Rattle.sql_flat.specs.Flat.{flat_of};
 ghost use Rattle.sql_key.specs.Keys.{id_of};
 ghost use Rattle.sql_rules_check.specs.declared.names.Names.TheVariants as name;
+ghost use Rattle.sql_rules_check.specs.inside.Sites.{is_unknown};
 ghost use Rattle.sql_rules.specs.Rules.{Broken};
 ghost use Rattle.sql_rules.specs.declared.rule.Rule.{Rule};
 ghost use Rattle.sql_rules.specs.declared.rule.Rule.TheVariants as rule;
@@ -14,17 +16,22 @@ ghost use Rattle.sql_check.specs.Errors.{rule_of};
 ghost use Rattle.sql_check.specs.declared.error.CompileError.TheVariants as error;
 ghost use Rattle.sql_rows_meaning.specs.Fitting.{AnswersFit};
 ghost use Rattle.sql_rows.specs.Entries.{IsHit, IsLookedUp, IsNext, put};
+ghost use Rattle.sql_rows.specs.Sound.{CompilesSoundly};
+ghost use Rattle.sql_rows.specs.declared.cache.RequestKey.{RequestKey as Pair};
+ghost use Rattle.sql_rows.specs.inside.Known.{AreKnown, IsKnown};
 ghost use Rattle.sql_rows.specs.inside.Served.{Serves, Tells, kept_of};
 
 use crate::sound::compile_sound_flat_by;
 use lru::LruCache;
 use sql_check::{Built, CompileError, Names, values_fit};
 use sql_dialect::{Backend, Dialect};
-use sql_flat::{Flat, flatten};
+use sql_flat::{Flat, FlatNode, flatten};
 use sql_key::{QueryKey, flat_query_id};
+use sql_key_names::NamedKey;
 use sql_node::Statement;
 use sql_pass::debug_binds;
 use sql_rows_meaning::types_are_sound;
+use sql_rules_check::any_unknown_name;
 use sql_rules_law::{accepted_are_read, names_one_leaf};
 use sql_schema::{NoMemory, Schema, SqlList, SqlText, SqlType};
 use std::alloc::{AllocError, Global};
@@ -36,6 +43,43 @@ use std::num::NonZeroUsize;
 pub struct RequestKey {
     pub dialect: Dialect,
     pub key: QueryKey,
+}
+
+/// The same among requests over one schema: two are compared by the names of tables and columns.
+#[derive(Debug, Drop, PartialEq, Eq, PartialOrd, Ord, Hash)]
+pub struct NamedRequest {
+    dialect: Dialect,
+    key: NamedKey,
+}
+
+impl Model for NamedRequest {
+    ghost use Rattle.sql_rows.specs.declared.cache.RequestKey.{RequestKey};
+
+    ghost Value = { RequestKey };
+
+    ghost view = { λ n. record { dialect = n.dialect; key = n.key } };
+
+    ghost inverse = { λ k. record { dialect = k.dialect; key = k.key } };
+}
+
+impl NamedRequest {
+    /// The key of the statement.
+    fn into_key(self) -> QueryKey
+        ensures { result ≡ self.key }
+    {
+        self.key.into_inner()
+    }
+}
+
+impl From<RequestKey> for NamedRequest {
+    ghost from_gives = { λ k n. n ≡ k };
+
+    fn from(request: RequestKey) -> NamedRequest {
+        NamedRequest {
+            dialect: request.dialect,
+            key: NamedKey::from(request.key),
+        }
+    }
 }
 
 /// What of an answer is the same for all statements of one key.
@@ -50,13 +94,16 @@ struct Kept {
 #[derive(Drop)]
 pub struct StatementCache {
     schema: Schema,
-    kept: LruCache<RequestKey, Kept>,
+    kept: LruCache<NamedRequest, Kept>,
     hits: u64,
 }
 
 impl Model for StatementCache {
     ghost use Rattle.std.specs.Map.{keys_of};
     ghost use Rattle.sql_rows.specs.Entries.{Entries};
+    ghost use Rattle.std.specs.Prelude.{◌≡◌, None};
+    ghost use Rattle.sql_schema.specs.Refusals.{least_refusal};
+    ghost use Rattle.sql_rows.specs.inside.Known.{AllKnown};
     ghost use Rattle.sql_rows.specs.inside.Served.{AllServe};
 
     ghost Value = { Entries };
@@ -68,7 +115,8 @@ impl Model for StatementCache {
       hits = c.hits;
     } };
 
-    ghost invariant = { λ c. AllServe c.schema c.kept.entries };
+    ghost invariant = { λ c. AllServe c.schema c.kept.entries
+        × (AllKnown c.schema c.kept.entries × (least_refusal c.schema ≡ None)) };
 }
 
 /// Text, types and flag in memory of their own.
@@ -102,7 +150,7 @@ fn pair_of<DB: Backend>(
     alloc: Global,
     backend: &DB,
     asked: Asked<'_>,
-) -> Result<Option<RequestKey>, NoMemory>
+) -> Result<Option<NamedRequest>, NoMemory>
     requires { asked.flat.now ≡ flat_of (statement_tree asked.statement.now) }
     ensures { IfOk result (λ found. (pair : RequestKey) → (found ≡ Some pair)
         ↔ IsLookedUp DB.speaks (statement_tree asked.entry.statement.now) pair) }
@@ -113,8 +161,19 @@ fn pair_of<DB: Backend>(
     }
     let dialect = backend.dialect();
     match flat_query_id(alloc, asked.flat)? {
-        Some(key) => Ok(Some(RequestKey { dialect, key })),
+        Some(key) => Ok(Some(NamedRequest::from(RequestKey { dialect, key }))),
         None => Ok(None),
+    }
+}
+
+/// Whether a name of the statement of these nodes is not the schema's.
+fn lacks_name(schema: &Schema, names: Names, nodes: &[FlatNode]) -> bool
+    requires { names ≡ name.Known → AreKnown schema.now nodes.now }
+    ensures { result ≡ list_any (λ x. is_unknown schema.now x.kind) nodes.now }
+{
+    match names {
+        Names::Asked => any_unknown_name(schema, nodes),
+        Names::Known => false,
     }
 }
 
@@ -167,6 +226,7 @@ impl StatementCache {
             ≡ record { schema = schema; keys = []; capacity = non_zero_usize_get capacity; hits = 0 }) }
     {
         let kept = LruCache::new(alloc, capacity)?;
+        let _sound = schema.tables();
         Ok(StatementCache {
             schema,
             kept,
@@ -204,7 +264,8 @@ impl StatementCache {
         self.len() == 0
     }
 
-    fn look_up(&mut self, pair: &RequestKey) -> bool
+    fn look_up(&mut self, pair: &NamedRequest) -> bool
+        requires { IsKnown self.old.schema pair.now }
         ensures found { IsTrue result ↔ Contains self.old.keys pair.now }
         ensures hit { IsTrue result → IsHit self.old pair.now self.new }
         ensures unchanged { result ≡ false → self.new ≡ self.old }
@@ -228,7 +289,8 @@ impl StatementCache {
         }
     }
 
-    fn keep(&mut self, alloc: Global, pair: RequestKey, built: &Built) -> Result<(), NoMemory>
+    fn keep(&mut self, alloc: Global, pair: NamedRequest, built: &Built) -> Result<(), NoMemory>
+        requires known { IsKnown self.old.schema pair }
         requires new { ¬ Contains self.old.keys pair }
         requires serves { Serves self.old.schema (pair, kept_of built.now) }
         ensures kept { OnOk result (self.new ≡ put self.old pair) }
@@ -251,14 +313,8 @@ impl StatementCache {
     ) -> Result<Built, CompileError>
         requires { names ≡ name.Known → (s : Tree) → flat.now ≡ flat_of s
             → ¬ Broken rule.UnknownName self.now.schema DB.speaks s }
-        ensures built { IfOk result (λ b. (s : Tree) → flat.now ≡ flat_of s
-            → IsBuilt self.now.schema DB.speaks s b) }
-        ensures read { IfOk result (λ b. (s : Tree) → flat.now ≡ flat_of s
-            → IsRead DB.speaks s b.sql b.binds) }
-        ensures sound { IfOk result (λ b. (s : Tree) → flat.now ≡ flat_of s
-            → AnswersFit self.now.schema s b.sql_types) }
-        ensures refused { IfErr result (λ e. (r : Rule) → rule_of e ≡ Some r
-            → (s : Tree) → flat.now ≡ flat_of s → IsLeast r self.now.schema DB.speaks s) }
+        ensures { (s : Tree) → flat.now ≡ flat_of s
+            → CompilesSoundly self.now.schema DB.speaks s result }
     {
         compile_sound_flat_by(alloc, names, backend, self.schema(), flat)
     }
@@ -269,53 +325,91 @@ impl StatementCache {
         alloc: Global,
         backend: &DB,
         statement: &Statement,
-        pair: RequestKey,
+        pair: NamedRequest,
     ) -> Result<Built, CompileError>
         requires looked_up { IsLookedUp DB.speaks (statement_tree statement.now) pair }
         requires first { slice_get self.now.keys 0 ≡ Some pair }
-        ensures built { IfOk result (λ b.
-            IsBuilt self.now.schema DB.speaks (statement_tree statement.now) b) }
-        ensures read { IfOk result (λ b.
-            IsRead DB.speaks (statement_tree statement.now) b.sql b.binds) }
-        ensures sound { IfOk result (λ b.
-            AnswersFit self.now.schema (statement_tree statement.now) b.sql_types) }
-        ensures refused { IfErr result (λ e. e ≡ error.NoMemory) }
+        ensures { CompilesSoundly self.now.schema DB.speaks (statement_tree statement.now) result }
     {
         let kept = self.recall(alloc)?;
-        tell(alloc, backend, statement, pair.key, kept)
+        tell(alloc, backend, statement, pair.into_key(), kept)
     }
 
     /// The answer for a pair that is not there, which is put first.
     fn answer_new<DB: Backend>(
         &mut self,
         alloc: Global,
-        names: Names,
         backend: &DB,
         asked: Asked<'_>,
-        pair: RequestKey,
+        pair: NamedRequest,
     ) -> Result<Built, CompileError>
-        requires known { names ≡ name.Known
-            → ¬ Broken rule.UnknownName self.old.schema DB.speaks (statement_tree asked.statement.now) }
+        requires known { ¬ Broken rule.UnknownName self.old.schema DB.speaks (statement_tree asked.statement.now) }
         requires flat { asked.flat.now ≡ flat_of (statement_tree asked.statement.now) }
         requires looked_up { IsLookedUp DB.speaks (statement_tree asked.statement.now) pair }
         requires new { ¬ Contains self.old.keys pair }
-        ensures built { IfOk result (λ b.
-            IsBuilt self.old.schema DB.speaks (statement_tree asked.entry.statement.now) b) }
-        ensures read { IfOk result (λ b.
-            IsRead DB.speaks (statement_tree asked.entry.statement.now) b.sql b.binds) }
-        ensures sound { IfOk result (λ b.
-            AnswersFit self.old.schema (statement_tree asked.entry.statement.now) b.sql_types) }
-        ensures refused { IfErr result (λ e. (r : Rule) → rule_of e ≡ Some r
-            → IsLeast r self.old.schema DB.speaks (statement_tree asked.entry.statement.now)) }
+        ensures compiled { CompilesSoundly self.old.schema DB.speaks
+            (statement_tree asked.entry.statement.now) result }
         ensures put { OnOk result (self.new ≡ put self.old pair) }
         ensures unchanged { OnErr result (self.new ≡ self.old) }
     {
-        match self.compile_alone(alloc, names, backend, asked.flat) {
+        match self.compile_alone(alloc, Names::Known, backend, asked.flat) {
             Ok(built) => {
                 self.keep(alloc, pair, &built)?;
                 Ok(built)
             }
             Err(error) => Err(error),
+        }
+    }
+
+    /// What is kept names tables and columns of the schema alone.
+    fn keeps_known_names(&self)
+        ensures { (pair : Pair) → Contains self.now.keys pair → IsKnown self.now.schema pair }
+    {
+        let _len = self.kept.len();
+    }
+
+    /// The refusal of a statement of which a name is not the schema's. None of its pair is kept.
+    fn refuse<DB: Backend>(
+        &self,
+        alloc: Global,
+        backend: &DB,
+        asked: Asked<'_>,
+    ) -> Result<Built, CompileError>
+        requires unknown { Broken rule.UnknownName self.now.schema DB.speaks (statement_tree asked.statement.now) }
+        requires flat { asked.flat.now ≡ flat_of (statement_tree asked.statement.now) }
+        ensures compiled { CompilesSoundly self.now.schema DB.speaks
+            (statement_tree asked.entry.statement.now) result }
+        ensures entries { IsNext DB.speaks (statement_tree asked.entry.statement.now)
+            self.now result self.now }
+    {
+        self.keeps_known_names();
+        self.compile_alone(alloc, Names::Asked, backend, asked.flat)
+    }
+
+    /// The answer for a statement whose names are the schema's, by what is kept where its pair is there.
+    fn compile_known<DB: Backend>(
+        &mut self,
+        alloc: Global,
+        backend: &DB,
+        asked: Asked<'_>,
+    ) -> Result<Built, CompileError>
+        requires known { ¬ Broken rule.UnknownName self.old.schema DB.speaks (statement_tree asked.statement.now) }
+        requires flat { asked.flat.now ≡ flat_of (statement_tree asked.statement.now) }
+        ensures compiled { CompilesSoundly self.old.schema DB.speaks
+            (statement_tree asked.entry.statement.now) result }
+        ensures schema { self.new.schema ≡ self.old.schema }
+        ensures entries { IsNext DB.speaks (statement_tree asked.entry.statement.now)
+            self.old result self.new }
+    {
+        match pair_of(alloc, backend, asked)? {
+            None => self.compile_alone(alloc, Names::Known, backend, asked.flat),
+            Some(pair) => {
+                if self.look_up(&pair) {
+                    self.answer_kept(alloc, backend, asked.statement, pair)
+                } else {
+                    self.answer_new(alloc, backend, asked, pair)
+                }
+            }
         }
     }
 
@@ -332,14 +426,8 @@ impl StatementCache {
     ) -> Result<Built, CompileError>
         requires { names ≡ name.Known
             → ¬ Broken rule.UnknownName self.old.schema DB.speaks (statement_tree statement.now) }
-        ensures built { IfOk result (λ b.
-            IsBuilt self.old.schema DB.speaks (statement_tree statement.now) b) }
-        ensures read { IfOk result (λ b.
-            IsRead DB.speaks (statement_tree statement.now) b.sql b.binds) }
-        ensures sound { IfOk result (λ b.
-            AnswersFit self.old.schema (statement_tree statement.now) b.sql_types) }
-        ensures refused { IfErr result (λ e. (r : Rule) → rule_of e ≡ Some r
-            → IsLeast r self.old.schema DB.speaks (statement_tree statement.now)) }
+        ensures compiled { CompilesSoundly self.old.schema DB.speaks
+            (statement_tree statement.now) result }
         ensures schema { self.new.schema ≡ self.old.schema }
         ensures entries { IsNext DB.speaks (statement_tree statement.now)
             self.old result self.new }
@@ -349,15 +437,10 @@ impl StatementCache {
             statement,
             flat: &flat,
         };
-        match pair_of(alloc, backend, asked)? {
-            None => self.compile_alone(alloc, names, backend, &flat),
-            Some(pair) => {
-                if self.look_up(&pair) {
-                    self.answer_kept(alloc, backend, statement, pair)
-                } else {
-                    self.answer_new(alloc, names, backend, asked, pair)
-                }
-            }
+        if lacks_name(self.schema(), names, flat.nodes()) {
+            self.refuse(alloc, backend, asked)
+        } else {
+            self.compile_known(alloc, backend, asked)
         }
     }
 

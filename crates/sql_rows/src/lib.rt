@@ -7,12 +7,13 @@ mod cache;
 mod laws;
 mod sound;
 
-pub use cache::{RequestKey, StatementCache};
+pub use cache::{NamedRequest, RequestKey, StatementCache};
 pub use laws::{answered_pairs_come_first, calls_are_answered_alone, equal_ids, one_answer};
 pub use sound::{compile_sound, compile_sound_by};
 pub use sql_check::Names;
 pub use sql_rows_meaning::{
-    accepted_statements_have_answers, first_by_the_order_is_left, first_is_any,
-    last_writer_is_an_answer, left_join_has_two_answers, needs_nullable_is_needed, operators_work,
-    posts_are_counted, the_example_is_accepted, types_are_sound, ungrouped_answers_are_the_same,
+    accepted_statements_have_answers, counting_beside_is_no_promise, distinct_on_keeps_the_first,
+    first_by_the_order_is_left, first_is_any, last_writer_is_an_answer, left_join_has_two_answers,
+    needs_nullable_is_needed, operators_work, posts_are_counted, the_example_is_accepted,
+    types_are_sound, ungrouped_answers_are_the_same,
 };

@@ -9,6 +9,7 @@ ghost use Rattle.sql_rules.specs.Rules.{Broken};
 ghost use Rattle.sql_rules.specs.declared.rule.Rule.{Rule};
 ghost use Rattle.sql_rules.specs.declared.rule.Rule.TheVariants as rule;
 ghost use Rattle.sql_rows_meaning.specs.Fitting.{AnswersFit};
+ghost use Rattle.sql_rows.specs.Sound.{CompilesSoundly};
 
 use sql_check::{Built, CompileError, Names, compile_by, compile_flat_by};
 use sql_dialect::Backend;
@@ -32,14 +33,7 @@ pub fn compile_sound_by<DB: Backend>(
 ) -> Result<Built, CompileError>
     requires { names ≡ name.Known
         → ¬ Broken rule.UnknownName schema.now DB.speaks (statement_tree statement.now) }
-    ensures built { IfOk result (λ b. IsBuilt schema.now DB.speaks (statement_tree statement.now)
-        b) }
-    ensures read { IfOk result (λ b. IsRead DB.speaks (statement_tree statement.now)
-        b.sql b.binds) }
-    ensures sound { IfOk result (λ b. AnswersFit schema.now (statement_tree statement.now)
-        b.sql_types) }
-    ensures refused { IfErr result (λ e. (r : Rule) → rule_of e ≡ Some r
-        → IsLeast r schema.now DB.speaks (statement_tree statement.now)) }
+    ensures { CompilesSoundly schema.now DB.speaks (statement_tree statement.now) result }
 {
     types_are_sound();
     compile_by(alloc, names, backend, schema, statement)
@@ -55,14 +49,7 @@ pub(crate) fn compile_sound_flat_by<DB: Backend>(
 ) -> Result<Built, CompileError>
     requires { names ≡ name.Known → (s : Tree) → flat.now ≡ flat_of s
         → ¬ Broken rule.UnknownName schema.now DB.speaks s }
-    ensures built { IfOk result (λ b. (s : Tree) → flat.now ≡ flat_of s
-        → IsBuilt schema.now DB.speaks s b) }
-    ensures read { IfOk result (λ b. (s : Tree) → flat.now ≡ flat_of s
-        → IsRead DB.speaks s b.sql b.binds) }
-    ensures sound { IfOk result (λ b. (s : Tree) → flat.now ≡ flat_of s
-        → AnswersFit schema.now s b.sql_types) }
-    ensures refused { IfErr result (λ e. (r : Rule) → rule_of e ≡ Some r
-        → (s : Tree) → flat.now ≡ flat_of s → IsLeast r schema.now DB.speaks s) }
+    ensures { (s : Tree) → flat.now ≡ flat_of s → CompilesSoundly schema.now DB.speaks s result }
 {
     types_are_sound();
     compile_flat_by(alloc, names, backend, schema, flat)

@@ -17,11 +17,11 @@ const TEXT: SqlType = SqlType {
     nullable: false,
 };
 
-/// A table of users with a name.
-fn declared(alloc: Global) -> Result<TableDecl, Fail> {
+/// A table of users with a name, which SQL names so.
+fn declared(alloc: Global, sql_name: &str) -> Result<TableDecl, Fail> {
     let name = ColumnDecl {
         name: text(alloc, "name")?,
-        sql_name: text(alloc, "name")?,
+        sql_name: text(alloc, sql_name)?,
         ty: TEXT,
         max_length: None,
     };
@@ -34,14 +34,21 @@ fn declared(alloc: Global) -> Result<TableDecl, Fail> {
     })
 }
 
-fn schema(alloc: Global) -> Result<Schema, Fail> {
+fn schema_of(alloc: Global, sql_name: &str) -> Result<Schema, Fail> {
     let mut builder = SchemaBuilder::new(alloc);
-    builder.table(declared(alloc)?)?;
+    builder.table(declared(alloc, sql_name)?)?;
     Ok(builder.build()?)
 }
 
+fn schema(alloc: Global) -> Result<Schema, Fail> {
+    schema_of(alloc, "name")
+}
+
 fn users(alloc: Global) -> Result<Table, Fail> {
-    let schema = schema(alloc)?;
+    users_of(alloc, schema(alloc)?)
+}
+
+fn users_of(alloc: Global, schema: Schema) -> Result<Table, Fail> {
     let table = schema.table("users").ok_or("no table")?;
     Ok(table.try_clone(alloc)?)
 }
@@ -149,6 +156,21 @@ fn two_entries(rt: HostRuntime) -> Result<(), Fail> {
     on_mysql(alloc, &mut cache)?;
     assert_eq!(rt; cache.hits(), 2);
     assert_eq!(rt; cache.len(), 2);
+    Ok(())
+}
+
+/// What is kept serves for no table of another schema that has the same names.
+#[test]
+fn a_table_of_another_schema(rt: HostRuntime) -> Result<(), Fail> {
+    let alloc = rt.alloc();
+    let mut cache = empty(alloc, 1)?;
+    let own = users(alloc)?.as_query(alloc)?.into_statement();
+    ask(alloc, &mut cache, own)?;
+    let others = users_of(alloc, schema_of(alloc, "called")?)?;
+    let other = ask(alloc, &mut cache, others.as_query(alloc)?.into_statement());
+    assert!(rt; matches!(&other, Err(CompileError::UnknownName)));
+    assert_eq!(rt; cache.hits(), 0);
+    assert_eq!(rt; cache.len(), 1);
     Ok(())
 }
 

@@ -4,8 +4,8 @@ use Rattle.std.specs.List.{slice_get}
 use Rattle.sql_tool_build.specs.Ids.{RequestShape, IsFirst, IsId}
 use Rattle.sql_tool_build.specs.inside.Keys.{index_from, same_key}
 use Rattle.sql_rows.specs.declared.cache.RequestKey.{RequestKey}
-use Rattle.sql_rows.specs.contracts.cache.RequestKeyEq.TheImpl.Laws.{laws-law}
-use Rattle.sql_rows.proofs.Exact.{exact-key}
+use Rattle.sql_rows.specs.contracts.cache.NamedRequestEq.TheImpl.Laws.{laws-law}
+use Rattle.sql_rules.specs.Lists.{Each}
 
 pub none_some : {X : Type 0} (x : X) → Prim.Path (Option X) None (Some x) → ⊥
 none_some x h = cc
@@ -19,6 +19,10 @@ true_false h = cc
 -- ---- the first by keys is the first by shapes
 
 module _ {A : Type 0} (key_at : A → Option RequestKey) (shape_at : A → Option RequestShape) (k : RequestKey) (own : RequestShape) (alike : (x : A) → (key_at x ≡ Some k) ↔ (shape_at x ≡ Some own)) where
+  -- `==` tells the element's key from this one
+  abbrev pub IsTold : A → Type 0
+  IsTold x = (q : RequestKey) → key_at x ≡ Some q → same_key q k ≡ true → q ≡ k
+
   abbrev Stands : List A → ℕ → Type 0
   Stands xs i =
       (slice_get (map shape_at xs) i ≡ Some (Some own))
@@ -43,27 +47,28 @@ module _ {A : Type 0} (key_at : A → Option RequestKey) (shape_at : A → Optio
   found-here m x xs n is same =
       (0, let at : n ≡ m + 0 = omega (arith, same) in at, (ap Some is, λ j within. absurd (omega (arith, within))))
 
-  found-by : (m : ℕ) (x : A) (xs : List A) (n : ℕ) (q : RequestKey) → key_at x ≡ Some q
+  found-by : (m : ℕ) (x : A) (xs : List A) (n : ℕ) → IsTold x → (q : RequestKey) → key_at x ≡ Some q
       → (index_from (m + 1) (map key_at xs) k ≡ Some n → Found (m + 1) xs n) → (b : Bool) → same_key q k ≡ b
       → cond b (Some m) (index_from (m + 1) (map key_at xs) k) ≡ Some n → Found m (x ∷ xs) n
-  found-by m x xs n q is later true same e =
-      found-here m x xs n ((alike x).0 (is ∙ ap Some (exact-key q k same))) (some_one _ _ e)
-  found-by m x xs n q is later false same e =
+  found-by m x xs n told q is later true same e =
+      found-here m x xs n ((alike x).0 (is ∙ ap Some (told q is same))) (some_one _ _ e)
+  found-by m x xs n told q is later false same e =
       found-later m x xs n
       (λ s. let one : q ≡ k = some_one _ _ (sym is ∙ (alike x).1 s) in
       true_false (sym (laws-law.refl k) ∙ ap (λ c. same_key c k) (sym one) ∙ same))
       (later e)
 
-  found-at : (m : ℕ) (x : A) (xs : List A) (n : ℕ)
+  found-at : (m : ℕ) (x : A) (xs : List A) (n : ℕ) → IsTold x
       → (index_from (m + 1) (map key_at xs) k ≡ Some n → Found (m + 1) xs n) → (o : Option RequestKey) → key_at x ≡ o
       → index_from m (o ∷ map key_at xs) k ≡ Some n → Found m (x ∷ xs) n
-  found-at m x xs n later None is e =
+  found-at m x xs n told later None is e =
       found-later m x xs n (λ s. none_some k (sym is ∙ (alike x).1 s)) (later e)
-  found-at m x xs n later (Some q) is e = found-by m x xs n q is later (same_key q k) refl e
+  found-at m x xs n told later (Some q) is e = found-by m x xs n told q is later (same_key q k) refl e
 
-  pub first-found : (m : ℕ) (xs : List A) (n : ℕ) → index_from m (map key_at xs) k ≡ Some n → Found m xs n
-  first-found m [] n h = absurd (none_some n h)
-  first-found m (x ∷ xs) n h = found-at m x xs n (first-found (m + 1) xs n) (key_at x) refl h
+  pub first-found : (m : ℕ) (xs : List A) (n : ℕ) → Each IsTold xs → index_from m (map key_at xs) k ≡ Some n
+      → Found m xs n
+  first-found m [] n told h = absurd (none_some n h)
+  first-found m (x ∷ xs) n told h = found-at m x xs n told.0 (first-found (m + 1) xs n told.1) (key_at x) refl h
 
 -- ---- one index
 

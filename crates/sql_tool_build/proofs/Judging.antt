@@ -1,8 +1,9 @@
 -- The line of a request, and which keys are then kept.
-use Rattle.std.proofs.Common.{◌≡◌, ◌∙◌, ℕ, List, [], ◌∷◌, Option, None, Some, option_map, refl, sym, subst}
+use Rattle.std.proofs.Common.{◌≡◌, ◌∙◌, ℕ, List, Option, None, Some, option_map, refl, subst}
 use Rattle.std.specs.Option.{option_or}
 use Rattle.serde_json.specs.Data.{Data}
 use Rattle.sql_schema.specs.Declarations.{Declarations}
+use Rattle.sql_schema.specs.Refusals.{least_refusal}
 use Rattle.sql_dialect.specs.declared.backend.Dialect.{Dialect}
 use Rattle.sql_node.specs.Tree.{Statement}
 use Rattle.sql_rules.specs.Texts.{rule_text}
@@ -34,14 +35,14 @@ is-accepted schema d s b built read =
           (subst (IsRead d s b.sql) built.binds read);
     }
 
-module _ (schema : Declarations) (r : StatementRequest) (n : ℕ) (f : RequestKey → Option ℕ) where
+module _ (schema : Declarations) (sound : least_refusal schema ≡ None) (r : StatementRequest) (n : ℕ) (f : RequestKey → Option ℕ) where
   abbrev IsObject : Data → Line → Type 0
   IsObject v l = v ≡ line_object l.dialect l.id l.judgement
 
   pub unmade-line : (Said : Line → Type 0) (why : List ℕ) → unmade why ≡ r.statement
       → Said (line_found f n r.dialect (refuses why)) → HasLine schema r n f f Said
   unmade-line Said why is said =
-      (refuses why, subst (λ o. Judges schema r.dialect o (refuses why)) is refl, said, kept-none f n)
+      (refuses why, subst (λ o. Judges schema r.dialect o (refuses why)) is refl, said, kept-none f n, sound)
 
   pub refused-line : (s : Statement) (rule : Rule) (v : Data) → made s ≡ r.statement
       → IsLeast rule schema r.dialect s → v ≡ refused (rule_text rule) → HasLine schema r n f f (IsObject v)
@@ -50,6 +51,7 @@ module _ (schema : Declarations) (r : StatementRequest) (n : ℕ) (f : RequestKe
     subst (λ o. Judges schema r.dialect o (refuses (rule_text rule))) some (rule, least, refl),
     is,
     kept-none f n,
+    sound,
   )
 
   pub accepted-line : (s : Statement) (b : Built) (g : RequestKey → Option ℕ) (v : Data) → made s ≡ r.statement
@@ -67,4 +69,5 @@ module _ (schema : Declarations) (r : StatementRequest) (n : ℕ) (f : RequestKe
         ),
         is ∙ (λ i. statement_data (built.binds i) ts (id_found f n (option_map (keyed d) (built.id i))) (built.safe i) (built.sql i)),
         subst (λ k. IsKept f g n (option_map (keyed d) k)) built.id kept,
+        sound,
       )

@@ -2,12 +2,14 @@
 use Rattle.std.proofs.Common.{◌≡◌, ℕ, suc, ◌+◌, Bool, true, false, cond, Option, Some, None, List, [], ◌∷◌, ◌++◌, length, refl, sym, ap, ◌∙◌, arith}
 use Rattle.std.specs.Option.{option_or, unwrap_or}
 use Rattle.std.specs.Ordering.{is_eq}
-use Rattle.sql_tool_build.specs.inside.Keys.{same_key, index_from, IsKept, Tells}
+use Rattle.std.specs.BTreeMap as tree
+use Rattle.std.specs.BTreeMap.{BTreeMap}
+use Rattle.std.specs.Cmp.{Equal-is}
+use Rattle.sql_tool_build.specs.inside.Keys.{same_key, index_from, seen_at, IsKept, Tells}
 use Rattle.sql_rows.specs.declared.cache.RequestKey.{RequestKey}
-use Rattle.sql_rows.proofs.Exact.{exact-key}
-use Rattle.sql_rows.specs.contracts.cache.RequestKeyOrd.TheImpl as request_ord
-use Rattle.sql_rows.specs.contracts.cache.RequestKeyOrd.TheImpl.Laws.{matches_eq-law}
-use Rattle.sql_rows.specs.contracts.cache.RequestKeyEq.TheImpl.Laws.{laws-law}
+use Rattle.sql_rows.specs.contracts.cache.NamedRequestOrd.TheImpl as request_ord
+use Rattle.sql_rows.specs.contracts.cache.NamedRequestOrd.TheImpl.Laws.{matches_eq-law, total-law}
+use Rattle.sql_rows.specs.contracts.cache.NamedRequestEq.TheImpl.Laws.{laws-law}
 
 pub index-append : (n : ℕ) (xs ys : List (Option RequestKey)) (q : RequestKey)
     → index_from n (xs ++ ys) q ≡ option_or (index_from n xs q) (index_from (n + length xs) ys q)
@@ -28,21 +30,31 @@ option_or-none : (o : Option ℕ) → o ≡ option_or o None
 option_or-none None = refl
 option_or-none (Some x) = refl
 
--- one more number, at a key that a look-up f has, and at a new one
-pub kept-seen : (f : RequestKey → Option ℕ) (s : RequestKey) (p n : ℕ) → f s ≡ Some p → IsKept f f n (Some s)
-kept-seen f s p n h q = here (same_key s q) (exact-key s q)
-  where
-    here : (b : Bool) → (b ≡ true → s ≡ q) → f q ≡ option_or (f q) (cond b (Some n) None)
-    here true i = let k : f q ≡ Some p = sym (ap f (i refl)) ∙ h in rw k refl
-    here false i = option_or-none (f q)
+-- a look-up that does not tell apart what `==` does not
+abbrev pub IsBlind : (RequestKey → Option ℕ) → Type 0
+IsBlind f = (a b : RequestKey) → same_key a b ≡ true → f a ≡ f b
 
 -- `==` agrees with the map's order
-pub kept-new : (f : RequestKey → Option ℕ) (s : RequestKey) (n : ℕ) → f s ≡ None → (q : RequestKey)
-    → cond (is_eq ((request_ord.ghosts).cmp s q)) (Some n) (f q) ≡ option_or (f q) (index_from n (Some s ∷ []) q)
-kept-new f s n h q = ap (λ b. cond b (Some n) (f q)) (sym (matches_eq-law s q)) ∙ here (same_key s q) (exact-key s q)
+pub blind : (seen : BTreeMap RequestKey ℕ) → IsBlind (seen_at seen)
+blind seen a b h =
+    let tie = (Equal-is ((request_ord.ghosts).cmp a b)).0 (sym (matches_eq-law a b) ∙ h) in
+    λ i. tree.get_by (λ x. total-law.congr a b x tie i) seen
+
+-- one more number, at a key that a look-up f has, and at a new one
+pub kept-seen : (f : RequestKey → Option ℕ) → IsBlind f → (s : RequestKey) (p n : ℕ) → f s ≡ Some p
+    → IsKept f f n (Some s)
+kept-seen f one s p n h q = here (same_key s q) (one s q)
   where
-    here : (b : Bool) → (b ≡ true → s ≡ q) → cond b (Some n) (f q) ≡ option_or (f q) (cond b (Some n) None)
-    here true i = let k : f q ≡ None = sym (ap f (i refl)) ∙ h in rw k refl
+    here : (b : Bool) → (b ≡ true → f s ≡ f q) → f q ≡ option_or (f q) (cond b (Some n) None)
+    here true i = let k : f q ≡ Some p = sym (i refl) ∙ h in rw k refl
+    here false i = option_or-none (f q)
+
+pub kept-new : (f : RequestKey → Option ℕ) → IsBlind f → (s : RequestKey) (n : ℕ) → f s ≡ None → (q : RequestKey)
+    → cond (is_eq ((request_ord.ghosts).cmp s q)) (Some n) (f q) ≡ option_or (f q) (index_from n (Some s ∷ []) q)
+kept-new f one s n h q = ap (λ b. cond b (Some n) (f q)) (sym (matches_eq-law s q)) ∙ here (same_key s q) (one s q)
+  where
+    here : (b : Bool) → (b ≡ true → f s ≡ f q) → cond b (Some n) (f q) ≡ option_or (f q) (cond b (Some n) None)
+    here true i = let k : f q ≡ None = sym (i refl) ∙ h in rw k refl
     here false i = option_or-none (f q)
 
 -- the index of a key that comes after xs: what f has, or else its own

@@ -6,4 +6,3 @@ pub mod Keys
 pub mod Lines
 pub mod Once
 pub mod Sending
-pub mod Widths

@@ -1,9 +1,11 @@
 -- Lines, and what is written of them so far.
-use Rattle.std.proofs.Common.{◌≡◌, ℕ, suc, ◌+◌, List, [], ◌∷◌, ◌++◌, map, length, Option, refl, sym, ap, ap₂, subst, ◌∙◌, append_assoc, append-nil}
+use Rattle.std.proofs.Common.{◌≡◌, ℕ, suc, ◌+◌, List, [], ◌∷◌, ◌++◌, map, length, Option, None, refl, sym, ap, ap₂, subst, ◌∙◌, append_assoc, append-nil}
 use Rattle.std.proofs.lemmas.List.{length-map, map-append}
 use Rattle.sql_dialect.specs.declared.backend.Dialect.{Dialect}
 use Rattle.sql_schema.specs.Declarations.{Declarations}
-use Rattle.sql_tool_build.proofs.Ids.{found-id}
+use Rattle.sql_schema.specs.Refusals.{least_refusal}
+use Rattle.sql_rules.specs.Lists.{Each}
+use Rattle.sql_tool_build.proofs.Ids.{found-id, judged-known, lines-known, LineKnown}
 use Rattle.sql_tool_build.proofs.Keys.{tells-more}
 use Rattle.sql_tool_build.specs.Ids.{RequestShape}
 use Rattle.sql_tool_build.specs.Judgement.{Judgement, Judges}
@@ -43,10 +45,15 @@ text-more (k ∷ ls) l =
 -- ---- the line that is found
 
 module _ (schema : Declarations) (f g : RequestKey → Option ℕ) (ls : List Line) (n : ℕ) (number : n ≡ 1 + length ls) (tells : Tells f (map line_key ls)) where
-  pub line-found : (r : StatementRequest) (j : Judgement) → Judges schema r.dialect r.statement j
-      → IsLine schema (map line_shape ls) r (line_found f n r.dialect j)
-  line-found r j judged =
-      record { dialect = refl; judged = judged; id = found-id f ls n number tells r.dialect j }
+  pub line-found : least_refusal schema ≡ None → Each (LineKnown schema) ls → (r : StatementRequest) (j : Judgement)
+      → Judges schema r.dialect r.statement j → IsLine schema (map line_shape ls) r (line_found f n r.dialect j)
+  line-found sound known r j judged = record {
+    dialect = refl;
+    judged = judged;
+    id =
+        found-id schema sound f ls known n number tells r.dialect j
+        (judged-known schema r.dialect r.dialect r.statement j judged None);
+  }
 
   pub line-kept : (d : Dialect) (j : Judgement) → IsKept f g n (request_key d j)
       → Tells g (map line_key (ls ++ line_found f n d j ∷ []))
@@ -59,11 +66,11 @@ module _ (schema : Declarations) (f g : RequestKey → Option ℕ) (ls : List Li
 pub written-more : (schema : Declarations) (f g : RequestKey → Option ℕ) (rs : List StatementRequest) (n : ℕ)
     (text line : List ℕ) (r : StatementRequest) → n ≡ 1 + length rs → AreWritten schema f rs text
     → HasLine schema r n f g (λ l. line ≡ line_text l) → AreWritten schema g (rs ++ r ∷ []) (text ++ line)
-written-more schema f g rs n text line r number (ls, lines, tells, is) (j, judged, told, kept) =
+written-more schema f g rs n text line r number (ls, lines, tells, is) (j, judged, told, kept, sound) =
     let one = line_found f n r.dialect j in
     let counted : n ≡ 1 + length ls = number ∙ ap (λ m. 1 + m) (sym (lines-length schema [] rs ls lines)) in (
       ls ++ one ∷ [],
-      lines-more schema [] rs ls r one lines (line-found schema f g ls n counted tells r j judged),
+      lines-more schema [] rs ls r one lines (line-found schema f g ls n counted tells sound (lines-known schema [] rs ls lines) r j judged),
       line-kept schema f g ls n counted tells r.dialect j kept,
       ap₂ (λ a b. a ++ b) is told ∙ sym (text-more ls one),
     )

@@ -1,5 +1,5 @@
 -- Data that are sent one after the other.
-use Rattle.std.proofs.Common.{◌≡◌, ◌∙◌, ℕ, suc, List, [], ◌∷◌, ◌++◌, length, map, Some, refl, sym, ap, subst}
+use Rattle.std.proofs.Common.{◌≡◌, suc, List, [], ◌∷◌, ◌++◌, length, map, refl, ap, subst}
 use Rattle.serde.specs.Event as e
 use Rattle.serde.specs.Event.{Log, Logs}
 use Rattle.serde_json.specs.Data.{Data}

@@ -4,13 +4,13 @@ ghost use Rattle.sql_tool_build.specs.inside.Keys.{keyed, id_found, seen_at, IsK
 
 use sql_dialect::Dialect;
 use sql_key::QueryKey;
-use sql_rows::RequestKey;
+use sql_rows::{NamedRequest, RequestKey};
 use std::alloc::AllocError;
 use std::collections::BTreeMap;
 
 fn id_of_key(
-    seen: &mut BTreeMap<RequestKey, u64>,
-    key: RequestKey,
+    seen: &mut BTreeMap<NamedRequest, u64>,
+    key: NamedRequest,
     number: u64,
 ) -> Result<u64, AllocError>
     ensures found { IfOk result (λ id. id ≡ unwrap_or (seen_at seen.old key) number) }
@@ -29,7 +29,7 @@ fn id_of_key(
 /// The number of the first request that has this key, where `number` is this request's own. A new key is added to the map. A
 /// statement without a key has no id.
 pub fn request_id(
-    seen: &mut BTreeMap<RequestKey, u64>,
+    seen: &mut BTreeMap<NamedRequest, u64>,
     dialect: Dialect,
     key: Option<QueryKey>,
     number: u64,
@@ -41,6 +41,9 @@ pub fn request_id(
 {
     match key {
         None => Ok(None),
-        Some(key) => Ok(Some(id_of_key(seen, RequestKey { dialect, key }, number)?)),
+        Some(key) => {
+            let request = NamedRequest::from(RequestKey { dialect, key });
+            Ok(Some(id_of_key(seen, request, number)?))
+        }
     }
 }

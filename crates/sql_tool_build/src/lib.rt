@@ -3,11 +3,10 @@
 
 mod known;
 mod line;
-mod narrow;
 mod object;
 mod sent;
 
 pub use known::request_id;
-pub use line::{compile_cached_for, request_line, statement_line};
+pub use line::{compile_cached_for, request_line, schema_stands, statement_line};
 pub use object::refusal_line;
-pub use sql_rows::{Names, RequestKey, StatementCache};
+pub use sql_rows::{NamedRequest, Names, StatementCache};

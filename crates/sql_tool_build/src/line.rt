@@ -1,6 +1,7 @@
-ghost use Rattle.std.specs.Prelude.{◌≡◌, [], ◌∷◌, ◌++◌, IfOk, IfErr, OnOk, Some, option_map, string_bytes};
+ghost use Rattle.std.specs.Prelude.{◌≡◌, [], ◌∷◌, ◌++◌, IfOk, IfErr, OnOk, None, Some, option_map, string_bytes};
 ghost use Rattle.serde_json.specs.Written.{compact_text};
-ghost use Rattle.sql_check.specs.Compiled.{IsBuilt, IsLeast, IsRead};
+ghost use Rattle.sql_schema.specs.Refusals.{least_refusal};
+ghost use Rattle.sql_check.specs.Compiled.{Compiles};
 ghost use Rattle.sql_check.specs.Errors.{rule_of};
 ghost use Rattle.sql_tool_document.specs.Trees.{request_tree};
 ghost use Rattle.sql_node.specs.View.{statement_tree};
@@ -16,41 +17,22 @@ ghost use Rattle.sql_tool_build.specs.Output.{line_text, statement_request};
 ghost use Rattle.sql_tool_build.specs.inside.Keys.{keyed, id_found, seen_at, IsKept, HasLine};
 
 use crate::known::request_id;
-use crate::narrow::is_narrow;
 use crate::object::{accepted_line, refusal_line};
 use sql_build::statement;
 use sql_build_law::built_statements_know_their_names;
 use sql_check::{Built, CompileError, Rule};
 use sql_dialect::{Bracket, Dialect, Mysql, Pg, Sqlite};
 use sql_node::Statement;
-use sql_rows::{Names, RequestKey, StatementCache, compile_sound_by};
-use sql_schema::Schema;
+use sql_rows::{NamedRequest, Names, StatementCache};
 use sql_tool_document::Request;
 use std::alloc::{AllocError, Global};
 use std::collections::BTreeMap;
 
-/// `compile_sound_by` for a dialect that is known when the program runs.
-fn compile_for(
-    alloc: Global,
-    dialect: Dialect,
-    names: Names,
-    schema: &Schema,
-    statement: &Statement,
-) -> Result<Built, CompileError>
-    requires { names ≡ name.Known
-        → ¬ Broken UnknownName schema.now dialect (statement_tree statement.now) }
-    ensures built { IfOk result (λ b. IsBuilt schema.now dialect (statement_tree statement.now) b) }
-    ensures read { IfOk result (λ b. IsRead dialect (statement_tree statement.now)
-        b.sql b.binds) }
-    ensures refused { IfErr result (λ e. (r : Rule) → rule_of e ≡ Some r
-        → IsLeast r schema.now dialect (statement_tree statement.now)) }
+/// No refusal holds of a cache's schema. Does nothing when it runs.
+pub fn schema_stands(cache: &StatementCache)
+    ensures { least_refusal cache.now.schema ≡ None }
 {
-    match dialect {
-        Dialect::Pg => compile_sound_by(alloc, names, &Pg, schema, statement),
-        Dialect::Mysql => compile_sound_by(alloc, names, &Mysql, schema, statement),
-        Dialect::Sqlite => compile_sound_by(alloc, names, &Sqlite, schema, statement),
-        Dialect::Bracket => compile_sound_by(alloc, names, &Bracket, schema, statement),
-    }
+    let _tables = cache.schema().tables();
 }
 
 /// `compile_cached_by` for a dialect that is known when the program runs.
@@ -63,12 +45,7 @@ pub fn compile_cached_for(
 ) -> Result<Built, CompileError>
     requires { names ≡ name.Known
         → ¬ Broken UnknownName cache.old.schema dialect (statement_tree statement.now) }
-    ensures built { IfOk result (λ b.
-        IsBuilt cache.old.schema dialect (statement_tree statement.now) b) }
-    ensures read { IfOk result (λ b. IsRead dialect (statement_tree statement.now)
-        b.sql b.binds) }
-    ensures refused { IfErr result (λ e. (r : Rule) → rule_of e ≡ Some r
-        → IsLeast r cache.old.schema dialect (statement_tree statement.now)) }
+    ensures compiled { Compiles cache.old.schema dialect (statement_tree statement.now) result }
     ensures schema { cache.new.schema ≡ cache.old.schema }
     ensures entries { IsNext dialect (statement_tree statement.now) cache.old result cache.new }
 {
@@ -80,56 +57,11 @@ pub fn compile_cached_for(
     }
 }
 
-/// What is told of a statement over the cache's schema, without a look-up.
-fn compile_anew(
-    alloc: Global,
-    dialect: Dialect,
-    names: Names,
-    cache: &StatementCache,
-    statement: &Statement,
-) -> Result<Built, CompileError>
-    requires { names ≡ name.Known
-        → ¬ Broken UnknownName cache.now.schema dialect (statement_tree statement.now) }
-    ensures built { IfOk result (λ b.
-        IsBuilt cache.now.schema dialect (statement_tree statement.now) b) }
-    ensures read { IfOk result (λ b. IsRead dialect (statement_tree statement.now)
-        b.sql b.binds) }
-    ensures refused { IfErr result (λ e. (r : Rule) → rule_of e ≡ Some r
-        → IsLeast r cache.now.schema dialect (statement_tree statement.now)) }
-{
-    compile_for(alloc, dialect, names, cache.schema(), statement)
-}
-
-/// What is told of a statement over the cache's schema. It is looked up where that takes less time than compiling.
-fn compile_in(
-    alloc: Global,
-    dialect: Dialect,
-    names: Names,
-    cache: &mut StatementCache,
-    statement: &Statement,
-) -> Result<Built, CompileError>
-    requires { names ≡ name.Known
-        → ¬ Broken UnknownName cache.old.schema dialect (statement_tree statement.now) }
-    ensures built { IfOk result (λ b.
-        IsBuilt cache.old.schema dialect (statement_tree statement.now) b) }
-    ensures read { IfOk result (λ b. IsRead dialect (statement_tree statement.now)
-        b.sql b.binds) }
-    ensures refused { IfErr result (λ e. (r : Rule) → rule_of e ≡ Some r
-        → IsLeast r cache.old.schema dialect (statement_tree statement.now)) }
-    ensures schema { cache.new.schema ≡ cache.old.schema }
-{
-    if is_narrow(statement) {
-        compile_cached_for(alloc, dialect, names, cache, statement)
-    } else {
-        compile_anew(alloc, dialect, names, cache, statement)
-    }
-}
-
 /// The line of a request whose statement is accepted.
 fn accept(
     alloc: Global,
     dialect: Dialect,
-    seen: &mut BTreeMap<RequestKey, u64>,
+    seen: &mut BTreeMap<NamedRequest, u64>,
     number: u64,
     built: Built,
 ) -> Result<String, AllocError>
@@ -175,7 +107,7 @@ fn refuse(alloc: Global, error: CompileError) -> Result<String, AllocError>
 pub fn statement_line(
     alloc: Global,
     cache: &mut StatementCache,
-    seen: &mut BTreeMap<RequestKey, u64>,
+    seen: &mut BTreeMap<NamedRequest, u64>,
     number: u64,
     dialect: Dialect,
     names: Names,
@@ -189,7 +121,8 @@ pub fn statement_line(
         (λ l. string_bytes text ≡ line_text l)) }
     ensures schema { cache.new.schema ≡ cache.old.schema }
 {
-    match compile_in(alloc, dialect, names, cache, statement) {
+    schema_stands(cache);
+    match compile_cached_for(alloc, dialect, names, cache, statement) {
         Ok(built) => accept(alloc, dialect, seen, number, built),
         Err(error) => refuse(alloc, error),
     }
@@ -199,7 +132,7 @@ pub fn statement_line(
 pub fn request_line(
     alloc: Global,
     cache: &mut StatementCache,
-    seen: &mut BTreeMap<RequestKey, u64>,
+    seen: &mut BTreeMap<NamedRequest, u64>,
     number: u64,
     request: &Request,
 ) -> Result<String, AllocError>
@@ -209,6 +142,7 @@ pub fn request_line(
         (λ l. string_bytes text ≡ line_text l)) }
     ensures schema { cache.new.schema ≡ cache.old.schema }
 {
+    schema_stands(cache);
     match statement(alloc, cache.schema(), request.dialect, &request.query)? {
         None => refusal_line(alloc, Rule::UnknownName.name()),
         Some(statement) => {

@@ -7,11 +7,12 @@ use Rattle.sql_dialect.specs.declared.backend.Dialect.{Dialect}
 use Rattle.sql_key.specs.Keys.{id_of}
 use Rattle.sql_flat.specs.declared.kind.FlatNode.{FlatNode}
 use Rattle.sql_schema.specs.Declarations.{Declarations}
+use Rattle.sql_schema.specs.Refusals.{least_refusal}
 use Rattle.sql_tool_build.specs.Judgement.{Judgement, refuses, accepts, Judges}
 use Rattle.sql_tool_build.specs.Output.{AreLines, Line, StatementRequest, lines_text}
 use Rattle.sql_rows.specs.declared.cache.RequestKey.{RequestKey}
-use Rattle.sql_rows.specs.contracts.cache.RequestKeyPartialEq.TheImpl as key_eq
-use Rattle.sql_rows.specs.contracts.cache.RequestKeyOrd.TheImpl as key_ord
+use Rattle.sql_rows.specs.contracts.cache.NamedRequestPartialEq.TheImpl as key_eq
+use Rattle.sql_rows.specs.contracts.cache.NamedRequestOrd.TheImpl as key_ord
 
 abbrev pub keyed : Dialect → List FlatNode → RequestKey
 keyed d k = record { dialect = d; key = k }
@@ -21,6 +22,7 @@ abbrev pub request_key : Dialect → Judgement → Option RequestKey
 request_key d (refuses name) = None
 request_key d (accepts s ts) = option_map (keyed d) (id_of s)
 
+-- one dialect, and one key but for what is declared of its tables and columns beside their names
 abbrev pub same_key : RequestKey → RequestKey → Bool
 same_key = (key_eq.ghosts).eq
 
@@ -46,11 +48,12 @@ line_found f n d j = record { dialect = d; judgement = j; id = id_found f n (req
 abbrev pub IsKept : (RequestKey → Option ℕ) → (RequestKey → Option ℕ) → ℕ → Option RequestKey → Type 0
 IsKept f g n own = (q : RequestKey) → g q ≡ option_or (f q) (index_from n (own ∷ []) q)
 
--- Of the line of the request with number n this is said, where f has the numbers of the keys before it, and g those and its own.
+-- Of the line of the request with number n this is said, where f has the numbers of the keys before it, and g those and its own. No
+-- refusal holds of the schema, so that keys of its statements are told apart by names.
 abbrev pub HasLine : Declarations → StatementRequest → ℕ → (RequestKey → Option ℕ) → (RequestKey → Option ℕ) → (Line → Type 0) → Type 0
 HasLine schema r n f g Said =
     (j : Judgement) × Judges schema r.dialect r.statement j × Said (line_found f n r.dialect j)
-    × IsKept f g n (request_key r.dialect j)
+    × IsKept f g n (request_key r.dialect j) × (least_refusal schema ≡ None)
 
 abbrev pub line_key : Line → Option RequestKey
 line_key l = request_key l.dialect l.judgement

@@ -1,16 +1,16 @@
 use Rattle.sql_tool_build.proofs.line.compile_cached_for.Goals as goal
 
-pub returns-in-Pg-clause-refused : goal.returns-in-Pg-clause-refused
-returns-in-Pg-clause-refused c = rw c.in-Pg.is c.compile_cached_by.ensures.refused
+pub returns-in-Pg-clause-compiled : goal.returns-in-Pg-clause-compiled
+returns-in-Pg-clause-compiled c = rw c.in-Pg.is c.compile_cached_by.ensures.compiled.compiles
 
-pub returns-in-Mysql-clause-refused : goal.returns-in-Mysql-clause-refused
-returns-in-Mysql-clause-refused c = rw c.in-Mysql.is c.compile_cached_by-in-Mysql.ensures.refused
+pub returns-in-Mysql-clause-compiled : goal.returns-in-Mysql-clause-compiled
+returns-in-Mysql-clause-compiled c = rw c.in-Mysql.is c.compile_cached_by-in-Mysql.ensures.compiled.compiles
 
-pub returns-in-Sqlite-clause-refused : goal.returns-in-Sqlite-clause-refused
-returns-in-Sqlite-clause-refused c = rw c.in-Sqlite.is c.compile_cached_by-in-Sqlite.ensures.refused
+pub returns-in-Sqlite-clause-compiled : goal.returns-in-Sqlite-clause-compiled
+returns-in-Sqlite-clause-compiled c = rw c.in-Sqlite.is c.compile_cached_by-in-Sqlite.ensures.compiled.compiles
 
-pub returns-in-Bracket-clause-refused : goal.returns-in-Bracket-clause-refused
-returns-in-Bracket-clause-refused c = rw c.in-Bracket.is c.compile_cached_by-in-Bracket.ensures.refused
+pub returns-in-Bracket-clause-compiled : goal.returns-in-Bracket-clause-compiled
+returns-in-Bracket-clause-compiled c = rw c.in-Bracket.is c.compile_cached_by-in-Bracket.ensures.compiled.compiles
 
 pub returns-in-Pg-clause-entries : goal.returns-in-Pg-clause-entries
 returns-in-Pg-clause-entries c = rw c.in-Pg.is c.compile_cached_by.ensures.entries

@@ -1,4 +1,4 @@
-use Rattle.std.proofs.Common.{◌≡◌, ◌++◌, ◌∷◌, [], None, Some, option_map, sym, subst, ap, ◌∙◌}
+use Rattle.std.proofs.Common.{◌≡◌, ◌++◌, ◌∷◌, [], option_map, sym, subst, ap, ◌∙◌}
 use Rattle.std.specs.Prelude.{IfOk, string_bytes}
 use Rattle.std.proofs.lemmas.Result.{IfOk-weaker}
 use Rattle.serde_json.specs.Written.{compact_text}
@@ -25,7 +25,7 @@ returns-in-None-clause-line c =
     ap (λ o. made_of (option_map statement_tree o)) (sym c.in-None.is) ∙ ap made_of c.in_ok-statement.ensures
     ∙ ap (λ (w : Declarations). (statement_request w (request_tree c.args.request.now)).statement) c.schema.ensures in
     IfOk-weaker c.refusal_line.result _ _
-    (λ text is. unmade-line schema r c.args.number (seen_at c.args.seen.now) (λ l. string_bytes text ≡ line_text l) _ none
+    (λ text is. unmade-line schema c.schema_stands.ensures r c.args.number (seen_at c.args.seen.now) (λ l. string_bytes text ≡ line_text l) _ none
     (is ∙ ap (λ q. compact_text (refused q) ++ 10 ∷ []) c.name.ensures)) c.refusal_line.ensures
 
 pub returns-in-Some-clause-line : goal.returns-in-Some-clause-line

@@ -27,10 +27,10 @@ returns-in-Ok-clause-line c =
     let id = id_found f c.args.number (option_map (keyed c.args.dialect) b.id) in
     let object = statement_data b.binds b.sql_types id b.safe b.sql in
     both_ok c.accept.result (λ text told kept.
-    let (j, judges, is, keeps) =
-    accepted-line schema r c.args.number f s b (seen_at c.accept.new.seen) object refl c.in-Ok.ensures.built
-    c.in-Ok.ensures.read refl kept in
-    (j, judges, told ∙ ap (λ d. compact_text d ++ 10 ∷ []) is, keeps))
+    let (j, judges, is, keeps, stands) =
+    accepted-line schema c.schema_stands.ensures r c.args.number f s b (seen_at c.accept.new.seen) object refl c.in-Ok.ensures.compiled.built
+    c.in-Ok.ensures.compiled.read refl kept in
+    (j, judges, told ∙ ap (λ d. compact_text d ++ 10 ∷ []) is, keeps, stands))
     c.accept.ensures.line c.accept.ensures.kept
 
 pub returns-in-Err-clause-line : goal.returns-in-Err-clause-line
@@ -41,8 +41,8 @@ returns-in-Err-clause-line c =
     let r : StatementRequest = record { dialect = c.args.dialect; statement = made s } in
     IfOk-weaker c.refuse.result _ _ (λ text h.
     let (rule, named, told) = h in
-    let (j, judges, is, keeps) =
-    refused-line schema r c.args.number (seen_at c.args.seen.now) s rule (refused (rule_text rule)) refl
-    (c.in-Err.ensures.refused rule named) refl in
-    (j, judges, told ∙ ap (λ d. compact_text d ++ 10 ∷ []) is, keeps))
+    let (j, judges, is, keeps, stands) =
+    refused-line schema c.schema_stands.ensures r c.args.number (seen_at c.args.seen.now) s rule (refused (rule_text rule)) refl
+    (c.in-Err.ensures.compiled.refused rule named) refl in
+    (j, judges, told ∙ ap (λ d. compact_text d ++ 10 ∷ []) is, keeps, stands))
     c.refuse.ensures

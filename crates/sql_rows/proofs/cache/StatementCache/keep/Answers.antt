@@ -1,13 +1,13 @@
-use Rattle.std.proofs.Common.{◌≡◌, Bool, false, true, Contains, inl, inr, refl, sym, ap, ◌∙◌, subst}
-use Rattle.std.proofs.lemmas.Map.Views.{Contains-from_any}
+use Rattle.std.proofs.Common.{◌≡◌, Bool, false, true, Contains, refl, sym, ap, ◌∙◌, subst}
 use Rattle.std.specs.List.{list_any}
 use Rattle.std.specs.Map.{keys_of}
 use Rattle.lru.proofs.CallerLemmas.{Contains-put_entries}
 use Rattle.sql_rows.specs.Entries.{Entries, put}
 use Rattle.sql_rows.specs.inside.Served.{Serves, kept_of}
-use Rattle.sql_rows.proofs.Exact.{same_key, exact-key}
-use Rattle.sql_rows.proofs.Keys.{after-put}
-use Rattle.sql_rows.proofs.Told.{put-serves}
+use Rattle.sql_rows.specs.inside.Known.{IsKnown}
+use Rattle.sql_rows.proofs.Keys.{after-put, among}
+use Rattle.sql_rows.proofs.Known.{all-exact, same_pair}
+use Rattle.sql_rows.proofs.Told.{fewer, put-holds}
 use Rattle.sql_rows.proofs.cache.StatementCache.keep.Goals as goal
 
 not-true : (b : Bool) → ¬ (b ≡ true) → b ≡ false
@@ -20,22 +20,25 @@ invariant_of-self c =
     subst (λ v. Serves c.self.inside.schema (c.args.pair, v)) (sym c.in_ok-kept.ensures)
     (subst (λ (w : Entries). Serves w.schema (c.args.pair, kept_of c.args.built.now)) (sym c.self.view_is)
     c.requires.serves) in
-    λ e h. elim (Contains-put_entries same_key c.self.inside.kept c.args.pair c.in_ok-kept.kept e
-    (subst (λ l. Contains l e) (ap (λ x. x.entries) c.in-Ok.ensures.entries) h)) [
-      | inl old ↦ c.self.invariant e old
-      | inr p ↦ put-serves c.self.inside.schema c.self.inside.kept c.args.pair c.in_ok-kept.kept e p serves
-    ]
+    let schema = c.self.inside.schema in
+    let own = subst (λ (w : Entries). IsKnown w.schema c.args.pair) (sym c.self.view_is) c.requires.known in
+    let finds = all-exact schema c.self.invariant.1.1 c.self.inside.kept.entries c.self.invariant.1.0 c.args.pair own in
+    put-holds schema c.self.inside.kept c.args.pair c.in_ok-kept.kept finds c.self.invariant own serves _
+    (λ e h. Contains-put_entries same_pair c.self.inside.kept c.args.pair c.in_ok-kept.kept e
+    (subst (λ l. Contains l e) (ap (λ x. x.entries) c.in-Ok.ensures.entries) h))
 
 pub returns-in-Ok-clause-kept : goal.returns-in-Ok-clause-kept
 returns-in-Ok-clause-kept c =
     let es = c.self.inside.kept.entries in
-    let new : list_any (same_key c.args.pair) (keys_of es) ≡ false =
+    let own = subst (λ (w : Entries). IsKnown w.schema c.args.pair) (sym c.self.view_is) c.requires.known in
+    let finds = all-exact c.self.inside.schema c.self.invariant.1.1 es c.self.invariant.1.0 c.args.pair own in
+    let new : list_any (same_pair c.args.pair) (keys_of es) ≡ false =
     not-true _
     (λ t. c.requires.new (subst (λ (w : Entries). Contains w.keys c.args.pair) c.self.view_is
-    (Contains-from_any exact-key c.args.pair (keys_of es) t))) in
+    (among (same_pair c.args.pair) c.args.pair es finds t))) in
     let keys =
     ap (λ x. keys_of x.entries) c.in-Ok.ensures.entries
-    ∙ after-put same_key c.self.inside.kept c.args.pair c.in_ok-kept.kept new in
+    ∙ after-put same_pair c.self.inside.kept c.args.pair c.in_ok-kept.kept new in
     (λ i. record {
       schema = c.self.inside.schema;
       keys = keys i;
@@ -46,4 +49,5 @@ returns-in-Ok-clause-kept c =
 
 pub invariant_of-self-2 : goal.invariant_of-self-2
 invariant_of-self-2 c =
-    λ e h. c.self.invariant e (subst (λ l. Contains l e) (ap (λ x. x.entries) c.in-Err.ensures.err) h)
+    fewer c.self.inside.schema c.self.inside.kept.entries _
+    (λ e h. subst (λ l. Contains l e) (ap (λ x. x.entries) c.in-Err.ensures.err) h) c.self.invariant

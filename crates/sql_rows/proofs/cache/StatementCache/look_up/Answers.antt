@@ -4,27 +4,32 @@ use Rattle.std.specs.Map.{keys_of}
 use Rattle.lru.proofs.CallerLemmas.{Contains-promoted}
 use Rattle.lru.proofs.Splits.{Contains-middle}
 use Rattle.sql_rows.specs.Entries.{Entries, one_more}
-use Rattle.sql_rows.specs.contracts.cache.RequestKeyEq.TheImpl.Laws.{laws-law}
-use Rattle.sql_rows.proofs.Exact.{same_key, exact-key}
+use Rattle.sql_rows.specs.contracts.cache.NamedRequestEq.TheImpl.Laws.{laws-law}
+use Rattle.sql_rows.specs.inside.Known.{IsKnown}
 use Rattle.sql_rows.proofs.Keys.{found, is-there, not-found}
+use Rattle.sql_rows.proofs.Known.{all-exact, same_pair}
+use Rattle.sql_rows.proofs.Told.{fewer}
 use Rattle.sql_rows.proofs.cache.StatementCache.look_up.Goals as goal
 
 pub invariant_of-self : goal.invariant_of-self
 invariant_of-self c =
-    λ e h. c.self.invariant e
-    (Contains-promoted (same_key c.args.pair.now) c.self.inside.kept.entries e
+    fewer c.self.inside.schema c.self.inside.kept.entries _
+    (λ e h. Contains-promoted (same_pair c.args.pair.now) c.self.inside.kept.entries e
     (subst (λ l. Contains l e) (ap (λ x. x.entries) c.promote.ensures.entries) h))
+    c.self.invariant
 
 pub invariant_of-self-else-promote : goal.invariant_of-self-else-promote
 invariant_of-self-else-promote c =
-    λ e h. c.self.invariant e
-    (Contains-promoted (same_key c.args.pair.now) c.self.inside.kept.entries e
+    fewer c.self.inside.schema c.self.inside.kept.entries _
+    (λ e h. Contains-promoted (same_pair c.args.pair.now) c.self.inside.kept.entries e
     (subst (λ l. Contains l e) (ap (λ x. x.entries) c.promote.ensures.entries) h))
+    c.self.invariant
 
 pub returns-then-promote-clause-found : goal.returns-then-promote-clause-found
 returns-then-promote-clause-found c =
     let pair = c.args.pair.now in
-    let is = found (same_key pair) pair (exact-key pair) c.self.inside.kept.entries (sym c.if-promote.ensures.value) in (
+    let is = found (same_pair pair) pair c.self.inside.kept.entries (all-exact c.self.inside.schema c.self.invariant.1.1 c.self.inside.kept.entries c.self.invariant.1.0 pair
+    (subst (λ (w : Entries). IsKnown w.schema pair) (sym c.self.view_is) c.requires)) (sym c.if-promote.ensures.value) in (
       (λ t. subst (λ (w : Entries). Contains w.keys pair) c.self.view_is
           (subst (λ ks. Contains ks pair) (sym is.2) (Contains-middle is.0 pair is.1))),
       (λ h. refl),
@@ -33,7 +38,8 @@ returns-then-promote-clause-found c =
 pub returns-then-promote-clause-hit : goal.returns-then-promote-clause-hit
 returns-then-promote-clause-hit c = λ t.
     let pair = c.args.pair.now in
-    let is = found (same_key pair) pair (exact-key pair) c.self.inside.kept.entries (sym c.if-promote.ensures.value) in
+    let is = found (same_pair pair) pair c.self.inside.kept.entries (all-exact c.self.inside.schema c.self.invariant.1.1 c.self.inside.kept.entries c.self.invariant.1.0 pair
+    (subst (λ (w : Entries). IsKnown w.schema pair) (sym c.self.view_is) c.requires)) (sym c.if-promote.ensures.value) in
     let keys = ap (λ x. keys_of x.entries) c.promote.ensures.entries ∙ is.3 in
     record {
       front = is.0;
@@ -54,7 +60,7 @@ returns-clause-found c =
     let pair = c.args.pair.now in
     let es = c.self.inside.kept.entries in (
       (λ t. absurd (true≢false (sym t))),
-      (λ h. c.if-promote.ensures.value ∙ is-there (same_key pair) es
+      (λ h. c.if-promote.ensures.value ∙ is-there (same_pair pair) es
           ∙ list_any-from_Contains laws-law pair (keys_of es)
           (subst (λ (w : Entries). Contains w.keys pair) (sym c.self.view_is) h)),
     )
@@ -63,7 +69,7 @@ pub returns-clause-unchanged : goal.returns-clause-unchanged
 returns-clause-unchanged c = λ f.
     let pair = c.args.pair.now in
     let es = c.self.inside.kept.entries in
-    let same = ap (λ x. x.entries) c.promote.ensures.entries ∙ not-found (same_key pair) pair (exact-key pair) es (sym c.if-promote.ensures.value) in
+    let same = ap (λ x. x.entries) c.promote.ensures.entries ∙ not-found (same_pair pair) pair es (sym c.if-promote.ensures.value) in
     (λ i. record {
       schema = c.self.inside.schema;
       keys = keys_of (same i);

@@ -1,0 +1,2 @@
+-- Keys by names.
+pub mod inside
