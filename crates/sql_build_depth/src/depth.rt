@@ -29,6 +29,13 @@ pub fn is_too_deep_restricted(query: &Query) -> bool
     query_depth(query).saturating_add(query_leaves(query)) > MAX_DEPTH
 }
 
+/// Whether the statement of the query nests deeper than `MAX_DEPTH` with so many levels more.
+pub fn is_too_deep_with(query: &Query, more: usize) -> bool
+    ensures { IsTrue result ↔ (MAX_DEPTH < deep.query_depth (query_tree query.now) + more) }
+{
+    query_depth(query).saturating_add(more) > MAX_DEPTH
+}
+
 /// Whether the expression nests deeper than `MAX_DEPTH`.
 pub fn is_expr_too_deep(expr: &Expr) -> bool
     ensures { IsTrue result ↔ (MAX_DEPTH < deep.expr_depth (expr_tree expr.now)) }

@@ -4,4 +4,6 @@
 mod depth;
 mod leaves;
 
-pub use depth::{MAX_DEPTH, is_expr_too_deep, is_too_deep, is_too_deep_restricted};
+pub use depth::{
+    MAX_DEPTH, is_expr_too_deep, is_too_deep, is_too_deep_restricted, is_too_deep_with,
+};

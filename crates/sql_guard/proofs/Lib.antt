@@ -1,5 +1,9 @@
+pub mod Closing
 pub mod Foreign
+pub mod Guarding
+pub mod Misreading
 pub mod OutOfKind
-pub mod Refusing
 pub mod Predicates
+pub mod Refusing
+pub mod Uncovered
 pub mod Unrelated

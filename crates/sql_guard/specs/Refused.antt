@@ -14,10 +14,11 @@ pub record MayRestrict (t : TableDecl) (p : Expr) (s : Statement) : Type 0 where
   pub kind : ¬ AnyOf IsOutOfKind (parts [] s)
   pub related : ¬ AnyOf LacksRelation (parts [] s)
 
--- The refusal holds, and none before it does. Out of memory has no cause in the arguments.
+-- The refusal holds, and none before it does. Of one table nothing lacks a policy. Out of memory has no cause in the arguments.
 abbrev pub IsRefusal : RestrictError → TableDecl → Expr → Statement → Type 0
 IsRefusal error.BadPredicate t p s = ¬ IsPredicate t p
 IsRefusal error.OutOfKind t p s = IsPredicate t p × AnyOf IsOutOfKind (parts [] s)
 IsRefusal error.NoRelation t p s =
     IsPredicate t p × (¬ AnyOf IsOutOfKind (parts [] s)) × AnyOf LacksRelation (parts [] s)
+IsRefusal error.LacksPolicy t p s = ⊥
 IsRefusal error.NoMemory t p s = ⊤

@@ -4,10 +4,10 @@ ghost use Rattle.sql_guard.specs.declared.error.RestrictError.TheVariants as err
 use std::alloc::AllocError;
 use thiserror::Error;
 
-/// Why a statement is not restricted: the first of these that holds, in this order. A message is the variant's name.
+/// Why a statement is not restricted, or not guarded: the first of these that holds, in this order. A message is the variant's name.
 #[derive(Debug, Error, Clone, Copy, PartialEq, Eq)]
 pub enum RestrictError {
-    /// The predicate is no condition on the rows of the table alone.
+    /// A predicate is no condition on the rows of its table alone.
     #[error("BadPredicate")]
     BadPredicate,
     /// The statement holds an aggregate, a subselect or a `GROUP BY`.
@@ -16,6 +16,9 @@ pub enum RestrictError {
     /// A join has no condition.
     #[error("NoRelation")]
     NoRelation,
+    /// A table that the statement reads has no policy.
+    #[error("LacksPolicy")]
+    LacksPolicy,
     /// Out of memory.
     #[error("NoMemory")]
     NoMemory,

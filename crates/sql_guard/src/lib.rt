@@ -1,4 +1,5 @@
-//! The tenant guard: `restrict` puts a predicate beside each leaf of a table, so that a statement sees one tenant's rows alone.
+//! The tenant guard: `restrict_all` puts a predicate beside each leaf of each table, at every depth, so that a statement sees one
+//! tenant's rows alone. `restrict` does so with one table and no subselect.
 //!
 //! What is promised of it is said in `docs/GUARD.md`. The definitions and laws are those of `sql_guard_law`, which this crate
 //! re-exports.
@@ -6,11 +7,15 @@
 
 mod error;
 mod guard;
+mod leaves;
+mod policy;
 mod refusal;
 mod restriction;
 
 pub use error::RestrictError;
-pub use restriction::restrict;
+pub use policy::Policy;
+pub use refusal::count_predicates;
+pub use restriction::{restrict, restrict_all};
 pub use sql_guard_law::{
     guard_is_exact, guard_keeps_the_rules, guarded_statements_have_answers, on_is_needed,
     only_seen_rows_matter, other_rows_do_not_matter, restriction_is_exact,

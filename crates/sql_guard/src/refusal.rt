@@ -2,7 +2,7 @@
 //! flat lists.
 #![tactic(auto)]
 
-ghost use Rattle.std.specs.Prelude.{◌≡◌, [], ◌&&◌, IfOk, not};
+ghost use Rattle.std.specs.Prelude.{◌≡◌, [], ◌&&◌, IfOk, map, not};
 ghost use Rattle.std.specs.Bool.{Decides};
 ghost use Rattle.std.specs.List.{list_any};
 ghost use Rattle.sql_schema.specs.Equality.{same_column, same_table};
@@ -10,8 +10,12 @@ ghost use Rattle.sql_node.specs.View.{expr_tree, statement_tree};
 ghost use Rattle.sql_rules.specs.Lists.{AnyOf};
 ghost use Rattle.sql_rules.specs.Scope.{parts};
 ghost use Rattle.sql_guard_law.specs.Tenant.{IsOutOfKind, IsPredicate, LacksRelation};
-ghost use Rattle.sql_guard.specs.inside.Kinds.{is_beyond as kind_is_beyond, is_foreign as kind_is_foreign, is_out as kind_is_out, is_own_column as column_is_own};
+ghost use Rattle.sql_guard.specs.Closed.{ReadsUncovered};
+ghost use Rattle.sql_guard.specs.Trees.{policy_tree};
+ghost use Rattle.sql_guard.specs.inside.Kinds.{is_beyond as kind_is_beyond, is_foreign as kind_is_foreign, is_out as kind_is_out, is_own_column as column_is_own, is_uncovered as kind_is_uncovered};
 
+use crate::leaves::is_one_table;
+use crate::policy::{Policy, is_covered};
 use sql_flat::{FlatKind, FlatNode, expression_nodes, flatten};
 use sql_node::{Expr, Statement};
 use sql_origin::Origin;
@@ -97,7 +101,7 @@ fn any_foreign(table: &Table, nodes: &[FlatNode]) -> bool
     nodes.iter().any(|node| is_foreign(table, &node.kind))
 }
 
-fn and_not(one: bool, other: bool) -> bool
+pub(crate) fn and_not(one: bool, other: bool) -> bool
     ensures { result ≡ (one && not other) }
 {
     one && !other
@@ -136,5 +140,87 @@ pub(crate) fn kept_from(alloc: Global, statement: &Statement) -> Result<Kept, No
     Ok(Kept {
         out_of_kind,
         unrelated,
+    })
+}
+
+/// Whether the node is a table, or an alias of one, that the policies don't cover.
+fn is_uncovered(policies: &[Policy], kind: &FlatKind) -> bool
+    ensures { result ≡ kind_is_uncovered policies.now kind.now }
+{
+    match kind {
+        FlatKind::Table(source) => !is_covered(policies, &source.table),
+        FlatKind::Alias(alias) => !is_covered(policies, &alias.table),
+        _ => false,
+    }
+}
+
+fn any_uncovered(policies: &[Policy], nodes: &[FlatNode]) -> bool
+    ensures { result ≡ list_any (λ x. kind_is_uncovered policies.now x.kind) nodes.now }
+{
+    nodes.iter().any(|node| is_uncovered(policies, &node.kind))
+}
+
+/// How many of the policies have a predicate on the table.
+fn predicates_on(policies: &[Policy], table: &Table) -> usize {
+    let mut count: usize = 0;
+    for policy in policies {
+        if policy.predicate.is_some() && is_one_table(&policy.table, table) {
+            count = count.saturating_add(1);
+        }
+    }
+    count
+}
+
+fn predicates_at(policies: &[Policy], kind: &FlatKind) -> usize {
+    match kind {
+        FlatKind::Table(source) => predicates_on(policies, &source.table),
+        FlatKind::Alias(alias) => predicates_on(policies, &alias.table),
+        _ => 0,
+    }
+}
+
+/// How many predicates the policies put into the statement. Each of them may make a condition a level deeper. Whoever builds deep
+/// statements asks before they are guarded, since what checks, writes and drops a statement recurses over it.
+pub fn count_predicates(
+    alloc: Global,
+    policies: &[Policy],
+    statement: &Statement,
+) -> Result<usize, NoMemory> {
+    let flat = flatten(alloc, statement)?;
+    let mut count: usize = 0;
+    for node in flat.nodes() {
+        count = count.saturating_add(predicates_at(policies, &node.kind));
+    }
+    Ok(count)
+}
+
+/// What keeps a statement from being guarded.
+#[derive(Debug, Clone, Copy)]
+pub(crate) struct Gaps {
+    /// A join has no condition.
+    pub(crate) unrelated: bool,
+    /// It reads a table that the policies don't cover.
+    pub(crate) uncovered: bool,
+}
+
+/// What keeps the statement from being guarded by the policies.
+pub(crate) fn find_gaps(
+    alloc: Global,
+    policies: &[Policy],
+    statement: &Statement,
+) -> Result<Gaps, NoMemory>
+    ensures related { IfOk result (λ k. Decides k.unrelated
+        (AnyOf LacksRelation (parts [] (statement_tree statement.now)))) }
+    ensures covered { IfOk result (λ k. Decides k.uncovered
+        (AnyOf (ReadsUncovered (map policy_tree policies.now))
+        (parts [] (statement_tree statement.now)))) }
+{
+    let flat = flatten(alloc, statement)?;
+    let nodes = flat.nodes();
+    let unrelated = any_lacks_on(nodes);
+    let uncovered = any_uncovered(policies, nodes);
+    Ok(Gaps {
+        unrelated,
+        uncovered,
     })
 }

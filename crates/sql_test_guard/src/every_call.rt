@@ -1,8 +1,9 @@
-//! The public call of the guard that can answer NoMemory, made once with memory to spare.
+//! The public calls of the guard that can answer NoMemory, each made once with memory to spare.
 
 use crate::fixture::{all_posts, owned};
+use crate::policed::policies;
 use sql_expr::{Expr, Statement};
-use sql_guard::restrict;
+use sql_guard::{Policy, restrict, restrict_all};
 use sql_schema::Table;
 use sql_select::Query;
 use sql_test_kit::{beside, gives, table};
@@ -25,10 +26,22 @@ fn is_restricted(
     )
 }
 
+fn is_guarded(alloc: Global, statement: Statement, policies: Vec<Policy>) -> Result<(), Fail> {
+    let guarded = restrict_all(alloc, &statement, &policies);
+    drop(statement);
+    gives(
+        alloc,
+        guarded,
+        "SELECT \"posts\".\"id\", \"posts\".\"user_id\" FROM \"posts\" WHERE (\"posts\".\"user_id\" = $1)",
+    )
+}
+
 #[test]
 fn every_call_once(rt: HostRuntime) -> Result<(), Fail> {
     let alloc = rt.alloc();
     let posts = table(alloc, "posts")?;
     let (statement, owned) = beside(all_posts(alloc)?.into_statement(), owned(alloc))?;
-    is_restricted(alloc, statement, owned, &posts)
+    is_restricted(alloc, statement, owned, &posts)?;
+    let (statement, policies) = beside(all_posts(alloc)?.into_statement(), policies(alloc))?;
+    is_guarded(alloc, statement, policies)
 }

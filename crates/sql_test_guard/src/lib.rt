@@ -6,6 +6,8 @@ mod every_call;
 #[cfg(test)]
 mod fixture;
 #[cfg(test)]
+mod policed;
+#[cfg(test)]
 mod refused;
 #[cfg(test)]
 mod written;
