@@ -138,10 +138,13 @@ pub use Rattle.sql_rules_check.specs.declared.names.Names as KnownNames
 -- What a statement cache holds.
 pub use Rattle.sql_rows.specs.Calls as CacheCalls
 pub use Rattle.sql_rows.specs.Entries
+pub use Rattle.sql_rows.specs.Sound
 pub use Rattle.sql_rows.specs.declared.cache.RequestKey
 -- What statements answer.
 pub use Rattle.sql_rows_meaning.specs.Answers
+pub use Rattle.sql_rows_meaning.specs.Beside as CountedBeside
 pub use Rattle.sql_rows_meaning.specs.Counted as CountedAnswers
+pub use Rattle.sql_rows_meaning.specs.DistinctOn
 pub use Rattle.sql_rows_meaning.specs.Example as AnswerExample
 pub use Rattle.sql_rows_meaning.specs.Fitting as AnswerFitting
 pub use Rattle.sql_rows_meaning.specs.Frames
@@ -152,14 +155,18 @@ pub use Rattle.sql_rows_meaning.specs.Rows
 pub use Rattle.sql_rows_meaning.specs.Ungrouped as UngroupedAnswers
 pub use Rattle.sql_rows_meaning.specs.Values
 pub use Rattle.sql_rows_meaning.specs.Worked as WorkedAnswers
--- Statements restricted to one tenant.
+-- Statements restricted to one tenant, or guarded by policies.
 pub use Rattle.sql_guard_law.specs.Guarded as GuardedStatements
 pub use Rattle.sql_guard_law.specs.Policies
 pub use Rattle.sql_guard_law.specs.Restricted
 pub use Rattle.sql_guard_law.specs.Tenant
 pub use Rattle.sql_guard_law.specs.Worked as WorkedRestriction
+pub use Rattle.sql_guard.specs.Closed as ClosedTables
+pub use Rattle.sql_guard.specs.Misread as MisreadPredicates
 pub use Rattle.sql_guard.specs.Refused
+pub use Rattle.sql_guard.specs.Trees as PolicyTrees
 pub use Rattle.sql_guard.specs.declared.error.RestrictError
+pub use Rattle.sql_guard.specs.declared.policy.Policy
 -- What the reader gives.
 pub use Rattle.sql_read.specs.Seen as ReadTrees
 pub use Rattle.sql_read.specs.declared.error.ReadError

@@ -88,17 +88,18 @@ pub use sql_check::{
 // `compile` with column types that are right for NULL, a cache of its answers, and what statements answer.
 pub use sql_rows::{
     RequestKey, StatementCache, accepted_statements_have_answers, answered_pairs_come_first,
-    calls_are_answered_alone, compile_sound, compile_sound_by, equal_ids,
-    first_by_the_order_is_left, first_is_any, last_writer_is_an_answer, left_join_has_two_answers,
-    needs_nullable_is_needed, one_answer, operators_work, posts_are_counted,
-    the_example_is_accepted, types_are_sound, ungrouped_answers_are_the_same,
+    calls_are_answered_alone, compile_sound, compile_sound_by, counting_beside_is_no_promise,
+    distinct_on_keeps_the_first, equal_ids, first_by_the_order_is_left, first_is_any,
+    last_writer_is_an_answer, left_join_has_two_answers, needs_nullable_is_needed, one_answer,
+    operators_work, posts_are_counted, the_example_is_accepted, types_are_sound,
+    ungrouped_answers_are_the_same,
 };
 
 // The tenant guard.
 pub use sql_guard::{
-    RestrictError, guard_is_exact, guard_keeps_the_rules, guarded_statements_have_answers,
-    on_is_needed, only_seen_rows_matter, other_rows_do_not_matter, restrict, restriction_is_exact,
-    restriction_keeps_the_rules, without_subselects_restricting_is_enough,
+    Policy, RestrictError, guard_is_exact, guard_keeps_the_rules, guarded_statements_have_answers,
+    on_is_needed, only_seen_rows_matter, other_rows_do_not_matter, restrict, restrict_all,
+    restriction_is_exact, restriction_keeps_the_rules, without_subselects_restricting_is_enough,
 };
 
 // The laws: of the grammar, of what statements are read as, and of statements that break no rule or have one shape.
@@ -132,7 +133,9 @@ pub use sql_audit_law::{accepted_are_reported, one_answer as one_audit_answer};
 /// Queries as documents write them, and the statements that they stand for over a schema.
 pub mod syntax {
     pub use sql_build::{expression, statement, statement_to_restrict};
-    pub use sql_build_depth::{MAX_DEPTH, is_expr_too_deep, is_too_deep, is_too_deep_restricted};
+    pub use sql_build_depth::{
+        MAX_DEPTH, is_expr_too_deep, is_too_deep, is_too_deep_restricted, is_too_deep_with,
+    };
     pub use sql_build_syntax::{
         AliasName, BinaryOperator, Call, ClauseCall, ColumnName, Expr, FieldName, Form, Join,
         Membership, OrderItem, PlainCall, Quantified, Query, QueryStart, Source, TableName,

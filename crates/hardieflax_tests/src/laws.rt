@@ -4,12 +4,13 @@ use hardieflax::{
     a_statement_is_accepted, accepted_are_read, accepted_are_reported, accepted_have_text,
     accepted_statements_have_answers, accepted_values_fit, answered_pairs_come_first,
     boxing_takes_the_id_alone, built_statements_know_their_names, calls_are_answered_alone,
-    compared_keys_are_equal_keys, counts_add_up, different_expressions_have_different_lists,
-    different_statements_have_different_lists, equal_ids, equal_keys_are_equal_shapes,
-    equal_keys_hash_alike, equal_shapes_have_ids_alike, equality_is_equality,
-    fields_of_the_table_alone, fields_twice_as_once, filled_by_values,
-    filter_and_then_order_by_append, first_by_the_order_is_left, first_is_any, guard_is_exact,
-    guard_keeps_the_rules, guarded_statements_have_answers, inner_joins_pad_nothing, joined_texts,
+    compared_keys_are_equal_keys, counting_beside_is_no_promise, counts_add_up,
+    different_expressions_have_different_lists, different_statements_have_different_lists,
+    distinct_on_keeps_the_first, equal_ids, equal_keys_are_equal_shapes, equal_keys_hash_alike,
+    equal_shapes_have_ids_alike, equality_is_equality, fields_of_the_table_alone,
+    fields_twice_as_once, filled_by_values, filter_and_then_order_by_append,
+    first_by_the_order_is_left, first_is_any, guard_is_exact, guard_keeps_the_rules,
+    guarded_statements_have_answers, inner_joins_pad_nothing, joined_texts,
     last_writer_is_an_answer, leaves_no_trace, left_join_has_two_answers,
     list_lengths_can_be_exchanged, lists_are_flat, names_one_leaf, needs_nullable_is_needed,
     no_reading, numbered_trees_are_filled, on_is_needed, one_answer, one_audit_answer, one_reading,
@@ -67,6 +68,7 @@ pub fn laws_of_keys() {
     calls_are_answered_alone();
     accepted_statements_have_answers();
     first_by_the_order_is_left();
+    distinct_on_keeps_the_first();
     first_is_any();
     last_writer_is_an_answer();
     left_join_has_two_answers();
@@ -74,6 +76,7 @@ pub fn laws_of_keys() {
     one_answer();
     operators_work();
     posts_are_counted();
+    counting_beside_is_no_promise();
     the_example_is_accepted();
     types_are_sound();
     ungrouped_answers_are_the_same();

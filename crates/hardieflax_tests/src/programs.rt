@@ -15,7 +15,7 @@ ghost use Rattle.hardieflax.specs.View.{expr_tree, statement_tree};
 use hardieflax::program::{Sink, Source, Status, run};
 use hardieflax::syntax::{
     Call, Expr as WrittenExpr, Query, all_stand, expression, is_expr_too_deep, is_too_deep,
-    is_too_deep_restricted, statement, statement_to_restrict,
+    is_too_deep_restricted, is_too_deep_with, statement, statement_to_restrict,
 };
 use hardieflax::{Dialect, Expr, NoMemory, Schema, Statement};
 use std::alloc::Global;
@@ -91,6 +91,11 @@ pub fn is_deep(query: &Query) -> bool {
 /// Whether its statement nests too deep once a guard restricts it.
 pub fn is_deep_restricted(query: &Query) -> bool {
     is_too_deep_restricted(query)
+}
+
+/// Whether it does so with so many levels more.
+pub fn is_deep_with(query: &Query, more: usize) -> bool {
+    is_too_deep_with(query, more)
 }
 
 /// The same of an expression.

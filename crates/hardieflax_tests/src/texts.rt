@@ -1,6 +1,6 @@
 //! What is said of a text, and of a statement for one tenant.
 
-ghost use Rattle.std.specs.Prelude.{◌≡◌, IfOk, IfErr, IsErrOf, length, string_bytes};
+ghost use Rattle.std.specs.Prelude.{◌≡◌, IfOk, IfErr, IsErrOf, length, map, string_bytes};
 ghost use Rattle.hardieflax.specs.AuditReports.{IsRefused, IsReported};
 ghost use Rattle.hardieflax.specs.Declarations.{Declarations};
 ghost use Rattle.hardieflax.specs.Dialect.{Dialect as DialectName};
@@ -8,6 +8,9 @@ ghost use Rattle.hardieflax.specs.PlaceValues.{values_query};
 ghost use Rattle.hardieflax.specs.ReadTrees.{HasNoReading, tree_of};
 ghost use Rattle.hardieflax.specs.Reading.{OnlyReading};
 ghost use Rattle.hardieflax.specs.Refused.{IsRefusal};
+ghost use Rattle.hardieflax.specs.ClosedTables.{IsGuardRefusal};
+ghost use Rattle.hardieflax.specs.Policies.{AnswersAsCutBy, SeesOnlyBy, guarded_all};
+ghost use Rattle.hardieflax.specs.PolicyTrees.{policy_tree};
 ghost use Rattle.hardieflax.specs.Restricted.{restricted};
 ghost use Rattle.hardieflax.specs.Tenant.{AnswersAsCut, BreaksAtMostTooManyBinds};
 ghost use Rattle.hardieflax.specs.Text.{text as text_of};
@@ -16,8 +19,9 @@ ghost use Rattle.hardieflax.specs.View.{expr_tree, statement_tree};
 
 use hardieflax::tree::{Comparison, Expression, Query};
 use hardieflax::{
-    AuditError, AuditReport, Dialect, Expr, MAX_READ_DEPTH, NoMemory, ReadError, RestrictError,
-    Schema, Statement, Table, Tree, audit, placeholders, read, restrict, write,
+    AuditError, AuditReport, Dialect, Expr, MAX_READ_DEPTH, NoMemory, Policy, ReadError,
+    RestrictError, Schema, Statement, Table, Tree, audit, placeholders, read, restrict,
+    restrict_all, write,
 };
 use std::alloc::Global;
 
@@ -93,4 +97,25 @@ pub fn restricted_statement(
         (statement_tree statement.now)) }
 {
     restrict(alloc, statement, table, predicate)
+}
+
+/// The statement with each predicate beside each leaf of its table, at every depth.
+pub fn guarded_statement(
+    alloc: Global,
+    statement: &Statement,
+    policies: &[Policy],
+) -> Result<Statement, RestrictError>
+    ensures guarded { IfOk result (λ r. statement_tree r
+        ≡ guarded_all (map policy_tree policies.now) (statement_tree statement.now)) }
+    ensures exact { IfOk result (λ r. (schema : Declarations) (d : DialectName)
+        → BreaksAtMostTooManyBinds schema d (statement_tree statement.now)
+        → AnswersAsCutBy (statement_tree r) (statement_tree statement.now)
+        (map policy_tree policies.now)) }
+    ensures seen { IfOk result (λ r. (schema : Declarations) (d : DialectName)
+        → BreaksAtMostTooManyBinds schema d (statement_tree statement.now)
+        → SeesOnlyBy (map policy_tree policies.now) (statement_tree r)) }
+    ensures refused { IfErr result (λ e. IsGuardRefusal e (map policy_tree policies.now)
+        (statement_tree statement.now)) }
+{
+    restrict_all(alloc, statement, policies)
 }

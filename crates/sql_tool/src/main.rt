@@ -1,7 +1,8 @@
 //! `build` reads a document on standard input and writes a line for each of its requests; `generate N` writes a line that
 //! sums up N requests of its own; `read D` reads a text in the dialect D and writes a line with the text of its tree; `audit D` reads a schema
 //! and texts and writes a line for each text, with the tables and columns that it uses; `guard` reads a document with a tenant and writes a
-//! line for each of its requests, restricted to the tenant's rows.
+//! line for each of its requests, restricted to the tenant's rows; `tenant` reads one with policies and writes a line for each of its
+//! requests, guarded by them.
 #![tactic(auto)]
 
 use sql_tool_run::{Status, run};

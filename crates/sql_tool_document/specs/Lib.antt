@@ -1,7 +1,8 @@
 -- Which bytes are a document, and which one they are.
 pub mod Documents
--- Documents with a guard, and texts with a schema.
+-- Documents with a guard or with policies, and texts with a schema.
 pub mod Guards
+pub mod Policies
 pub mod Texts
 pub mod Trees
 pub mod Schemas

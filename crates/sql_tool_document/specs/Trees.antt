@@ -1,13 +1,16 @@
 -- Requests and documents as plain trees.
-use Rattle.std.specs.Prelude.{map}
+use Rattle.std.specs.Prelude.{map, option_map}
 use Rattle.sql_build_syntax.specs.View.{expr_tree, query_tree}
 use Rattle.sql_tool_document.specs.Documents as t
 use Rattle.sql_tool_document.specs.Guards as g
+use Rattle.sql_tool_document.specs.Policies as p
 use Rattle.sql_tool_document.specs.Texts as x
 use Rattle.sql_tool_document.specs.declared.document.Document.{Document}
 use Rattle.sql_tool_document.specs.declared.document.Request.{Request}
 use Rattle.sql_tool_document.specs.declared.guard.Guard.{Guard}
 use Rattle.sql_tool_document.specs.declared.guard.Guarded.{Guarded}
+use Rattle.sql_tool_document.specs.declared.policy.NamedPolicy.{NamedPolicy}
+use Rattle.sql_tool_document.specs.declared.policy.Policed.{Policed}
 use Rattle.sql_tool_document.specs.declared.texts.Texts.{Texts}
 
 abbrev pub request_tree : Request → t.Request
@@ -21,6 +24,12 @@ guard_tree g = record { table = g.table; predicate = expr_tree g.predicate }
 
 abbrev pub guarded_tree : Guarded → g.Guarded
 guarded_tree g = record { document = document_tree g.document; guard = guard_tree g.guard }
+
+abbrev pub named_policy_tree : NamedPolicy → p.NamedPolicy
+named_policy_tree q = record { table = q.table; predicate = option_map expr_tree q.predicate }
+
+abbrev pub policed_tree : Policed → p.Policed
+policed_tree d = record { document = document_tree d.document; policies = map named_policy_tree d.policies }
 
 abbrev pub texts_tree : Texts → x.Texts
 texts_tree t = record { schema = t.schema; texts = t.texts }

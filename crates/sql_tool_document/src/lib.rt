@@ -1,4 +1,4 @@
-//! Documents: a schema and requests, as JSON; also with a guard, or with texts in place of requests.
+//! Documents: a schema and requests, as JSON; also with a guard or with policies, or with texts in place of requests.
 //!
 //! A document is decoded into plain syntax, in which tables and columns are the names that it gives them. All forms are
 //! checked in this one pass. Whether the schema has the names is looked up afterwards, request by request.
@@ -15,6 +15,7 @@ mod member;
 mod names;
 mod number;
 mod order;
+mod policy;
 mod query;
 mod reading;
 mod refusal;
@@ -27,6 +28,7 @@ mod whole;
 pub use document::{Document, Request, read_document};
 pub use guard::{Guard, Guarded, read_guarded};
 pub use names::{dialect, dialect_name, type_name};
+pub use policy::{NamedPolicy, Policed, read_policed};
 pub use query::depth_changes_nothing;
 pub use refusal::Refusal;
 pub use texts::{Texts, read_texts};

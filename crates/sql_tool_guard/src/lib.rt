@@ -1,8 +1,8 @@
-//! What the program writes for a request of a tenant: the line of its restricted statement, or the name of its refusal.
+//! What the program writes for a request of a tenant: the line of its statement, limited to the tenant's rows, or the name of its refusal.
 #![tactic(auto)]
 
 mod line;
 mod tenant;
 
 pub use line::guarded_line;
-pub use tenant::{Tenant, TenantDocument, read_tenant};
+pub use tenant::{Tenant, TenantDocument, read_policies, read_tenant};

@@ -1,22 +1,29 @@
-ghost use Rattle.std.specs.Prelude.{◌≡◌, IfOk, Some, option_map};
-ghost use Rattle.sql_node.specs.View.{expr_tree};
+ghost use Rattle.std.specs.Prelude.{◌≡◌, IfOk, map, option_map};
+ghost use Rattle.sql_build_syntax.specs.View as written;
+ghost use Rattle.sql_guard.specs.Trees.{policy_tree};
+ghost use Rattle.sql_node.specs.View.{expr_tree, maybe_of};
 ghost use Rattle.sql_tool_document.specs.Giving.{Gives};
-ghost use Rattle.sql_tool_document.specs.Trees.{guard_tree, guarded_tree};
-ghost use Rattle.sql_tool_guard.specs.Tenants.{tenant_document, tenant_in, tenant_of};
+ghost use Rattle.sql_tool_document.specs.Trees.{guard_tree, guarded_tree, named_policy_tree, policed_tree};
+ghost use Rattle.sql_tool_guard.specs.Tenants.{policed_document, policed_in, policies_named, policy_named, predicate_named, tenant_document, tenant_in, tenant_of};
 ghost use Rattle.sql_tool_guard.specs.Trees.{tenant_document_tree, tenant_tree};
 
 use sql_build::expression;
 use sql_dialect::Dialect;
+use sql_guard::Policy;
 use sql_node::Expr;
-use sql_schema::{NoMemory, Schema, Table};
-use sql_tool_document::{Document, Guard, Guarded, Refusal, read_guarded};
+use sql_schema::{NoMemory, Schema, SqlList, Table};
+use sql_tool_document::{
+    Document, Guard, Guarded, NamedPolicy, Policed, Refusal, read_guarded, read_policed,
+};
 use std::alloc::Global;
 
-/// A table of a schema, and the condition on its rows that makes them a tenant's.
+/// Which rows of a schema's tables are a tenant's.
 #[derive(Drop)]
-pub struct Tenant {
-    pub table: Table,
-    pub predicate: Expr,
+pub enum Tenant {
+    /// Those of one table for which the condition is true.
+    Guard(Table, Expr),
+    /// Those of each table for which its conditions are true.
+    Policies(SqlList<Policy>),
 }
 
 /// A document, and the tenant of its requests.
@@ -38,7 +45,7 @@ fn tenant_named(alloc: Global, schema: &Schema, guard: &Guard) -> Result<Option<
         return Ok(None);
     };
     let table = table.try_clone(alloc)?;
-    Ok(Some(Tenant { table, predicate }))
+    Ok(Some(Tenant::Guard(table, predicate)))
 }
 
 #[tactic(auto, unfolding(crate::specs::Tenants::tenant_in))]
@@ -57,4 +64,82 @@ pub fn read_tenant(alloc: Global, bytes: &[u8]) -> Result<TenantDocument, Refusa
 {
     let guarded = read_guarded(alloc, bytes)?;
     with_tenant(alloc, guarded)
+}
+
+/// The predicate that is written. None where it names what the schema lacks.
+fn predicate_in(
+    alloc: Global,
+    schema: &Schema,
+    predicate: &Option<sql_build_syntax::Expr>,
+) -> Result<Option<Option<Expr>>, NoMemory>
+    ensures { IfOk result (λ o. option_map (λ p. maybe_of (option_map expr_tree p)) o
+        ≡ predicate_named schema.now (option_map written.expr_tree predicate.now)) }
+{
+    match predicate {
+        None => Ok(Some(None)),
+        Some(predicate) => match expression(alloc, schema, Dialect::Pg, predicate)? {
+            None => Ok(None),
+            Some(predicate) => Ok(Some(Some(predicate))),
+        },
+    }
+}
+
+#[tactic(auto, unfolding(crate::specs::Tenants::policy_named))]
+fn policy_in(
+    alloc: Global,
+    schema: &Schema,
+    named: &NamedPolicy,
+) -> Result<Option<Policy>, NoMemory>
+    ensures { IfOk result (λ o. option_map policy_tree o
+        ≡ policy_named schema.now (named_policy_tree named.now)) }
+{
+    let Some(table) = schema.table(named.table.as_str()) else {
+        return Ok(None);
+    };
+    let Some(predicate) = predicate_in(alloc, schema, &named.predicate)? else {
+        return Ok(None);
+    };
+    let table = table.try_clone(alloc)?;
+    Ok(Some(Policy { table, predicate }))
+}
+
+/// The policies, their names looked up in the schema. None where it lacks one of them.
+#[tactic(auto, using(sql_build::proofs::Front::fronts))]
+fn policies_in(
+    alloc: Global,
+    schema: &Schema,
+    named: &[NamedPolicy],
+) -> Result<Option<Vec<Policy>>, NoMemory>
+    ensures { IfOk result (λ o. option_map (λ v. map policy_tree v.items) o
+        ≡ policies_named schema.now (map named_policy_tree named.now)) }
+{
+    let mut all = Vec::new(alloc);
+    for policy in named {
+        match policy_in(alloc, schema, policy)? {
+            None => return Ok(None),
+            Some(policy) => all.push(policy)?,
+        }
+    }
+    Ok(Some(all))
+}
+
+#[tactic(auto, unfolding(crate::specs::Tenants::policed_in))]
+fn with_policies(alloc: Global, policed: Policed) -> Result<TenantDocument, Refusal>
+    ensures { Gives tenant_document_tree result (policed_in (policed_tree policed)) }
+{
+    let Policed { document, policies } = policed;
+    let policies = policies_in(alloc, &document.schema, policies.as_slice())?;
+    let policies = policies.ok_or(Refusal::NotADocument)?;
+    let tenant = Tenant::Policies(SqlList::from(policies));
+    Ok(TenantDocument { document, tenant })
+}
+
+/// The document with the policies of its `"tenant":[{"table":"posts","predicate":EXPR},{"table":"countries"}]` that the bytes are, else
+/// `NotADocument`; or `NoMemory`.
+#[tactic(auto, unfolding(crate::specs::Tenants::policed_document))]
+pub fn read_policies(alloc: Global, bytes: &[u8]) -> Result<TenantDocument, Refusal>
+    ensures { Gives tenant_document_tree result (policed_document bytes.now) }
+{
+    let policed = read_policed(alloc, bytes)?;
+    with_policies(alloc, policed)
 }

@@ -10,7 +10,7 @@ use Rattle.sql_tool_document.specs.Names.{dialect_of, dialect_text, dialects}
 use Rattle.sql_tool_run.proofs.Counts.{count-back, count-some}
 use Rattle.sql_tool_run.specs.Command.{AreWordsOf, command_of, count_of}
 use Rattle.sql_tool_run.specs.declared.command.Command.{Command}
-use Rattle.sql_tool_run.specs.declared.command.Command.TheVariants.{Build, Generate, Read, Audit, Guard}
+use Rattle.sql_tool_run.specs.declared.command.Command.TheVariants.{Build, Generate, Read, Audit, Guard, Tenant}
 
 -- ---- tests
 
@@ -61,13 +61,17 @@ dialect-forth Bracket = refl
 -- ---- commands
 
 -- the words that a command has are its own
-one-word : (w : List ℕ) (a b : Bool) (c : Command) → bytes_eq w (codes "build") ≡ a → bytes_eq w (codes "guard") ≡ b
-    → cond a (Some Build) (cond b (Some Guard) None) ≡ Some c → AreWordsOf c (w ∷ [])
-one-word w true b c is it h =
+one-word : (w : List ℕ) (a b e : Bool) (c : Command) → bytes_eq w (codes "build") ≡ a → bytes_eq w (codes "guard") ≡ b
+    → bytes_eq w (codes "tenant") ≡ e
+    → cond a (Some Build) (cond b (Some Guard) (cond e (Some Tenant) None)) ≡ Some c → AreWordsOf c (w ∷ [])
+one-word w true b e c is it that h =
     let own : Build ≡ c = cc in subst (λ k. AreWordsOf k (w ∷ [])) own (ap (λ v. v ∷ []) (same-words w (codes "build") is))
-one-word w false true c is it h =
+one-word w false true e c is it that h =
     let own : Guard ≡ c = cc in subst (λ k. AreWordsOf k (w ∷ [])) own (ap (λ v. v ∷ []) (same-words w (codes "guard") it))
-one-word w false false c is it h = none_some c h
+one-word w false false true c is it that h =
+    let own : Tenant ≡ c = cc in
+    subst (λ k. AreWordsOf k (w ∷ [])) own (ap (λ v. v ∷ []) (same-words w (codes "tenant") that))
+one-word w false false false c is it that h = none_some c h
 
 generated : (w v : List ℕ) (c : Command) → bytes_eq w (codes "generate") ≡ true → option_map Generate (count_of v) ≡ Some c
     → AreWordsOf c (w ∷ v ∷ [])
@@ -103,7 +107,7 @@ two-words w v false false false c is it that h = none_some c h
 
 told : (given : List (List ℕ)) (c : Command) → command_of given ≡ Some c → AreWordsOf c given
 told [] c h = none_some c h
-told (w ∷ []) c h = one-word w (bytes_eq w (codes "build")) (bytes_eq w (codes "guard")) c refl refl h
+told (w ∷ []) c h = one-word w (bytes_eq w (codes "build")) (bytes_eq w (codes "guard")) (bytes_eq w (codes "tenant")) c refl refl refl h
 told (w ∷ v ∷ []) c h =
     two-words w v (bytes_eq w (codes "generate")) (bytes_eq w (codes "read")) (bytes_eq w (codes "audit")) c refl refl refl h
 told (w ∷ v ∷ u ∷ ws) c h = none_some c h
@@ -112,6 +116,7 @@ told (w ∷ v ∷ u ∷ ws) c h = none_some c h
 telling : (given : List (List ℕ)) (c : Command) → AreWordsOf c given → command_of given ≡ Some c
 telling given Build is = ap command_of is
 telling given Guard is = ap command_of is
+telling given Tenant is = ap command_of is
 telling given (Generate n) (is, within) =
     ap command_of is ∙ ap (option_map Generate) (count-some (decimal n) n within refl)
 telling given (Read d) is = ap command_of is ∙ ap (option_map Read) (dialect-forth d)

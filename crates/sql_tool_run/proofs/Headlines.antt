@@ -6,7 +6,7 @@ use Rattle.sql_tool_run.proofs.Outcomes.{all-given}
 use Rattle.sql_tool_run.specs.Command.{IsDone, IsOutputOf, reads_source}
 use Rattle.sql_tool_run.specs.Run.{HasRead, Outcome}
 use Rattle.sql_tool_run.specs.declared.command.Command.{Command}
-use Rattle.sql_tool_run.specs.declared.command.Command.TheVariants.{Build, Generate, Read, Audit, Guard}
+use Rattle.sql_tool_run.specs.declared.command.Command.TheVariants.{Build, Generate, Read, Audit, Guard, Tenant}
 use Rattle.sql_tool_run.specs.declared.status.Status.{Status}
 use Rattle.sql_tool_run.specs.declared.status.Status.TheVariants.{Done, Usage, ReadFault}
 
@@ -23,6 +23,7 @@ same-output (Generate n) unread a b text output = output
 same-output (Read d) unread a b text output = cc
 same-output (Audit d) unread a b text output = cc
 same-output Guard unread a b text output = cc
+same-output Tenant unread a b text output = cc
 
 done-if : (b : Bool) (c : Command) (input given text : List ℕ) (rest : Option (List ℕ)) → reads_source c ≡ b
     → Consumes (Some input) rest given → HasRead b given (IsAtEnd rest) → IsOutputOf c given text

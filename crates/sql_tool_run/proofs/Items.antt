@@ -12,16 +12,17 @@ use Rattle.sql_tool_audit.proofs.Lines as audits
 use Rattle.sql_tool_audit.specs.Line.{IsAuditLine}
 use Rattle.sql_tool_audit.specs.Output.{IsAuditOutput}
 use Rattle.sql_tool_guard.proofs.Lines.{guarded-length, guarded-more}
-use Rattle.sql_tool_guard.specs.Output.{AreGuarded, IsGuarded, IsGuardedOutput}
-use Rattle.sql_tool_guard.specs.Tenants.{Tenant, TenantDocument, tenant_document}
+use Rattle.sql_tool_guard.specs.Output.{AreGuarded, IsGuarded, IsGuardedOutput, IsGuardedOutputPrefix}
+use Rattle.sql_tool_guard.specs.Tenants.{Tenant, TenantDocument, policed_document, tenant_document}
 use Rattle.sql_tool_build.proofs.Lines.{written-more}
 use Rattle.sql_tool_build.specs.Output.{IsOutput, StatementRequest, line_text, statement_request}
 use Rattle.sql_tool_build.specs.inside.Keys.{AreWritten, HasLine}
 use Rattle.sql_rows.specs.declared.cache.RequestKey.{RequestKey}
 use Rattle.sql_tool_run.specs.Command.{IsOutputOf, IsOutputPrefixOf}
-use Rattle.sql_tool_run.specs.inside.Responses.{Response, WroteLines, WroteSome}
+use Rattle.sql_tool_run.specs.inside.Responses.{Response, WroteLines, WroteSome, WroteTenant}
 use Rattle.sql_tool_run.specs.declared.command.Command.{Command}
 use Rattle.sql_tool_run.specs.declared.command.Command.TheVariants.{Audit, Build, Guard}
+use Rattle.sql_tool_run.specs.declared.command.Command.TheVariants as command
 use Rattle.sql_tool_run.specs.declared.status.Status.{Status}
 use Rattle.sql_tool_run.specs.declared.status.Status.TheVariants.{Done, Usage, BadDocument, ReadFault, WriteFault, NoMemory, TooLarge}
 
@@ -121,29 +122,55 @@ wrote-build status given written schema requests Has told read =
       ),
     ))
 
-pub wrote-guard : {S : Type 0} (status : Status) (given written : List ℕ) (schema : Declarations) (tenant : Tenant)
+-- the lines of a tenant's requests, some or all
+wrote-some : {S : Type 0} (written : List ℕ) (schema : Declarations) (tenant : Tenant) (requests : List Request)
+    (Has : S → List Request → List ℕ → Type 0)
+    → ((state : S) (qs : List Request) (text : List ℕ) → Has state qs text → IsGuardedOutput (with_requests schema qs) tenant text)
+    → WroteSome Has requests written → IsGuardedOutputPrefix (with_requests schema requests) tenant written
+wrote-some written schema tenant requests Has told (state, some, later, cut, (text, has, (rest, is))) =
+    let (rs, guarded, (ls, lines, it)) = told state some text has in (
+      map request_tree some,
+      map request_tree later,
+      ap (map request_tree) cut ∙ map-append request_tree some later,
+      (rs, guarded, (ls, lines, (rest, sym it ∙ is))),
+    )
+
+pub wrote-tenant : {S : Type 0} (status : Status) (written : List ℕ) (schema : Declarations) (tenant : Tenant)
     (requests : List Request) (Has : S → List Request → List ℕ → Type 0)
     → ((state : S) (qs : List Request) (text : List ℕ) → Has state qs text → IsGuardedOutput (with_requests schema qs) tenant text)
-    → tenant_document given ≡ Some (record { document = with_requests schema requests; tenant = tenant })
-    → WroteLines status Has requests written → Response status Guard given written
-wrote-guard status given written schema tenant requests Has told read =
-    answered status Guard given written Has requests
-    (λ state has. (
-      record { document = with_requests schema requests; tenant = tenant },
-      read,
-      told state requests written has,
-    ))
-    (λ wrote. let (state, some, later, cut, (text, has, (rest, is))) = wrote in
-    let (rs, guarded, (ls, lines, it)) = told state some text has in (
-      record { document = with_requests schema requests; tenant = tenant },
-      read,
-      (
-        map request_tree some,
-        map request_tree later,
-        ap (map request_tree) cut ∙ map-append request_tree some later,
-        (rs, guarded, (ls, lines, (rest, sym it ∙ is))),
-      ),
-    ))
+    → WroteLines status Has requests written
+    → WroteTenant status (record { document = with_requests schema requests; tenant = tenant }) written
+wrote-tenant Done written schema tenant requests Has told (state, has) = told state requests written has
+wrote-tenant Usage written schema tenant requests Has told wrote = absurd wrote
+wrote-tenant BadDocument written schema tenant requests Has told wrote = absurd wrote
+wrote-tenant ReadFault written schema tenant requests Has told wrote = absurd wrote
+wrote-tenant WriteFault written schema tenant requests Has told wrote =
+    wrote-some written schema tenant requests Has told wrote
+wrote-tenant NoMemory written schema tenant requests Has told wrote =
+    inr (wrote-some written schema tenant requests Has told wrote)
+wrote-tenant TooLarge written schema tenant requests Has told wrote = absurd wrote
+
+pub guard-response : (status : Status) (given written : List ℕ) (x : TenantDocument) → tenant_document given ≡ Some x
+    → WroteTenant status x written → Response status Guard given written
+guard-response Done given written x is wrote = (x, is, wrote)
+guard-response Usage given written x is wrote = wrote
+guard-response BadDocument given written x is wrote = absurd wrote
+guard-response ReadFault given written x is wrote = wrote
+guard-response WriteFault given written x is wrote = (x, is, wrote)
+guard-response NoMemory given written x is (inl none) = inl none
+guard-response NoMemory given written x is (inr some) = inr (x, is, some)
+guard-response TooLarge given written x is wrote = wrote
+
+pub tenant-response : (status : Status) (given written : List ℕ) (x : TenantDocument) → policed_document given ≡ Some x
+    → WroteTenant status x written → Response status command.Tenant given written
+tenant-response Done given written x is wrote = (x, is, wrote)
+tenant-response Usage given written x is wrote = wrote
+tenant-response BadDocument given written x is wrote = absurd wrote
+tenant-response ReadFault given written x is wrote = wrote
+tenant-response WriteFault given written x is wrote = (x, is, wrote)
+tenant-response NoMemory given written x is (inl none) = inl none
+tenant-response NoMemory given written x is (inr some) = inr (x, is, some)
+tenant-response TooLarge given written x is wrote = wrote
 
 pub wrote-audit : {S : Type 0} (status : Status) (d : Dialect) (given written : List ℕ) (schema : Declarations)
     (texts : List (List ℕ)) (Has : S → List (List ℕ) → List ℕ → Type 0)

@@ -12,7 +12,7 @@ use Rattle.sql_tool_read.proofs.Once.{one-line}
 use Rattle.sql_tool_read.specs.Line.{IsReadingLine}
 use Rattle.sql_tool_run.specs.Command.{IsOutputOf}
 use Rattle.sql_tool_run.specs.declared.command.Command.{Command}
-use Rattle.sql_tool_run.specs.declared.command.Command.TheVariants.{Audit, Build, Generate, Guard, Read}
+use Rattle.sql_tool_run.specs.declared.command.Command.TheVariants.{Audit, Build, Generate, Guard, Read, Tenant}
 
 -- what both are is one
 same : {X : Type 0} (o : Option X) (x y : X) → o ≡ Some x → o ≡ Some y → x ≡ y
@@ -27,5 +27,8 @@ one-answer (Read d) given a b (t, is, first) (u, it, second) =
 one-answer (Audit d) given a b (x, is, first) (y, it, second) =
     audits.one-output d y a b (subst (λ z. IsAuditOutput d z a) (same _ x y is it) first) second
 one-answer Guard given a b (x, is, first) (y, it, second) =
+    guarded.one-output y.document y.tenant a b
+    (subst (λ z. IsGuardedOutput z.document z.tenant a) (same _ x y is it) first) second
+one-answer Tenant given a b (x, is, first) (y, it, second) =
     guarded.one-output y.document y.tenant a b
     (subst (λ z. IsGuardedOutput z.document z.tenant a) (same _ x y is it) first) second

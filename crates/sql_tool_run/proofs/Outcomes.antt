@@ -7,7 +7,7 @@ use Rattle.sql_tool_run.specs.Command.{IsBadInput, IsOutputOf, reads_source}
 use Rattle.sql_tool_run.specs.Limits.{greatest_input}
 use Rattle.sql_tool_run.specs.Run.{Ends, HasRead, HasReadSome, Outcome, Took, may_write, status_from, status_of, status_on}
 use Rattle.sql_tool_run.specs.declared.command.Command.{Command}
-use Rattle.sql_tool_run.specs.declared.command.Command.TheVariants.{Build, Generate, Read, Audit, Guard}
+use Rattle.sql_tool_run.specs.declared.command.Command.TheVariants.{Build, Generate, Read, Audit, Guard, Tenant}
 use Rattle.sql_tool_run.specs.declared.status.Status.{Status}
 use Rattle.sql_tool_run.specs.declared.status.Status.TheVariants.{Done, Usage, BadDocument, ReadFault, WriteFault, NoMemory, TooLarge}
 
@@ -84,6 +84,7 @@ done-status (Generate n) given written output = refl
 done-status (Read d) given written (t, is, output) = ap status_from is
 done-status (Audit d) given written (x, is, output) = ap status_from is
 done-status Guard given written (x, is, output) = ap status_from is
+done-status Tenant given written (x, is, output) = ap status_from is
 
 bad-status : (c : Command) (given : List ℕ) → IsBadInput c given → status_on c given ≡ BadDocument
 bad-status Build given bad = ap status_from bad
@@ -91,6 +92,7 @@ bad-status (Generate n) given bad = absurd bad
 bad-status (Read d) given bad = ap status_from bad
 bad-status (Audit d) given bad = ap status_from bad
 bad-status Guard given bad = ap status_from bad
+bad-status Tenant given bad = ap status_from bad
 
 -- a command that reads no source ends so whatever the source has
 unread-status : (c : Command) → reads_source c ≡ false → (a b : List ℕ) → status_on c a ≡ status_on c b
@@ -99,6 +101,7 @@ unread-status (Generate n) unread a b = refl
 unread-status (Read d) unread a b = cc
 unread-status (Audit d) unread a b = cc
 unread-status Guard unread a b = cc
+unread-status Tenant unread a b = cc
 
 pub all-given : (xs given : List ℕ) (rest : Option (List ℕ)) → Consumes (Some xs) rest given → IsAtEnd rest → given ≡ xs
 all-given xs given None taken end = absurd taken

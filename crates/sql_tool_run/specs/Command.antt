@@ -8,14 +8,14 @@ use Rattle.sql_tool_document.specs.Names.{dialect_of, dialect_text}
 use Rattle.sql_tool_document.specs.Texts.{Texts, texts_in}
 use Rattle.sql_tool_generate.specs.Summary.{IsSummary}
 use Rattle.sql_tool_guard.specs.Output.{IsGuardedOutput, IsGuardedOutputPrefix}
-use Rattle.sql_tool_guard.specs.Tenants.{TenantDocument, tenant_document}
+use Rattle.sql_tool_guard.specs.Tenants.{TenantDocument, policed_document, tenant_document}
 use Rattle.sql_tool_audit.specs.Output.{IsAuditOutput, IsAuditOutputPrefix}
 use Rattle.sql_tool_build.specs.Output.{IsOutput, IsOutputPrefix}
 use Rattle.sql_tool_read.specs.Input.{input_text}
 use Rattle.sql_tool_read.specs.Line.{IsReadingLine}
 use Rattle.sql_tool_run.specs.Limits.{most_requests}
 use Rattle.sql_tool_run.specs.declared.command.Command.{Command}
-use Rattle.sql_tool_run.specs.declared.command.Command.TheVariants.{Build, Generate, Read, Audit, Guard}
+use Rattle.sql_tool_run.specs.declared.command.Command.TheVariants.{Build, Generate, Read, Audit, Guard, Tenant}
 
 -- ---- words
 
@@ -31,6 +31,7 @@ command_of [] = None
 command_of (w ∷ []) =
     if bytes_eq w (codes "build") then Some Build
     else if bytes_eq w (codes "guard") then Some Guard
+    else if bytes_eq w (codes "tenant") then Some Tenant
     else None
 command_of (w ∷ v ∷ []) =
     if bytes_eq w (codes "generate") then option_map Generate (count_of v)
@@ -46,6 +47,7 @@ AreWordsOf (Generate n) words = (words ≡ codes "generate" ∷ decimal n ∷ []
 AreWordsOf (Read d) words = words ≡ codes "read" ∷ dialect_text d ∷ []
 AreWordsOf (Audit d) words = words ≡ codes "audit" ∷ dialect_text d ∷ []
 AreWordsOf Guard words = words ≡ codes "guard" ∷ []
+AreWordsOf Tenant words = words ≡ codes "tenant" ∷ []
 
 -- ---- input
 
@@ -56,6 +58,7 @@ reads_source (Generate n) = false
 reads_source (Read d) = true
 reads_source (Audit d) = true
 reads_source Guard = true
+reads_source Tenant = true
 
 -- the bytes aren't what the command reads
 abbrev pub IsBadInput : Command → List ℕ → Type 0
@@ -64,6 +67,7 @@ IsBadInput (Generate n) given = ⊥
 IsBadInput (Read d) given = input_text given ≡ None
 IsBadInput (Audit d) given = texts_in given ≡ None
 IsBadInput Guard given = tenant_document given ≡ None
+IsBadInput Tenant given = policed_document given ≡ None
 
 -- ---- output
 
@@ -75,6 +79,8 @@ IsOutputOf (Read d) given written = (t : List ℕ) × (input_text given ≡ Some
 IsOutputOf (Audit d) given written = (x : Texts) × (texts_in given ≡ Some x) × IsAuditOutput d x written
 IsOutputOf Guard given written =
     (x : TenantDocument) × (tenant_document given ≡ Some x) × IsGuardedOutput x.document x.tenant written
+IsOutputOf Tenant given written =
+    (x : TenantDocument) × (policed_document given ≡ Some x) × IsGuardedOutput x.document x.tenant written
 
 -- the first bytes of a text
 abbrev pub IsPrefixOf : List ℕ → List ℕ → Type 0
@@ -89,6 +95,8 @@ IsOutputPrefixOf (Read d) given written =
 IsOutputPrefixOf (Audit d) given written = (x : Texts) × (texts_in given ≡ Some x) × IsAuditOutputPrefix d x written
 IsOutputPrefixOf Guard given written =
     (x : TenantDocument) × (tenant_document given ≡ Some x) × IsGuardedOutputPrefix x.document x.tenant written
+IsOutputPrefixOf Tenant given written =
+    (x : TenantDocument) × (policed_document given ≡ Some x) × IsGuardedOutputPrefix x.document x.tenant written
 
 -- What a command that is done has read and written, where its source had these bytes, AtEnd says that it is at the end now, and
 -- Written which bytes the sink has taken.

@@ -4,12 +4,12 @@ use Rattle.std.specs.Io.KnownBytes.{Consumes}
 use Rattle.sql_tool_stream.specs.Reading.{Gives}
 use Rattle.sql_tool_document.specs.Documents.{document}
 use Rattle.sql_tool_document.specs.Texts.{texts_in}
-use Rattle.sql_tool_guard.specs.Tenants.{tenant_document}
+use Rattle.sql_tool_guard.specs.Tenants.{policed_document, tenant_document}
 use Rattle.sql_tool_read.specs.Input.{input_text}
 use Rattle.sql_tool_run.specs.Command.{IsBadInput, IsOutputOf, IsOutputPrefixOf, reads_source}
 use Rattle.sql_tool_run.specs.Limits.{greatest_input}
 use Rattle.sql_tool_run.specs.declared.command.Command.{Command}
-use Rattle.sql_tool_run.specs.declared.command.Command.TheVariants.{Build, Generate, Read, Audit, Guard}
+use Rattle.sql_tool_run.specs.declared.command.Command.TheVariants.{Build, Generate, Read, Audit, Guard, Tenant}
 use Rattle.sql_tool_run.specs.declared.status.Status.{Status}
 use Rattle.sql_tool_run.specs.declared.status.Status.TheVariants.{Done, Usage, BadDocument, ReadFault, WriteFault, NoMemory, TooLarge}
 
@@ -63,6 +63,7 @@ status_on (Generate n) input = Done
 status_on (Read d) input = status_from (input_text input)
 status_on (Audit d) input = status_from (texts_in input)
 status_on Guard input = status_from (tenant_document input)
+status_on Tenant input = status_from (policed_document input)
 
 -- the status of a run with no fault and enough memory
 abbrev pub status_of : Option Command → List ℕ → Status

@@ -11,7 +11,7 @@ ghost use Rattle.sql_tool_run.specs.declared.status.Status.{Status};
 use crate::lines::{Lines, write_lines};
 use crate::status::Status;
 use sql_schema::Schema;
-use sql_tool_build::{RequestKey, StatementCache, request_line};
+use sql_tool_build::{NamedRequest, StatementCache, request_line};
 use sql_tool_document::{Document, Refusal, Request, read_document};
 use sql_tool_stream::Sink;
 use std::alloc::{AllocError, Global};
@@ -25,7 +25,7 @@ const ENTRIES: usize = 256;
 #[derive(Drop)]
 pub(crate) struct Known {
     pub(crate) cache: StatementCache,
-    pub(crate) seen: BTreeMap<RequestKey, u64>,
+    pub(crate) seen: BTreeMap<NamedRequest, u64>,
 }
 
 impl Known {

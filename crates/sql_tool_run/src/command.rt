@@ -20,6 +20,8 @@ pub enum Command {
     Audit(Dialect),
     /// `guard`: reads a document with a tenant, and writes a line for each of its requests, restricted to the tenant's rows.
     Guard,
+    /// `tenant`: reads a document with policies, and writes a line for each of its requests, guarded by them.
+    Tenant,
 }
 
 impl Command {
@@ -40,6 +42,7 @@ impl Command {
         match word {
             "build" => Some(Command::Build),
             "guard" => Some(Command::Guard),
+            "tenant" => Some(Command::Tenant),
             _ => None,
         }
     }
@@ -60,7 +63,11 @@ impl Command {
         ensures { result ≡ reads_source self }
     {
         match self {
-            Command::Build | Command::Read(_) | Command::Audit(_) | Command::Guard => true,
+            Command::Build
+            | Command::Read(_)
+            | Command::Audit(_)
+            | Command::Guard
+            | Command::Tenant => true,
             Command::Generate(_) => false,
         }
     }

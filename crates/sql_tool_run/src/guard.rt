@@ -4,17 +4,17 @@ ghost use Rattle.sql_tool_document.specs.Trees.{request_tree};
 ghost use Rattle.sql_tool_build.specs.Output.{StatementRequest};
 ghost use Rattle.sql_tool_build.specs.inside.Keys.{AreWritten, seen_at};
 ghost use Rattle.sql_tool_guard.specs.Output.{AreGuarded};
-ghost use Rattle.sql_tool_guard.specs.Trees.{tenant_tree};
+ghost use Rattle.sql_tool_guard.specs.Trees.{tenant_document_tree, tenant_tree};
 ghost use Rattle.sql_tool_stream.specs.Causes.{HasRisen};
-ghost use Rattle.sql_tool_run.specs.inside.Responses.{Response};
-ghost use Rattle.sql_tool_run.specs.declared.command.Command.TheVariants.{Guard};
+ghost use Rattle.sql_tool_run.specs.inside.Responses.{Response, WroteTenant};
+ghost use Rattle.sql_tool_run.specs.declared.command.Command.TheVariants.{Guard, Tenant as TenantCommand};
 ghost use Rattle.sql_tool_run.specs.declared.status.Status.{Status};
 
 use crate::build::Known;
 use crate::lines::{Lines, write_lines};
 use crate::status::Status;
 use sql_tool_document::{Document, Refusal, Request};
-use sql_tool_guard::{Tenant, TenantDocument, guarded_line, read_tenant};
+use sql_tool_guard::{Tenant, TenantDocument, guarded_line, read_policies, read_tenant};
 use sql_tool_stream::Sink;
 use std::alloc::{AllocError, Global};
 
@@ -40,18 +40,14 @@ impl Lines for GuardLines {
     }
 }
 
-/// Writes a line for each request of the document that the bytes are, in order, its statement restricted to the document's tenant.
-pub(crate) fn write_guard<K: Sink>(alloc: Global, bytes: &[u8], sink: &mut K) -> Status
-    ensures response { (written : List ℕ) × Appends (K.held sink.old) (K.held sink.new) written
-        × Response result Guard bytes.now written }
+/// Writes a line for each request of the document, in order, its statement limited to the tenant's rows.
+fn write_document<K: Sink>(alloc: Global, document: TenantDocument, sink: &mut K) -> Status
+    ensures wrote { (written : List ℕ) × Appends (K.held sink.old) (K.held sink.new) written
+        × WroteTenant result (tenant_document_tree document) written }
     ensures fault { result ≡ Status.WriteFault → HasRisen (K.faults sink.old) (K.faults sink.new) }
     ensures no_fault { (result ≡ Status.WriteFault → ⊥) → K.faults sink.new ≡ K.faults sink.old }
 {
-    let TenantDocument { document, tenant } = match read_tenant(alloc, bytes) {
-        Ok(document) => document,
-        Err(Refusal::NoMemory) => return Status::NoMemory,
-        Err(Refusal::NotADocument) => return Status::BadDocument,
-    };
+    let TenantDocument { document, tenant } = document;
     let Document { schema, requests } = document;
     match Known::new(alloc, schema) {
         Ok(known) => {
@@ -59,5 +55,33 @@ pub(crate) fn write_guard<K: Sink>(alloc: Global, bytes: &[u8], sink: &mut K) ->
             write_lines(alloc, &mut lines, requests.as_slice(), sink)
         }
         Err(AllocError) => Status::NoMemory,
+    }
+}
+
+/// Writes a line for each request of the document that the bytes are, in order, its statement restricted to the document's tenant.
+pub(crate) fn write_guard<K: Sink>(alloc: Global, bytes: &[u8], sink: &mut K) -> Status
+    ensures response { (written : List ℕ) × Appends (K.held sink.old) (K.held sink.new) written
+        × Response result Guard bytes.now written }
+    ensures fault { result ≡ Status.WriteFault → HasRisen (K.faults sink.old) (K.faults sink.new) }
+    ensures no_fault { (result ≡ Status.WriteFault → ⊥) → K.faults sink.new ≡ K.faults sink.old }
+{
+    match read_tenant(alloc, bytes) {
+        Ok(document) => write_document(alloc, document, sink),
+        Err(Refusal::NoMemory) => Status::NoMemory,
+        Err(Refusal::NotADocument) => Status::BadDocument,
+    }
+}
+
+/// Writes a line for each request of the document that the bytes are, in order, its statement guarded by the document's policies.
+pub(crate) fn write_tenant<K: Sink>(alloc: Global, bytes: &[u8], sink: &mut K) -> Status
+    ensures response { (written : List ℕ) × Appends (K.held sink.old) (K.held sink.new) written
+        × Response result TenantCommand bytes.now written }
+    ensures fault { result ≡ Status.WriteFault → HasRisen (K.faults sink.old) (K.faults sink.new) }
+    ensures no_fault { (result ≡ Status.WriteFault → ⊥) → K.faults sink.new ≡ K.faults sink.old }
+{
+    match read_policies(alloc, bytes) {
+        Ok(document) => write_document(alloc, document, sink),
+        Err(Refusal::NoMemory) => Status::NoMemory,
+        Err(Refusal::NotADocument) => Status::BadDocument,
     }
 }

@@ -18,7 +18,7 @@ ghost use Rattle.sql_tool_run.specs.declared.command.Command.{Command};
 use crate::audit::write_audit;
 use crate::build::write_build;
 use crate::command::Command;
-use crate::guard::write_guard;
+use crate::guard::{write_guard, write_tenant};
 use crate::status::Status;
 use sql_dialect::Dialect;
 use sql_tool_generate::generate;
@@ -85,6 +85,7 @@ fn answer<K: Sink>(alloc: Global, command: Command, bytes: &[u8], sink: &mut K) 
         Command::Read(dialect) => write_reading(alloc, dialect, bytes, sink),
         Command::Audit(dialect) => write_audit(alloc, dialect, bytes, sink),
         Command::Guard => write_guard(alloc, bytes, sink),
+        Command::Tenant => write_tenant(alloc, bytes, sink),
     }
 }
 
@@ -152,14 +153,15 @@ fn perform<S: Source, K: Sink>(
 /// Does what the words say: on `build`, writes a line for each request of the document that the source holds; on `generate N`, a
 /// line that sums up N generated requests; on `read D`, a line with the text that the source holds, as its tree is written; on `audit D`, a
 /// line for each text of the source, with the tables and columns that it uses; on `guard`, a line for each request of the document that
-/// the source holds, its statement restricted to the rows of the document's tenant.
+/// the source holds, its statement restricted to the rows of the document's tenant; and on `tenant` so, its statement guarded by the
+/// document's policies.
 pub fn run<S: Source, K: Sink>(
     alloc: Global,
     words: &[String],
     source: &mut S,
     sink: &mut K,
 ) -> Status
-    // The words are a command where they are its own: `build`, `generate N`, `read D`, `audit D`, `guard`.
+    // The words are a command where they are its own: `build`, `generate N`, `read D`, `audit D`, `guard`, `tenant`.
     ensures command { (given : List (List ℕ)) (c : Command) → (command_of given ≡ Some c)
         ↔ AreWordsOf c given }
     // On Done the command was carried out. On `build` the source was read to its end, its bytes were a document, and what was
@@ -170,6 +172,8 @@ pub fn run<S: Source, K: Sink>(
     // texts, and there is a line for each text, in order: of its report, by its only reading, or of the first refusal that holds.
     // On `guard` they were a document with a tenant, and there is a line for each request, in order: as on `build` of the
     // request's statement with the tenant's predicate beside each leaf of its table, or of the first refusal that holds.
+    // On `tenant` they were a document with policies, and so is each line: of the request's statement with each predicate beside
+    // each leaf of its table, in subselects too, or of the first refusal that holds.
     // On `generate N` the line is the summary of the N generated requests.
     ensures headline { result ≡ Status.Done → IfSome (S.left source.old) (λ input.
         (c : Command) × (command_of (map string_bytes words.now) ≡ Some c)

@@ -55,6 +55,7 @@ fn words_of(alloc: Global, command: Command) -> Result<Vec<String>, AllocError>
     match command {
         Command::Build => one_word(alloc, "build"),
         Command::Guard => one_word(alloc, "guard"),
+        Command::Tenant => one_word(alloc, "tenant"),
         Command::Read(dialect) => two_words(alloc, "read", dialect_name(dialect)),
         Command::Audit(dialect) => two_words(alloc, "audit", dialect_name(dialect)),
         Command::Generate(_) => unreachable!(),

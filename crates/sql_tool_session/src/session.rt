@@ -9,7 +9,7 @@ ghost use Rattle.sql_tool_build.specs.Output.{IsOutput};
 ghost use Rattle.sql_tool_session.specs.Session.{HasAnswered, followed_by, with_schema};
 
 use sql_schema::{Schema, SqlList};
-use sql_tool_build::{RequestKey, StatementCache, request_line};
+use sql_tool_build::{NamedRequest, StatementCache, request_line};
 use sql_tool_document::{Document, Refusal, Request, read_document};
 use sql_tool_run::{LIMIT, Status};
 use std::alloc::{AllocError, Global};
@@ -23,7 +23,7 @@ const ENTRIES: usize = 256;
 #[derive(Drop)]
 pub struct Session {
     cache: StatementCache,
-    seen: BTreeMap<RequestKey, u64>,
+    seen: BTreeMap<NamedRequest, u64>,
     count: u64,
 }
 

@@ -6,7 +6,7 @@ use sql_dialect::{Backend, Dialect, Pg, QueryBuilder};
 use sql_pass::QueryFragment;
 use sql_schema::Schema;
 use sql_test_kit::{is, reads};
-use sql_tool_build::{RequestKey, StatementCache};
+use sql_tool_build::{NamedRequest, StatementCache};
 use sql_tool_document::{Document, Request, read_guarded};
 use sql_tool_guard::{Tenant, TenantDocument, guarded_line, read_tenant};
 use std::alloc::Global;
@@ -49,7 +49,7 @@ fn of_request(
     request: &Request,
 ) -> Result<(), Fail> {
     let mut cache = StatementCache::new(alloc, schema, NonZeroUsize::MIN)?;
-    let mut seen: BTreeMap<RequestKey, u64> = BTreeMap::new(alloc);
+    let mut seen: BTreeMap<NamedRequest, u64> = BTreeMap::new(alloc);
     let line = guarded_line(alloc, &mut cache, &mut seen, 1, tenant, request)?;
     is(line.as_str() == GUARDED, "the tenant's line")
 }

@@ -7,8 +7,8 @@ use sql_node::Statement;
 use sql_schema::Schema;
 use sql_test_kit::is;
 use sql_tool_build::{
-    Names, RequestKey, StatementCache, compile_cached_for, refusal_line, request_id, request_line,
-    statement_line,
+    NamedRequest, Names, StatementCache, compile_cached_for, refusal_line, request_id,
+    request_line, statement_line,
 };
 use sql_tool_document::{Document, Request, read_document};
 use sql_tool_series::{Form, Named, series_schema};
@@ -55,7 +55,7 @@ fn of_document(alloc: Global) -> Result<(), Fail> {
 /// The second time the cache has the answer.
 fn of_request(alloc: Global, schema: Schema, request: &Request) -> Result<(), Fail> {
     let mut cache = StatementCache::new(alloc, schema, NonZeroUsize::MIN)?;
-    let mut seen: BTreeMap<RequestKey, u64> = BTreeMap::new(alloc);
+    let mut seen: BTreeMap<NamedRequest, u64> = BTreeMap::new(alloc);
     let line = request_line(alloc, &mut cache, &mut seen, 1, request)?;
     is(line.as_str() == FILTERED, "the line")?;
     let again = request_line(alloc, &mut cache, &mut seen, 2, request)?;
@@ -66,7 +66,7 @@ fn of_request(alloc: Global, schema: Schema, request: &Request) -> Result<(), Fa
 fn of_statement(alloc: Global, statement: &Statement) -> Result<(), Fail> {
     let mut cache = StatementCache::new(alloc, series_schema(alloc)?, NonZeroUsize::MIN)?;
     is_compiled(alloc, &mut cache, statement)?;
-    let mut seen: BTreeMap<RequestKey, u64> = BTreeMap::new(alloc);
+    let mut seen: BTreeMap<NamedRequest, u64> = BTreeMap::new(alloc);
     let names = Names::Asked;
     let line = statement_line(
         alloc,

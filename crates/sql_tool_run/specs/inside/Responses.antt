@@ -1,5 +1,7 @@
 -- What the functions inside `run` promise.
 use Rattle.std.specs.Prelude.{◌≡◌, ◌⊎◌, ℕ, List, [], ◌++◌}
+use Rattle.sql_tool_guard.specs.Output.{IsGuardedOutput, IsGuardedOutputPrefix}
+use Rattle.sql_tool_guard.specs.Tenants.{TenantDocument}
 use Rattle.sql_tool_run.specs.Command.{IsBadInput, IsOutputOf, IsOutputPrefixOf, IsPrefixOf}
 use Rattle.sql_tool_run.specs.declared.command.Command.{Command}
 use Rattle.sql_tool_run.specs.declared.status.Status.{Status}
@@ -40,3 +42,13 @@ WroteLines ReadFault Has items written = ⊥
 WroteLines WriteFault Has items written = WroteSome Has items written
 WroteLines NoMemory Has items written = WroteSome Has items written
 WroteLines TooLarge Has items written = ⊥
+
+-- What is written of a document with a tenant, where the writing ends so.
+abbrev pub WroteTenant : Status → TenantDocument → List ℕ → Type 0
+WroteTenant Done x written = IsGuardedOutput x.document x.tenant written
+WroteTenant Usage x written = ⊥
+WroteTenant BadDocument x written = ⊥
+WroteTenant ReadFault x written = ⊥
+WroteTenant WriteFault x written = IsGuardedOutputPrefix x.document x.tenant written
+WroteTenant NoMemory x written = (written ≡ []) ⊎ IsGuardedOutputPrefix x.document x.tenant written
+WroteTenant TooLarge x written = ⊥

@@ -25,12 +25,12 @@ returns-in-None-clause-line c =
     let name = rule_text UnknownName in
     let r : StatementRequest = record { dialect = q.dialect; statement = unmade name } in
     let none : None ≡ statement_in schema q.dialect q.query =
-    ap (option_map statement_tree) (sym c.in-None.is) ∙ c.in_ok-statement_to_restrict.ensures
+    ap (option_map statement_tree) (sym c.in-None.is) ∙ c.in_ok-statement_to_limit.ensures
     ∙ ap (λ (w : Declarations). statement_in w q.dialect q.query) c.schema.ensures in
     IfOk-weaker c.refusal_line.result _ _ (λ text is. (
       r,
       record { dialect = refl; statement = subst (λ o. IsRestricted (tenant_tree c.args.tenant.now) o (unmade name)) none refl },
-      unmade-line schema r c.args.number (seen_at c.args.seen.now) (λ l. string_bytes text ≡ line_text l) name refl
+      unmade-line schema c.schema_stands.ensures r c.args.number (seen_at c.args.seen.now) (λ l. string_bytes text ≡ line_text l) name refl
           (is ∙ ap (λ q. compact_text (refused q) ++ 10 ∷ []) c.name.ensures),
     )) c.refusal_line.ensures
 
@@ -39,11 +39,11 @@ returns-in-Some-clause-line c =
     let schema = c.args.cache.now.schema in
     let q = request_tree c.args.request.now in
     let some : Some (statement_tree c.in-Some.statement) ≡ statement_in schema q.dialect q.query =
-    ap (option_map statement_tree) (sym c.in-Some.is) ∙ c.in_ok-statement_to_restrict.ensures
+    ap (option_map statement_tree) (sym c.in-Some.is) ∙ c.in_ok-statement_to_limit.ensures
     ∙ ap (λ (w : Declarations). statement_in w q.dialect q.query) c.schema.ensures in
-    IfOk-weaker c.restricted_line.result _ _ (λ text told.
+    IfOk-weaker c.limited_line.result _ _ (λ text told.
     let (m, is, has) = told in (
       record { dialect = q.dialect; statement = m },
       record { dialect = refl; statement = subst (λ o. IsRestricted (tenant_tree c.args.tenant.now) o m) some is },
       has,
-    )) c.restricted_line.ensures.line
+    )) c.limited_line.ensures.line

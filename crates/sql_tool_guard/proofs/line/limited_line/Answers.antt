@@ -10,13 +10,13 @@ use Rattle.sql_tool_build.specs.Objects.{refused}
 use Rattle.sql_tool_build.specs.Output.{StatementRequest, line_text}
 use Rattle.sql_tool_build.specs.inside.Keys.{seen_at}
 use Rattle.sql_tool_guard.specs.Output.{refusal_text}
-use Rattle.sql_tool_guard.proofs.line.restricted_line.Goals as goal
+use Rattle.sql_tool_guard.proofs.line.limited_line.Goals as goal
 
 pub returns-in-Ok-clause-line : goal.returns-in-Ok-clause-line
 returns-in-Ok-clause-line c =
     IfOk-weaker c.statement_line.result _ _ (λ text has. (
-      made (statement_tree c.in-Ok.restricted),
-      inr (c.in-Ok.ensures.kind, ap made c.in-Ok.ensures.restricted),
+      made (statement_tree c.in-Ok.limited),
+      inr (c.in-Ok.ensures.kind, ap made c.in-Ok.ensures.limited),
       has,
     )) c.statement_line.ensures.line
 
@@ -30,6 +30,6 @@ returns-in-Err-clause-line c =
     IfOk-weaker c.refusal_line.result _ _ (λ text is. (
       unmade name,
       inl (e, known, c.in-Err.ensures.refused, refl),
-      unmade-line c.args.cache.now.schema r c.args.number (seen_at c.args.seen.now) (λ l. string_bytes text ≡ line_text l)
+      unmade-line c.args.cache.now.schema c.schema_stands.ensures r c.args.number (seen_at c.args.seen.now) (λ l. string_bytes text ≡ line_text l)
           name refl (is ∙ ap (λ q. compact_text (refused q) ++ 10 ∷ []) c.refusal_name.ensures),
     )) c.refusal_line.ensures
