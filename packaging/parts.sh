@@ -83,8 +83,21 @@ install_library() {
     description "$3" "$2" >"$1/$2/pkgconfig/hardieflax.pc"
 }
 
-# install_pages FOLDER: the pages, the examples that need no checkout, the licences
+# make_site: the pages as a site in $work/site; says so and makes none where Python's markdown is missing
+make_site() {
+    for it in python3 /usr/bin/python3; do
+        "$it" -c 'import markdown' 2>/dev/null || continue
+        "$it" "$top/packaging/site.py" "$work/site"
+        return
+    done
+    say "the site is left out: Python's markdown is missing (Debian: python3-markdown)"
+}
+
+# install_pages FOLDER: the pages, also as a site, the examples that need no checkout, the licences
 install_pages() {
+    if [ -d "$work/site" ]; then
+        for it in "$work"/site/*; do place "$it" "$1/html/${it##*/}"; done
+    fi
     for it in README.md CHANGELOG.md LICENSE-MIT LICENSE-APACHE; do place "$top/$it" "$1/$it"; done
     for it in "$top"/docs/*; do place "$it" "$1/docs/${it##*/}"; done
     for it in "$top"/examples/*.json "$top"/examples/*.jsonl "$top"/examples/*.sql; do place "$it" "$1/examples/${it##*/}"; done

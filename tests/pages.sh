@@ -88,7 +88,7 @@ declared = {"tables": [
     {"name": "u", "primary_key": ["k"], "columns": [{"name": "k", "sql_name": "K"}, {"name": "l"}]},
     {"name": "v", "columns": [{"name": "id"}]}]}
 written = grants.grants(declared, [{"tables": ["t", "u"], "columns": [["t", "x"]]}, {"tables": ["t"], "columns": []}], 'r"o')
-expect(top / "docs/AUDIT.md", f"grants {written}", written == [
+expect(top / "docs/TEXTS.md", f"grants {written}", written == [
     'GRANT USAGE ON SCHEMA "s d" TO "r""o";', 'GRANT SELECT ("y""; --") ON "s d"."a""b.c" TO "r""o";', 'GRANT SELECT ("K") ON "u" TO "r""o";'])
 
 # ---- rules: each query that breaks one is refused by its name, and each that mends it is not
@@ -143,13 +143,18 @@ names = [("u", "U"), ("a" * 63 + "b", "a" * 63 + "c")]
 audited = lines_of(["audit", "Pg"], {"schema": {"tables": [table("t", {"id": "Integer"}), table("p", {"id": "Integer"})]}, "texts": [
     *(IN_A_SUBSELECT % (one, one, other, other, one, other) for one, other in names), 'SELECT "t"."ID" FROM "t"', 'SELECT ""."id" FROM "t" AS ""',
     '(SELECT "t"."id" FROM "t") UNION (SELECT "p"."id" FROM "p") ORDER BY 7', 'SELECT COUNT(*) FROM "t"']})
-expect(top / "docs/AUDIT.md", f"audit writes {audited}", [line.get("sources") for line in audited] == [[0, 1, 0, 1]] * 2 + [None, [0], [0, 1], []]
+expect(top / "docs/TEXTS.md", f"audit writes {audited}", [line.get("sources") for line in audited] == [[0, 1, 0, 1]] * 2 + [None, [0], [0, 1], []]
        and audited[2] == {"refused": "NotInScope"} and audited[5]["tables"] == ["t"])
+
+# ---- who each page is for stands on its first line
+
+for page in sorted((top / "docs").glob("*.md")):
+    expect(page, "its first line does not say who it is for", re.match(r"# [^\n]+\n\nFor (those|people) ", page.read_text()) is not None)
 
 # ---- numbers
 
 edits = len(list(top.glob("crates/*/must-fail/*.edit")))
-for page, pattern in ((top / "CONTRIBUTING.md", r"so there are (\d+), those"), (top / "docs/DECISIONS.md", r"There are\s+(\d+)\. The wrong bodies")):
+for page, pattern in ((top / "CONTRIBUTING.md", r"so there are (\d+), those"), (top / "docs/DECISIONS.md", r"There are\s+(\d+)\. A crate")):
     expect(page, f"there are {edits} must-fail edits", [int(each) for each in re.findall(pattern, page.read_text())] == [edits])
 faults = list(trust.faults())
 for fault in faults or [""]:

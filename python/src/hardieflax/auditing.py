@@ -1,7 +1,7 @@
 """SQL that people wrote: which tables and columns it uses, and whether it has a reading at all.
 
 Files are split into statements, each with the line where it begins. Where sqlglot is installed, SQL as people write it is first written in
-the words of the grammar (`people.py`); else it has to be written so (docs/READING.md).
+the words of the grammar (`people.py`); else it has to be written so (docs/TEXTS.md).
 """
 from __future__ import annotations
 
