@@ -3,6 +3,7 @@
 Each direction is a function of a count, and gives the schema and the requests of a document.
 """
 import json
+import math
 import sys
 
 KINDS = ["Integer", "Text", "BigInt", "Bool"]
@@ -66,6 +67,55 @@ def shapes(count):
 def repeated(count):
     """Requests of which ten in a row have one shape."""
     return {"tables": [wide("wide", 10)]}, [selected_by_digits(number // 10) for number in range(count)]
+
+
+def selecting(width, selected, number):
+    """A request of a shape of its own over a table of that width: it selects so many columns, the last three by the number's digits."""
+    digits = (number % width, number // width % width, number // width // width % width)
+    chosen = [*range(max(0, selected - len(digits))), *digits]
+    selection = [{"col": ["wide", "id" if place == 0 else f"c{place - 1}"]} for place in chosen]
+    return {"dialect": "Pg", "query": {"from": {"table": "wide"}, "calls": [["select", selection]]}}
+
+
+def wide_requests(width, selected, count):
+    """Requests of as many shapes over one table."""
+    return {"tables": [wide("wide", width)]}, [selecting(width, selected, number) for number in range(count)]
+
+
+def widths(count):
+    """Columns of a table, of which 500 requests of as many shapes select 40."""
+    return wide_requests(max(40, count), 40, 500)
+
+
+def selections(count):
+    """Columns that 100 requests of as many shapes select, of a widest table."""
+    return wide_requests(MAX_COLUMNS, count, 100)
+
+
+def wide_shapes(count):
+    """Requests of as many shapes that select 40 of 200 columns."""
+    return wide_requests(200, 40, count)
+
+
+def widest_shapes(count):
+    """Requests of as many shapes that select 60 columns of a widest table."""
+    return wide_requests(MAX_COLUMNS, 60, count)
+
+
+def widths_and_shapes(count):
+    """As many columns as requests, each of a shape of its own that selects 10 of them."""
+    return wide_requests(max(10, count), 10, count)
+
+
+def widths_and_selections(count):
+    """Columns of a table, all of which are selected by 20 requests of as many shapes."""
+    return wide_requests(count, count, 20)
+
+
+def selections_and_shapes(count):
+    """So many selected columns in all: as many requests as each selects, of a widest table."""
+    side = min(MAX_COLUMNS, math.isqrt(count))
+    return wide_requests(MAX_COLUMNS, side, side)
 
 
 def limits(count):
@@ -227,6 +277,13 @@ DIRECTIONS = {
     "requests": (requests, None),
     "shapes": (shapes, None),
     "repeated": (repeated, None),
+    "widths": (widths, None),
+    "selections": (selections, MAX_COLUMNS),
+    "wide_shapes": (wide_shapes, None),
+    "widest_shapes": (widest_shapes, None),
+    "widths_and_shapes": (widths_and_shapes, None),
+    "widths_and_selections": (widths_and_selections, None),
+    "selections_and_shapes": (selections_and_shapes, None),
     "limits": (limits, None),
     "filters": (filters, MAX_DEPTH - 4),
     "or_filters": (or_filters, MAX_DEPTH - 4),

@@ -1,7 +1,7 @@
 #!/usr/bin/env python3
 """The grants that a log of texts needs on PostgreSQL, and no more: `python3 examples/grants.py ROLE < DOCUMENT`.
 
-The document is one of `sql_tool audit` (docs/AUDIT.md). Each column that a text uses is granted by its SQL name, and a table of which no
+The document is one of `sql_tool audit` (docs/TEXTS.md). Each column that a text uses is granted by its SQL name, and a table of which no
 column is used by its key, since PostgreSQL asks a privilege on one column of a table whose rows are only counted. A text without a report
 may read anything: it is named on standard error, and the status is 1. A lock (FOR UPDATE and so on) asks UPDATE besides, which no report
 tells.

@@ -114,7 +114,7 @@ if [ -n "$c" ]; then
     if check 'the C example compiles' "$c" "$@" -o "$work/main" "$top/examples/c/main.c" "$made/libhardieflax.a"; then
         for document in "$top"/examples/*.json; do
             case $document in
-            */audit.json) continue ;;
+            */audit.json | */tenant.json) continue ;;
             */guard.json) word=guard ;;
             *) word=build ;;
             esac

@@ -49,13 +49,16 @@ INNER: dict[str, set[str]] = {
     "sql_flat_law": {"*"},
     # parts of `compile`, `restrict` and of keys
     "sql_flat_text": {"Fused", "write_flat"},
-    "sql_rules_check": {"Judgement", "any_lacks_on", "broken_but_the_last", "is_condition_of", "judge"},
+    "sql_rules_check": {"Judgement", "any_lacks_on", "any_unknown_name", "broken_but_the_last", "is_condition_of", "judge"},
     "sql_key": {"erased_kind"},
+    "sql_key_names": {"*"},
+    "sql_rows": {"NamedRequest"},
     "sql_types": {"*"},
     # parts of `run`
     "sql_tool_audit": {"*"},
     "sql_tool_document": {"*"},
     "sql_tool_generate": {"*"},
+    "sql_guard": {"count_predicates"},
     "sql_tool_guard": {"*"},
     "sql_tool_build": {"*"},
     "sql_tool_read": {"*"},

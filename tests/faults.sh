@@ -66,6 +66,7 @@ each text 6 "$top/examples/spaces.Pg.sql" "$program" read Pg
 each generate 6 /dev/null "$program" generate 24
 each audit 6 "$top/examples/audit.json" "$program" audit Pg
 each guard 6 "$top/examples/guard.json" "$program" guard
+each tenant 6 "$top/examples/tenant.json" "$program" tenant
 for tests in "$@"; do
     each "${tests##*/}" 101 /dev/null "$tests" every_call::every_call_once
     case $tests in

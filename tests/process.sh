@@ -37,6 +37,7 @@ for document in "$top"/examples/*.json; do
     case $document in
     */audit.json) run audit Pg <"$document" ;;
     */guard.json) run guard <"$document" ;;
+    */tenant.json) run tenant <"$document" ;;
     *) run build <"$document" ;;
     esac
     check "${document##*/}" writes "${document%.json}.jsonl"
@@ -106,6 +107,11 @@ check 'a guard without one' is_empty 3 BadDocument
 sed 's/"guard":{"table":"posts"/"guard":{"table":"nobody"/' "$top/examples/guard.json" >"$work/nobody"
 run guard <"$work/nobody"
 check 'a guard of no table' is_empty 3 BadDocument
+run tenant <"$top/examples/filter.json"
+check 'policies that are not there' is_empty 3 BadDocument
+sed 's/{"table":"countries"}/{"table":"nobody"}/' "$top/examples/tenant.json" >"$work/nobody"
+run tenant <"$work/nobody"
+check 'a policy of no table' is_empty 3 BadDocument
 # One table and one filter, and the same without the last byte.
 cat >"$work/first" <<'TXT'
 {"schema":{"tables":[{"name":"foo","columns":[{"name":"id","type":"Integer"},{"name":"mytype","sql_name":"type","type":"Integer"},{"name":"hey","sql_name":"bleh","type":"Integer"}]}]},"requests":[{"dialect":"Pg","query":{"from":{"table":"foo"},"calls":[["filter",{"eq":[{"col":["foo","mytype"]},{"bind":["Integer",1]}]}]]}}]}
@@ -255,17 +261,21 @@ check 'flags' within
 predicate=$(awk 'BEGIN { for (i = 0; i < 110; i++) printf "{\"not\":"; printf "{\"eq\":[{\"col\":[\"foo\",\"id\"]},{\"bind\":[\"Integer\",1]}]}"
     for (i = 0; i < 110; i++) printf "}" }')
 guarded() { sed "s/}\$/,\"guard\":{\"table\":\"foo\",\"predicate\":$predicate}}/"; }
-while read -r most call; do
-    deep "$((most + 1))" "$call" | guarded >"$work/deep"
-    run guard <"$work/deep"
-    check "one call $call too many for a guard" beyond
-    deep "$most" "$call" | guarded >"$work/deep"
-    small guard <"$work/deep"
-    check "a guard of $most calls $call" within
+policed() { sed "s/}\$/,\"tenant\":[{\"table\":\"foo\",\"predicate\":$predicate}]}/"; }
+while read -r word by most call; do
+    deep "$((most + 1))" "$call" | "$by" >"$work/deep"
+    run "$word" <"$work/deep"
+    check "one call $call too many for a $word" beyond
+    deep "$most" "$call" | "$by" >"$work/deep"
+    small "$word" <"$work/deep"
+    check "a $word of $most calls $call" within
 done <<TXT
-2496 ["filter",$condition]
-1248 ["union",{"from":{"table":"foo"}}]
-1248 $join
+guard guarded 2496 ["filter",$condition]
+guard guarded 1248 ["union",{"from":{"table":"foo"}}]
+guard guarded 1248 $join
+tenant policed 2496 ["filter",$condition]
+tenant policed 832 ["union",{"from":{"table":"foo"}}]
+tenant policed 1248 $join
 TXT
 # tables COUNT: a source of so many aliases, joined in pairs: it nests little, and a guard puts a condition beside WHERE for each
 tables() {
@@ -282,7 +292,10 @@ tables() {
 tables 32768 | guarded >"$work/deep"
 run guard <"$work/deep"
 check 'a guard of 32768 tables' beyond
-for words in '' 'Build' 'build x' 'guard x' 'generate' 'generate 007' 'generate +7' 'generate 100001' 'read' 'read pg' 'audit' 'audit pg'; do
+tables 32768 | policed >"$work/deep"
+run tenant <"$work/deep"
+check 'a tenant of 32768 tables' beyond
+for words in '' 'Build' 'build x' 'guard x' 'tenant x' 'generate' 'generate 007' 'generate +7' 'generate 100001' 'read' 'read pg' 'audit' 'audit pg'; do
     # shellcheck disable=SC2086
     run $words </dev/null
     check "words '$words'" is_empty 2 Usage
@@ -305,7 +318,7 @@ for words in '--help' '-h' 'help' '--version' '--try' '--no-build'; do
     got=$?
     check "the program on $words" is_empty 2 Usage
 done
-for words in 'build' 'guard' 'read Pg' 'read Mysql' 'read Sqlite' 'read Bracket' 'read PG' 'audit Pg' 'audit Bracket' 'audit' 'generate 0' \
+for words in 'build' 'guard' 'tenant' 'read Pg' 'read Mysql' 'read Sqlite' 'read Bracket' 'read PG' 'audit Pg' 'audit Bracket' 'audit' 'generate 0' \
     'generate 9' 'generate 10' 'generate 99' 'generate 00' 'generate 0x1' 'generate 1.0' 'generate -0' 'generate 100001' 'biuld'; do
     # shellcheck disable=SC2086
     check "the script and the program on '$words'" alike $words

@@ -4,8 +4,8 @@
 #   tests/schema.sh [crates/sql_tool/out/sql_tool]
 # Given the program, it also checks that the program takes the small documents below, and refuses what is none.
 # With ROWS=DIR in the environment it also checks the files NAME.in.json of that folder. NAME.args has the words of the command, by
-# default `build`, NAME.status its status, by default 0, and NAME.out its output. A file of another command than `build`, `guard` and
-# `audit D` is passed over.
+# default `build`, NAME.status its status, by default 0, and NAME.out its output. A file of another command than `build`, `guard`, `tenant`
+# and `audit D` is passed over.
 command -v python3 >/dev/null || { echo "skipped: no python3"; exit 0; }
 python3 -c 'from jsonschema import Draft202012Validator' 2>/dev/null || { echo "skipped: no jsonschema of draft 2020-12"; exit 0; }
 top=$(cd "$(dirname "$0")/.." && pwd) || exit 1
@@ -26,8 +26,9 @@ def schema_of(name):
 
 is_document, is_answer = schema_of("document.schema.json"), schema_of("answer.schema.json")
 is_reading = schema_of("reading.schema.json")
-# what `guard` and `audit` read and write
+# what `guard`, `tenant` and `audit` read and write
 is_guarded, is_guarded_answer = (each.evolve(schema=each.schema["$defs"]["GUARDED"]) for each in (is_document, is_answer))
+is_policed, is_policed_answer = (each.evolve(schema=each.schema["$defs"]["POLICED"]) for each in (is_document, is_answer))
 is_audited, is_audited_answer = (each.evolve(schema=each.schema["$defs"]["AUDITED"]) for each in (is_document, is_answer))
 
 
@@ -373,6 +374,30 @@ NO_GUARDS = [
 ]
 
 
+def policed_by(text):
+    return f'{{"schema":{{"tables":{TABLES}}},"requests":[{{"dialect":"Pg","query":{T}}}],"tenant":{text}}}'
+
+
+POLICIES = [
+    ("a policy", policed_by(f'[{{"table":"t","predicate":{{"eq":[{ID},{ONE}]}}}}]')),
+    ("a policy without a predicate", policed_by('[{"table":"t"}]')),
+    ("two policies of a table", policed_by(f'[{{"table":"t"}},{{"table":"t","predicate":{{"eq":[{ID},{ONE}]}}}}]')),
+    ("a policy by no condition", policed_by(f'[{{"table":"t","predicate":{ONE}}}]')),
+    ("a policy with a member more", policed_by('[{"table":"t","x":1}]')),
+    ("no policy", policed_by("[]")),
+]
+NO_POLICIES = [
+    ("a document without policies", request(f'{{"dialect":"Pg","query":{T}}}')),
+    ("policies that are null", policed_by("null")),
+    ("policies that are one policy", policed_by('{"table":"t"}')),
+    ("a policy that is a name", policed_by('["t"]')),
+    ("a policy without a table", policed_by(f'[{{"predicate":{ID}}}]')),
+    ("a policy whose table is a number", policed_by('[{"table":1}]')),
+    ("a policy whose predicate is null", policed_by('[{"table":"t","predicate":null}]')),
+    ("policies of no document", '{"requests":[],"tenant":[]}'),
+]
+
+
 
 def audited(texts):
     return f'{{"schema":{{"tables":{TABLES}}},"texts":{texts}}}'
@@ -423,6 +448,10 @@ for name, text in GUARDS:
     expect(name, valid(is_guarded, text), True)
 for name, text in NO_GUARDS:
     expect(name, valid(is_guarded, text), False)
+for name, text in POLICIES:
+    expect(name, valid(is_policed, text), True)
+for name, text in NO_POLICIES:
+    expect(name, valid(is_policed, text), False)
 for name, text in [*AUDITS, *AUDITS_NOT_FOR_A_SCHEMA]:
     expect(name, valid(is_audited, text), True)
 for name, text in NO_AUDITS:
@@ -434,10 +463,10 @@ if program:
             expect(f"audit on {name}", run.returncode, status)
             for line in run.stdout.decode().split("\n")[:-1]:
                 expect(f"the line {line} of audit on {name}", valid(is_audited_answer, line), True)
-    for status, table in ((0, GUARDS), (3, NO_GUARDS)):
+    for word, status, table in (("guard", 0, GUARDS), ("guard", 3, NO_GUARDS), ("tenant", 0, POLICIES), ("tenant", 3, NO_POLICIES)):
         for name, text in table:
-            run = subprocess.run([program, "guard"], input=text.encode(), stdout=subprocess.DEVNULL, stderr=subprocess.DEVNULL)
-            expect(f"guard on {name}", run.returncode, status)
+            run = subprocess.run([program, word], input=text.encode(), stdout=subprocess.DEVNULL, stderr=subprocess.DEVNULL)
+            expect(f"{word} on {name}", run.returncode, status)
     for status, table in ((0, DOCUMENTS), (3, NO_DOCUMENTS), (3, NOT_FOR_A_SCHEMA)):
         for name, text in table:
             run = subprocess.run([program, "build"], input=text.encode(), stdout=subprocess.DEVNULL, stderr=subprocess.DEVNULL)
@@ -511,12 +540,13 @@ def expect_answers(path, schema=is_answer):
         expect(f"{path.name}, line {number}", valid(schema, line), True)
 
 
-documents = [path for path in sorted((top / "examples").glob("*.json")) if path.name not in ("audit.json", "guard.json")]
-for name, form, line_form in (("guard", is_guarded, is_guarded_answer), ("audit", is_audited, is_audited_answer)):
+documents = [path for path in sorted((top / "examples").glob("*.json")) if path.name not in ("audit.json", "guard.json", "tenant.json")]
+for name, form, line_form in (("guard", is_guarded, is_guarded_answer), ("tenant", is_policed, is_policed_answer),
+                              ("audit", is_audited, is_audited_answer)):
     example = top / "examples" / f"{name}.json"
     expect(example.name, valid(form, example.read_bytes()), True)
     expect_answers(example.with_suffix(".jsonl"), line_form)
-    expect(f"{example.name} of another command", valid(is_audited if name == "guard" else is_guarded, example.read_bytes()), False)
+    expect(f"{example.name} of another command", valid(is_guarded if name != "guard" else is_policed, example.read_bytes()), False)
 for path in [*documents, top / "crates/sql_tool/stdin"]:
     expect(path.name, valid(is_document, path.read_text()), True)
 # an example's lines are answers to its document, or of the text that is read
@@ -537,7 +567,7 @@ def beside(path, ending, default):
 
 
 # Of each command what it reads and writes.
-FORMS = {"build": (is_document, is_answer), "guard": (is_guarded, is_guarded_answer),
+FORMS = {"build": (is_document, is_answer), "guard": (is_guarded, is_guarded_answer), "tenant": (is_policed, is_policed_answer),
          **{f"audit {dialect}": (is_audited, is_audited_answer) for dialect in DIALECTS}}
 
 

@@ -12,6 +12,7 @@ from typing import Any, Callable
 
 import documents
 import servers
+import tenants
 from mariadb import Mariadb
 from postgres import Postgres
 from program import Program
@@ -22,7 +23,7 @@ from spoilings import SPOILINGS, SpoiltProgram
 from sqlite import Sqlite
 
 DIALECTS: dict[str, Callable[[], Server]] = {"Pg": Postgres, "Mysql": Mariadb, "Sqlite": Sqlite}
-GUARD_EVERY = 4  # in a campaign every so many documents have a guard
+GUARD_EVERY = 4  # in a campaign every so many documents have a guard, and as many have policies
 END_PATIENCE = 150
 
 
@@ -37,6 +38,7 @@ class Options:
     count: int | None
     minutes: float | None
     is_guarded: bool
+    has_tenant: bool
     spoiling: str | None
     jobs: int
 
@@ -44,7 +46,7 @@ class Options:
     def of(cls, given: argparse.Namespace) -> Options:
         shown = 0 if given.spoil else given.show
         return cls(given.program, given.dialect or list(DIALECTS), given.rows, shown, given.seed, given.random, given.minutes, given.guard,
-                   given.spoil, given.jobs)
+                   given.tenant, given.spoil, given.jobs)
 
 
 def start(wanted: list[str], report: Report) -> dict[str, Server]:
@@ -65,6 +67,10 @@ def start(wanted: list[str], report: Report) -> dict[str, Server]:
     return started
 
 
+def tenant_document(seed: int) -> Document:
+    return Document(f"document of --seed {seed} --tenant", tenants.document(random.Random(seed)), seed)
+
+
 def random_document(seed: int, is_guarded: bool) -> Document:
     content = documents.document(random.Random(seed), is_guarded=is_guarded)
     return Document(f"document of --seed {seed}" + " --guard" * is_guarded, content, seed)
@@ -76,8 +82,11 @@ def run_random(runner: Runner, options: Options, worker: int) -> None:
     most = None if options.count is None else -(-options.count // options.jobs)
     done, seed, documents_run = 0, options.seed + worker, 0
     while (most is None or done < most) and (until is None or time.monotonic() < until):
-        is_guarded = options.is_guarded or (options.minutes is not None and (seed // options.jobs) % GUARD_EVERY == 0)
-        done += runner.run(random_document(seed, is_guarded))
+        turn = (seed // options.jobs) % GUARD_EVERY if options.minutes is not None else None
+        if options.has_tenant or (turn == 1 and not options.is_guarded):
+            done += runner.run(tenant_document(seed))
+        else:
+            done += runner.run(random_document(seed, options.is_guarded or turn == 0))
         seed += options.jobs
         documents_run += 1
     print(f"worker {worker}: {done} lines accepted in {documents_run} documents, up to seed {seed - options.jobs}", flush=True)

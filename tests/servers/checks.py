@@ -7,11 +7,11 @@ from typing import Any, Iterator, Sequence
 
 import values
 from lines import Fault, Line
-from meaning import Meaning, NoMeaning, TooManyAnswers
+from meaning import NULL_PLACES, Meaning, NoMeaning, TooManyAnswers
 from readings import (OfStatement, as_servers_read, by_position, by_position_after, distinct_after_page, with_lost_offsets,
                       with_open_combinations, without_negative_offsets)
 from servers import Server
-from statements import Database, Row, Schema, Statement, expression, is_determined, tables_of
+from statements import Database, Row, Schema, Statement, expression, is_determined, is_grouped, tables_of
 
 # What servers are known to answer otherwise: by the dialect, "" being each.
 DIFFERENCES: dict[str, list[tuple[str, OfStatement]]] = {
@@ -22,14 +22,18 @@ DIFFERENCES: dict[str, list[tuple[str, OfStatement]]] = {
               ("DISTINCT over values being a limit after the offset", distinct_after_page)],
     "Sqlite": [("DISTINCT with an offset in a subselect", with_lost_offsets)],
 }
-NULLS = ", NULL being the least or the greatest value"
+Policy = dict[str, Any]  # a table of the schema, and a predicate on its rows or none
 
 
-def kept_rows(schema: Schema, database: Database, guard: dict[str, Any]) -> list[Row]:
-    """The rows of the guarded table for which the predicate is true."""
-    meaning = Meaning(schema, database)
-    predicate, origin = expression(schema, guard["predicate"]), (None, guard["table"])
-    return [row for row in database[guard["table"]] if meaning.values(predicate, {origin: row}) == (True,)]
+def kept_rows(schema: Schema, database: Database, policies: Sequence[Policy]) -> Database:
+    """The database in which each table has the rows alone for which all its predicates are true."""
+    kept = dict(database)
+    for policy in policies:
+        if "predicate" in policy:
+            meaning = Meaning(schema, kept)
+            predicate, origin = expression(schema, policy["predicate"]), (None, policy["table"])
+            kept[policy["table"]] = [row for row in kept[policy["table"]] if meaning.values(predicate, {origin: row}) == (True,)]
+    return kept
 
 
 class Checker:
@@ -90,6 +94,8 @@ class Checker:
                 if wrong is not None:
                     raise Fault(wrong)
         self.count("executed, with rows" if rows else "executed, without rows")
+        if is_grouped(line.statement):
+            self.count("executed with groups, with rows" if rows else "executed with groups, without rows")
         seen = [tuple(values.seen(told, value) for told, value in zip(line.columns, row)) for row in rows]
         self.check_rows(line, seen)
         return seen
@@ -110,27 +116,27 @@ class Checker:
 
     def check_rows(self, line: Line, rows: list[Row]) -> None:
         """The rows are among the answers that docs/MEANING.md allows."""
+        places = NULL_PLACES[self.server.dialect]
         try:
-            for what, nulls_by_size, change in self.readings():
-                if self.meaning.allows(change(line.statement), rows, nulls_by_size):
+            for what, change in self.readings():
+                if self.meaning.is_answer(change(line.statement), rows, places):
                     self.count("rows allowed" + what)
                     return
-            raise Fault(f"rows {rows}, an answer is {self.meaning.an_answer(line.statement)}")
+            raise Fault(f"rows {rows}, an answer is {self.meaning.an_answer(line.statement, places)}")
         except NoMeaning:
             self.count("rows without a meaning (COUNT in ON)")
         except TooManyAnswers:
             self.count("rows with too many answers to follow")
 
-    def readings(self) -> Iterator[tuple[str, bool, OfStatement]]:
+    def readings(self) -> Iterator[tuple[str, OfStatement]]:
         """The statement itself, and then what is known to differ from it (docs/SERVERS.md): each alone, and all at once."""
         known = DIFFERENCES[""] + DIFFERENCES.get(self.server.dialect, [])
         if self.server.dialect == "Mysql" and self.first is not None and self.asked is not self.first:
             known = known + [("an item of an order being lost since the first execution", by_position_after(self.first.statement))]
         changes: list[tuple[str, list[OfStatement]]] = [
             ("", []), *((f", {what}", [change]) for what, change in known), (", several of these", [change for _, change in known])]
-        for nulls_by_size in (False, True):
-            for what, chosen in changes:
-                yield what + nulls_by_size * NULLS, nulls_by_size, functools.partial(changed, chosen)
+        for what, chosen in changes:
+            yield what, functools.partial(changed, chosen)
 
 
 def changed(changes: Sequence[OfStatement], statement: Statement) -> Statement:

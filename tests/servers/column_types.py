@@ -1,4 +1,4 @@
-"""The types of a statement's columns, by the schema and the statement alone (docs/DEFINITIONS.md, "Rules"; docs/RULES.md, TypeMismatch)."""
+"""The types of a statement's columns, by the schema and the statement alone (docs/RULES.md, TypeMismatch)."""
 from __future__ import annotations
 
 from statements import Combination, Expr, Schema, Statement

@@ -254,8 +254,8 @@ class Writer:
             calls.append([self.chance.choice(("filter", "filter", "or_filter")), self.truth(where, self.happens(0.4), depth)])
         if is_single and not joins and self.happens(0.1):
             calls.append(["find", self.key_values(leaves[0])])
-        if wanted is None and self.happens(0.15):
-            calls += self.grouped(leaves, depth)
+        if self.happens(0.2 if wanted is None else 0.1):
+            calls += self.grouped(leaves, depth) if wanted is None else self.grouped_as(leaves, wanted)
         else:
             calls += self.ungrouped(leaves, depth, wanted, boxed)
         calls += self.page()
@@ -296,7 +296,7 @@ class Writer:
             key = [each for each in key if "bind" not in each] or [self.columns_of(leaves, *leaves[0].columns()[0][1:], False)[0]]
             key = [{"nullable": each} if leaves[0].is_padded and "nullable" not in each else each for each in key]
             calls.append(["distinct_on", key])
-            order = [self.item(each) for each in key] + order if self.happens(0.6) else []
+            order = [self.item(each) for each in key] + order if self.happens(0.8) else []
         elif self.dialect in ("Pg", "Mysql") and not boxed and self.happens(0.08 if wanted is None else 0.01):
             calls += self.lock()
         if order:
@@ -336,22 +336,47 @@ class Writer:
 
     def grouped(self, leaves: list[Leaf], depth: int) -> list[Json]:
         """Groups, or one group of all rows, and what is counted."""
-        counts: list[Json] = ["count_star", {"count": self.expr(leaves, *self.any_type(), 0)}]
+        counts = self.counts(leaves)
         columns = [each[0] if not leaf.is_padded else {"nullable": each[0]} for leaf in leaves for each in leaf.columns()]
-        if self.happens(0.3):
+        if self.happens(0.2):
             return [["select", self.chance.choice((counts[:1], counts, counts[1]))]]
         group = self.chance.sample(columns, min(len(columns), self.chance.randint(1, 2)))
-        shown = self.chance.sample(group + counts, self.chance.randint(1, len(group)))
+        if self.happens(0.5):
+            group = self.repeated(leaves)[:1] or group
+        shown = self.chance.sample(group + counts, self.chance.randint(1, len(group) + len(counts)))
         if self.happens(0.15):
             group = group + [self.expr(leaves, *self.any_type(leaves), min(depth, 1), selects=True)]
-        calls: list[Json] = [["group_by", group], ["select", shown]]
+        return [["group_by", group], ["select", shown], *self.having(leaves, counts), *self.ordered_groups(group[:1], group + counts, shown)]
+
+    def grouped_as(self, leaves: list[Leaf], wanted: list[tuple[str, bool]]) -> list[Json]:
+        """Groups that show these types: a count, or what the rows are grouped by."""
+        counts = self.counts(leaves)
+        shown = [self.chance.choice(counts) if each == ("BigInt", False) else self.expr(leaves, *each, 0, selects=True) for each in wanted]
+        group = [each for each in shown if each not in counts and "bind" not in each]
+        grouped = [["group_by", group]] if group else []
+        return [*grouped, ["select", shown], *(self.having(leaves, counts) if group else [])]
+
+    def counts(self, leaves: list[Leaf]) -> list[Json]:
+        return ["count_star", {"count": self.expr(leaves, *self.any_type(leaves), 0)}]
+
+    def having(self, leaves: list[Leaf], counts: list[Json]) -> list[Json]:
         if self.happens(0.05):
-            calls.append(["having", self.truth(leaves, self.happens(0.3), 0)])
-        elif self.happens(0.3):
-            calls.append(["having", {self.chance.choice(COMPARISONS): [self.chance.choice(counts), self.bind("BigInt", False)]}])
+            return [["having", self.truth(leaves, self.happens(0.3), 0)]]
         if self.happens(0.3):
-            calls.append(["order", [self.item(self.chance.choice(shown))]])
-        return calls
+            return [["having", {self.chance.choice(COMPARISONS): [self.chance.choice(counts), self.bind("BigInt", False)]}]]
+        return []
+
+    def ordered_groups(self, key: list[Json], items: list[Json], shown: list[Json]) -> list[Json]:
+        """How groups are distinct and ordered, by one to three items."""
+        calls: list[Json] = []
+        order = self.chance.sample(items, self.chance.randint(1, min(3, len(items)))) if self.happens(0.5) else []
+        if self.happens(0.1):
+            calls.append(["distinct"])
+            order = [each for each in order if each in shown]
+        elif self.dialect == "Pg" and self.happens(0.2):
+            calls.append(["distinct_on", key])
+            order = key + order if order else []
+        return calls + ([["order", [self.item(each) for each in order]]] if order else [])
 
     def page(self) -> list[Json]:
         calls: list[Json] = []

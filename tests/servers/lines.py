@@ -37,10 +37,10 @@ Lines = Sequence["Line | dict[str, Any]"]  # a refusal is as it was answered
 class Asked:
     """The lines of a document's requests, of the same ones with other values, and of those with lists of other lengths."""
 
-    def __init__(self, schema: Schema, guard: dict[str, Any] | None, groups: Sequence[Sequence[dict[str, Any]]],
+    def __init__(self, schema: Schema, policies: Sequence[dict[str, Any]], groups: Sequence[Sequence[dict[str, Any]]],
                  answers: Sequence[dict[str, Any]]) -> None:
         self.schema = schema
-        self.guard = guard
+        self.policies = policies
         found: list[Line | dict[str, Any]] = [Line(schema, request, answer) if "sql" in answer else answer
                  for request, answer in zip([each for group in groups for each in group], answers)]
         count = len(groups[0])
@@ -71,8 +71,9 @@ class Asked:
         return has_list(line.statement) or self.guard_has_list(line)
 
     def guard_has_list(self, line: Line) -> bool:
-        """Whether the guard puts a list of values into the line."""
-        return self.guard is not None and holds_member(self.guard["predicate"], "list") and self.guard["table"] in tables_of(line.statement)
+        """Whether a policy puts a list of values into the line."""
+        read = tables_of(line.statement)
+        return any(holds_member(policy.get("predicate"), "list") and policy["table"] in read for policy in self.policies)
 
     def faults_of_safe(self, line: Line, longer: Line) -> Iterator[str]:
         """A text is safe to be prepared once where it serves lists of each length."""

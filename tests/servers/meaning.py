@@ -20,12 +20,18 @@ BUDGET = 20000
 
 Values = Tuple[Any, ...]  # those that an expression may give
 Frame = Dict[Origin, Row]
+Places = Tuple[bool, bool]  # whether NULL comes first in ascending and in descending order
 Line = Tuple[Row, Row, Row]  # what a row shows, the key by which it is distinct, and that by which it is ordered
 Cells = List[Tuple[List[Row], int]]
 
 
+# Where a dialect's server puts NULL, and every choice. [null_places]
+NULL_PLACES: Dict[str, Places] = {"Pg": (False, True), "Mysql": (True, False), "Sqlite": (True, False)}
+EVERY_PLACES: Tuple[Places, ...] = ((False, True), (True, False), (False, False), (True, True))
+
+
 class NoMeaning(Exception):
-    """An aggregate stands where none has a meaning: in ON."""
+    """An aggregate stands in ON, where servers refuse it."""
 
 
 class TooManyAnswers(Exception):
@@ -34,19 +40,16 @@ class TooManyAnswers(Exception):
 
 @dataclass
 class Group:
-    """The rows of a group; of one without rows its columns are seen as NULL."""
+    """The rows of a group, and the one from which its columns take their values. [one_row]"""
     rows: List[Frame]
-    lacking: Frame
-
-    def seen(self) -> List[Frame]:
-        return self.rows or [self.lacking]
+    one: Frame
 
 
 At = Union[Frame, Group]
 
 
-def frames_of(at: At) -> List[Frame]:
-    return at.seen() if isinstance(at, Group) else [at]
+def frame_of(at: At) -> Frame:
+    return at.one if isinstance(at, Group) else at
 
 
 # ---- values
@@ -84,27 +87,27 @@ def distinct(values: Iterable[Any]) -> Values:
 
 # ---- orders and pages
 
-def comes_before(nulls_first: Tuple[bool, bool], descends: bool, x: Any, y: Any) -> bool:
-    """[comes_before] `nulls_first` is a truth value for each direction."""
+def comes_before(places: Places, descends: bool, x: Any, y: Any) -> bool:
+    """[comes_before]"""
     if x is None or y is None:
-        return x is not y and (nulls_first[descends] if x is None else not nulls_first[descends])
+        return x is not y and (places[descends] if x is None else not places[descends])
     return bool(y < x if descends else x < y)
 
 
-def compare_keys(nulls_first: Tuple[bool, bool], descending: Sequence[bool], xs: Row, ys: Row) -> int:
+def compare_keys(places: Places, descending: Sequence[bool], xs: Row, ys: Row) -> int:
     """Negative where xs comes before ys, by the first item in which they differ. [row_before]"""
     for descends, x, y in zip(descending, xs, ys):
-        if comes_before(nulls_first, descends, x, y):
+        if comes_before(places, descends, x, y):
             return -1
-        if comes_before(nulls_first, descends, y, x):
+        if comes_before(places, descends, y, x):
             return 1
     return 0
 
 
-def tied(lines: Iterable[Tuple[Row, Row]], descending: Sequence[bool], nulls_first: Tuple[bool, bool]) -> List[List[Row]]:
-    """The rows of lines (key, row) in order, as groups that no item tells apart."""
+def tied(lines: Iterable[Tuple[Row, Row]], descending: Sequence[bool], places: Places) -> List[List[Row]]:
+    """The rows of lines (key, row) in order, as groups that no item tells apart. [IsOrdered]"""
     def compare(a: Tuple[Row, Row], b: Tuple[Row, Row]) -> int:
-        return compare_keys(nulls_first, descending, a[0], b[0])
+        return compare_keys(places, descending, a[0], b[0])
 
     by_key = functools.cmp_to_key(compare)
     return [[row for _, row in group] for _, group in itertools.groupby(sorted(lines, key=by_key), key=by_key)]
@@ -122,15 +125,6 @@ def cells_of(groups: Iterable[List[Row]], limit: Optional[int], offset: Optional
             cells.append((group, int(taken)))
         at += len(group)
     return cells
-
-
-def ordered_pages(lines: Sequence[Tuple[Row, Row]], descending: Sequence[bool], limit: Optional[int], offset: Optional[int],
-                  nulls_by_size: bool) -> Iterator[Cells]:
-    """The cells of each answer: all NULLs come first, or all last. [IsOrdered] Where `nulls_by_size`, NULL is the least value or the
-    greatest one, so NULLs that come first in ascending order come last in descending order."""
-    has_null = any(x is None for key, _ in lines for x in key)
-    for first in (True, False) if has_null else (True,):
-        yield cells_of(tied(lines, descending, (first, first != nulls_by_size)), limit, offset)
 
 
 def is_page(cells: Cells, rows: Sequence[Row]) -> bool:
@@ -170,17 +164,19 @@ class Meaning:
         self.schema = schema
         self.database = database
         self.budget = BUDGET
-        self.nulls_by_size = False
+        self.places = EVERY_PLACES[0]
 
-    def allows(self, statement: Statement, rows: Sequence[Row], nulls_by_size: bool = False) -> bool:
-        """Whether these rows, in this order, are an answer of the statement."""
-        self.budget = BUDGET
-        self.nulls_by_size = nulls_by_size
+    def allows(self, statement: Statement, rows: Sequence[Row], choices: Iterable[Places] = EVERY_PLACES) -> bool:
+        """Whether these rows, in this order, are an answer of the statement, for one of these choices of where NULL comes."""
+        return any(self.is_answer(statement, rows, places) for places in choices)
+
+    def is_answer(self, statement: Statement, rows: Sequence[Row], places: Places) -> bool:
+        self.budget, self.places = BUDGET, places
         return any(is_page(cells, rows) for cells in self.pages(statement, {}))
 
-    def an_answer(self, statement: Statement) -> List[Row]:
+    def an_answer(self, statement: Statement, places: Places) -> List[Row]:
         """One answer, to show beside rows that are none."""
-        self.budget = BUDGET
+        self.budget, self.places = BUDGET, places
         return [row for group, taken in next(self.pages(statement, {})) for row in group[:taken]]
 
     def spend(self, cost: int = 1) -> None:
@@ -201,7 +197,7 @@ class Meaning:
         return self.compound_values(e, at)
 
     def group_values(self, e: Expr, group: Group) -> Values:
-        """A count of the group's rows, or the value at any one of them. [diesel's `count` and `count_star`; PostgreSQL, Aggregate Functions]"""
+        """A count of the group's rows, or the value at its one row. [Gives: count_star, count, column]"""
         if e[0] == "count_star":
             return (len(group.rows),)
         if e[0] == "count":
@@ -211,7 +207,7 @@ class Meaning:
             return tuple(range(least, most + 1))
         if has_count(e):
             return self.compound_values(e, group)
-        return distinct(x for row in group.seen() for x in self.values(e, row))
+        return self.values(e, group.one)
 
     def compound_values(self, e: Expr, at: At) -> Values:
         tag = e[0]
@@ -235,7 +231,7 @@ class Meaning:
         if tag == "among_values":
             return distinct(among(e[1], x, e[4]) for x in self.values(e[2], at))
         if tag == "among_rows":
-            pages = [cells for frame in frames_of(at) for cells in self.pages(e[3], frame)]
+            pages = list(self.pages(e[3], frame_of(at)))
             return distinct(negated(found) if e[1] else found for x in self.values(e[2], at) for cells in pages for found in found_in(x, cells))
         raise NoMeaning
 
@@ -309,9 +305,9 @@ class Meaning:
             return
         descending = [descends for _, descends in s.order or []]
         for lines in self.lines(s, outer):
-            for left in self.left_by(s.distinct, lines):
+            for left in self.left_by(s.distinct, lines, descending):
                 self.spend(len(left) + 1)
-                yield from ordered_pages([(order, shown) for shown, _, order in left], descending, s.limit, s.offset, self.nulls_by_size)
+                yield cells_of(tied([(order, shown) for shown, _, order in left], descending, self.places), s.limit, s.offset)
 
     def combination_pages(self, s: Combination, outer: Frame) -> Iterator[Cells]:
         descending = [descends for _, descends in s.order]
@@ -319,7 +315,7 @@ class Meaning:
             for ys in self.bags(s.right, outer):
                 rows = [row for row in {**xs, **ys} for _ in range(combined(s.operator, s.keeps_all, xs[row], ys[row]))]
                 lines = [(tuple(value_at(number, row) for number, _ in s.order), row) for row in rows]
-                yield from ordered_pages(lines, descending, s.limit, s.offset, self.nulls_by_size)
+                yield cells_of(tied(lines, descending, self.places), s.limit, s.offset)
 
     def bags(self, s: Statement, outer: Frame) -> Iterator[Counter[Row]]:
         seen = set()
@@ -341,42 +337,65 @@ class Meaning:
                     for choice in itertools.product(*options):
                         yield [line for line in choice if line is not None]
 
-    def units(self, s: Select, rows: List[Frame]) -> Iterable[Sequence[At]]:
-        """What a statement gives a row for: each of the rows, or each group of them."""
-        if is_aggregated(s):
-            return self.groups(s, rows)
-        return [rows]
+    def units(self, s: Select, rows: List[Frame]) -> Iterator[Sequence[Union[Frame, List[Frame]]]]:
+        """What a statement gives a line for: each of the rows, or each group of them."""
+        if not is_aggregated(s):
+            yield rows
+            return
+        for taken in range(0 if s.modifier == "skip_locked" else len(rows), len(rows) + 1):
+            for some in itertools.combinations(rows, taken):
+                yield from self.groups(s, some)
 
-    def groups(self, s: Select, rows: List[Frame]) -> Iterator[List[Group]]:
-        """The lists of groups, those of HAVING alone: one for each list of values of GROUP BY, and one in all where there is none."""
+    def groups(self, s: Select, rows: Sequence[Frame]) -> Iterator[List[List[Frame]]]:
+        """The lists of groups: one for each list of values of GROUP BY, and one in all where there is none. [GroupedBy]"""
         keys = [list(itertools.product(*self.lists(s.group_by, row))) for row in rows] if s.group_by is not None else [[()]] * len(rows)
         self.spend(math.prod(map(len, keys)) + len(rows))
         for choice in itertools.product(*keys):
             found: Dict[Row, List[Frame]] = {} if s.group_by is not None else {(): []}
             for key, row in zip(choice, rows):
                 found.setdefault(key, []).append(row)
-            groups = [Group(members, self.lacking(s.source)) for members in found.values()]
-            yield from self.passing(s.having, groups, itself)
+            yield list(found.values())
 
-    def line_options(self, s: Select, at: At) -> List[Optional[Line]]:
-        """The lines of a row or a group; none at all is one where SKIP LOCKED may leave the row out. [may_skip]"""
+    def line_options(self, s: Select, unit: Union[Frame, List[Frame]]) -> List[Optional[Line]]:
+        """The lines of a row or a group; none at all is one where HAVING may not be true, or SKIP LOCKED may leave the row out."""
+        if not isinstance(unit, list):
+            lines = self.lines_at(s, unit)
+            return [*lines, None] if s.modifier == "skip_locked" else lines
+        found = {line: None for one in unit or [self.lacking(s.source)] for line in self.lines_at(s, Group(unit, one))}
+        self.spend(len(unit) + len(found))
+        return list(found)
+
+    def lines_at(self, s: Select, at: At) -> List[Optional[Line]]:
+        """The same of a row, or of a group of which one row is chosen."""
+        truths = {True} if s.having is None else {x is True for x in self.values(s.having, at)}
+        if True not in truths:
+            return [None]
         shown = self.lists(s.selection, at)
         key = self.lists(s.distinct, at) if isinstance(s.distinct, tuple) else []
         order = [self.values(e, at) for e, _ in s.order or []]
         self.spend(math.prod(map(len, shown + key + order)))
         lines: List[Optional[Line]] = list(itertools.product(*(list(itertools.product(*part)) for part in (shown, key, order))))
-        return lines + [None] if s.modifier == "skip_locked" and not isinstance(at, Group) else lines
+        return [*lines, None] if False in truths else lines
 
-    def left_by(self, how: Union[str, Expr, None], lines: List[Line]) -> Iterable[Sequence[Line]]:
-        """Any one line of each key. [left_by]"""
+    def left_by(self, how: Union[str, Expr, None], lines: List[Line], descending: Sequence[bool]) -> Iterable[Sequence[Line]]:
+        """Any one line of each key; under DISTINCT ON one that none of its key comes before. [left_by, ordered_by]"""
         if how is None:
             return [lines]
         at = 0 if how == "distinct" else 1
         groups: Dict[Row, Dict[Line, None]] = {}
         for line in lines:
             groups.setdefault(line[at], {})[line] = None
-        self.spend(math.prod(map(len, groups.values())))
-        return itertools.product(*groups.values())
+        choices = [list(group) if at == 0 else self.first_of(group, descending) for group in groups.values()]
+        self.spend(math.prod(map(len, choices)))
+        return itertools.product(*choices)
+
+    def first_of(self, lines: Iterable[Line], descending: Sequence[bool]) -> List[Line]:
+        """Those that none of the lines comes before."""
+        found: List[Line] = []
+        for line in lines:
+            order = compare_keys(self.places, descending, line[2], found[0][2]) if found else -1
+            found = [line] if order < 0 else [*found, line] if order == 0 else found
+        return found
 
 
 def itself(at: At) -> At:

@@ -35,6 +35,7 @@ import names  # noqa: E402
 import servers  # noqa: E402
 import spoilt  # noqa: E402
 import stops  # noqa: E402
+import tenants  # noqa: E402
 import worked  # noqa: E402
 from campaign import DIALECTS, Options, start  # noqa: E402
 from program import Program  # noqa: E402
@@ -44,7 +45,7 @@ from servers import Server  # noqa: E402
 from spoilings import SPOILINGS, SpoiltProgram  # noqa: E402
 
 # The random documents of the gate: always the same.
-GATE_SEEDS, GATE_GUARD_SEEDS = range(1, 9), range(1, 9)
+GATE_SEEDS, GATE_GUARD_SEEDS, GATE_TENANT_SEEDS = range(1, 9), range(1, 9), range(1, 9)
 
 
 def in_each_dialect(document: dict[str, Any]) -> dict[str, Any]:
@@ -63,6 +64,12 @@ def stored() -> Iterator[tuple[str, dict[str, Any]]]:
     users = {"tables": [{"name": "users", "columns": [{"name": "id", "type": "Integer"}]}]}
     requests = [{"dialect": "Pg", "query": json.loads(query)} for query in queries]
     yield "documents.tsv", in_each_dialect({"schema": users, "requests": requests})
+
+
+def run_worked(runner: Runner) -> None:
+    """What is worked out by hand, over its own rows."""
+    requests = [{"dialect": "Pg", "query": query} for query, _, _ in worked.WORKED]
+    runner.run(Document("worked.py", in_each_dialect({"schema": worked.DECLARED, "requests": requests}), 1, worked.DATABASE))
 
 
 def check_evaluator(report: Report) -> None:
@@ -97,6 +104,14 @@ def check_stops(report: Report) -> None:
         report.passed += not found
 
 
+def check_tenants(program: Program, started: dict[str, Server], report: Report, most: int) -> None:
+    """A tenant's lines are right over chosen rows, and each of them that is spoilt is found."""
+    found = tenants.faults(program.ask, started, most)
+    for what in found:
+        report.fail(Place("a spoilt tenant"), what)
+    report.passed += not found
+
+
 def check_names(program: Program, started: dict[str, Server], report: Report) -> None:
     for server in started.values():
         for what, found in [*names.faults(program.ask, server), *collations.faults(program.ask, server)]:
@@ -112,7 +127,9 @@ def run_gate(program: Program, started: dict[str, Server], report: Report, given
         ("spoilt programs", lambda: check_spoilings(program, started, report)),
         ("what is started ends", lambda: check_stops(report)),
         ("names, rights and collations", lambda: check_names(program, started, report)),
+        ("worked statements", lambda: run_worked(Runner(program.ask, started, report, given.rows))),
         ("stored documents", lambda: run_documents(Runner(program.ask, started, report, given.rows), list(stored()), given.seed, True)),
+        ("a spoilt tenant", lambda: check_tenants(program, started, report, given.rows)),
         ("random documents", lambda: run_seeds(Runner(program.ask, started, report, given.rows), GATE_SEEDS, GATE_GUARD_SEEDS)),
     ]
     for what, step in steps:
@@ -131,6 +148,8 @@ def run_seeds(runner: Runner, seeds: range, guard_seeds: range) -> None:
         runner.run(campaign.random_document(seed, False))
     for seed in guard_seeds:
         runner.run(campaign.random_document(seed, True))
+    for seed in GATE_TENANT_SEEDS:
+        runner.run(campaign.tenant_document(seed))
 
 
 def show_spoiling(spoilt_program: SpoiltProgram, report: Report) -> bool:
@@ -148,6 +167,7 @@ def arguments() -> argparse.Namespace:
     parser.add_argument("--jobs", type=int, default=1, help="so many workers, with --minutes or --random")
     parser.add_argument("--seed", type=int, default=1, help="of the first random document, and of the random rows")
     parser.add_argument("--guard", action="store_true", help="random documents have a guard, and are run by the command guard")
+    parser.add_argument("--tenant", action="store_true", help="random documents have policies, and are run by the command tenant")
     parser.add_argument("--spoil", choices=["list", *SPOILINGS], metavar="NAME", help="the program is spoilt in this way")
     parser.add_argument("--program", default=str(TOP / "crates/sql_tool/out/sql_tool"))
     parser.add_argument("--dialect", action="append", choices=sorted(DIALECTS), help="on this one's server alone")

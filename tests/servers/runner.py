@@ -11,7 +11,7 @@ import audits
 import schema as schemas
 import servers
 import values
-from checks import Checker, kept_rows
+from checks import Checker, Policy, kept_rows
 from lines import Asked, Fault, Line
 from program import Ask, Failed, NoDocument
 from report import Place, Report
@@ -31,7 +31,8 @@ class Document:
         self.database = database
         self.is_ours = is_ours  # made here: then it has to be a document
         self.schema = Schema(content["schema"])
-        self.guard: dict[str, Any] | None = content.get("guard")
+        self.policies: list[Policy] = content["tenant"] if "tenant" in content else [content["guard"]] if "guard" in content else []
+        self.command = next((word for word in ("tenant", "guard") if word in content), "build")
 
     def rows(self, dialect: str, most: int) -> Database:
         if self.database is not None:
@@ -66,9 +67,9 @@ class Runner:
         return 0
 
     def asked_about(self, document: Document) -> int:
-        command = "guard" if document.guard else "build"
+        command = document.command
         asked = self.lines(document, command, self.ask)
-        plain = self.lines(document, "build", self.plain) if document.guard else asked
+        plain = self.lines(document, "build", self.plain) if document.policies else asked
         by_dialect: dict[str, list[tuple[int, Line]]] = {}
         for at, line in asked.accepted():
             if self.spoilt is None or self.spoilt.is_asked_about(command, at):
@@ -87,7 +88,7 @@ class Runner:
         others = [values.other_values(chance, request) for request in requests]
         longer = [values.other_lengths(chance, request) for request in requests]
         answers = ask([command], {**document.content, "requests": [*requests, *others, *longer]})
-        return Asked(document.schema, document.guard if command == "guard" else None, [requests, others, longer], answers)
+        return Asked(document.schema, document.policies if command == document.command else [], [requests, others, longer], answers)
 
     def check_alone(self, document: Document, asked: Asked, at: int, line: Line) -> None:
         """What needs no server."""
@@ -111,17 +112,19 @@ class OnServer:
         self.guarded: dict[int, list[Row]] = {}  # the rows of guarded lines, by the request
 
     def run(self, found: Sequence[tuple[int, Line]]) -> None:
-        schema, guard = self.document.schema, self.document.guard
+        schema, policies = self.document.schema, self.document.policies
         try:
             self.refused = schemas.create(self.server, schema, self.whole)
-            kept = {**self.whole, guard["table"]: kept_rows(schema, self.whole, guard)} if guard else self.whole
+            kept = kept_rows(schema, self.whole, policies)
             checker = Checker(self.server, schema, kept, self.refused)
             for at, line in found:
                 self.run_line(checker, at, line)
             if self.audits:
                 self.audit(checker, found)
-            if guard and guard["table"] not in self.refused:
-                schemas.replace_rows(self.server, schema, guard["table"], kept[guard["table"]])
+            cut = {policy["table"] for policy in policies} - set(self.refused)
+            for name in sorted(cut):
+                schemas.replace_rows(self.server, schema, name, kept[name])
+            if cut:
                 self.compare(checker, found)
             self.report.add(self.server.name, checker.counts)
         finally:

@@ -1,5 +1,5 @@
-"""The statement that a query of a document stands for: what its calls make, one after the other (docs/DEFINITIONS.md, "Calls on
-statements"). Expressions and sources are tuples, whose first element says what they are:
+"""The statement that a query of a document stands for: what its calls make, one after the other (docs/USING.md, "What each
+call changes"). Expressions and sources are tuples, whose first element says what they are:
 
     ("column", (alias or None, table), column)      ("value", type, value)      ("list", [expression..])      ("count_star",)
     ("compare", operator, a, b)   ("connect", operator, a, b)   ("not", a)   ("null_test", is_negated, a)   ("nullable", a)
@@ -348,6 +348,11 @@ def is_aggregated(s: Select) -> bool:
     after = [s.selection, s.having, *(e for e, _ in s.order or [])]
     after += [s.distinct] if isinstance(s.distinct, tuple) else []
     return s.group_by is not None or any(e is not None and has_count(e) for e in after)
+
+
+def is_grouped(s: Statement) -> bool:
+    """Whether it, a side of it or a subselect is aggregated."""
+    return any(isinstance(inner, Select) and is_aggregated(inner) for inner in statements_in(s))
 
 
 def is_determined(s: Statement) -> bool:

@@ -7,11 +7,12 @@ from meaning import Meaning
 from statements import Database, Row, Schema, statement
 
 
-SCHEMA = Schema({"tables": [
+DECLARED: dict[str, Any] = {"tables": [
     {"name": "users", "columns": [{"name": "id", "type": "Integer"}, {"name": "name", "type": "Text"}]},
     {"name": "posts", "columns": [{"name": "id", "type": "Integer"}, {"name": "user_id", "type": "Integer"}, {"name": "title", "type": "Text"}]},
     {"name": "marks", "columns": [{"name": "id", "type": "Integer"}, {"name": "mark", "type": "Integer?"}]},
-], "joinable": [{"child": "posts", "key": "user_id", "parent": "users"}]})
+], "joinable": [{"child": "posts", "key": "user_id", "parent": "users"}], "together": [["users", "posts"], ["users", "marks"], ["posts", "marks"]]}
+SCHEMA = Schema(DECLARED)
 DATABASE: Database = {"users": [(1, "a"), (2, "b")], "posts": [(5, 1, "t")], "marks": [(1, None), (2, 7), (3, 7), (4, 8)]}
 
 ID, NAME, TITLE = {"col": ["users", "id"]}, {"col": ["users", "name"]}, {"nullable": {"col": ["posts", "title"]}}
@@ -64,6 +65,10 @@ WORKED: list[tuple[dict[str, Any], list[list[Row]], list[list[Row]]]] = [
     (marks(IDS, ["order", [MARK]], ["limit", 2]), [ones(1, 2), ones(1, 3), ones(2, 3), ones(3, 2)], [ones(1, 4), ones(2, 1)]),
     (marks(["select", MARK], ["distinct"]), [ones(None, 7, 8), ones(8, None, 7)], [ones(7, 8), ones(None, 7, 7, 8)]),
     (marks(IDS, ["distinct_on", MARK]), [ones(1, 2, 4), ones(4, 3, 1)], [ones(1, 2, 3, 4), ones(1, 4), ones(2, 3, 4)]),
+    (marks(["select", [MARK, MARK_ID]], ["distinct_on", MARK], ["order", [MARK, {"desc": MARK_ID}]]),
+     [[(None, 1), (7, 3), (8, 4)], [(7, 3), (8, 4), (None, 1)]], [[(None, 1), (7, 2), (8, 4)], [(7, 3), (None, 1), (8, 4)]]),
+    (marks(["select", MARK_ID], ["distinct_on", MARK], ["order", [MARK, MARK_ID]], ["limit", 1]), [ones(1), ones(2)], [ones(3), ones(4)]),
+    (marks(["select", MARK_ID], ["distinct_on", MARK], ["order", [MARK]]), [ones(1, 3, 4), ones(2, 4, 1)], [ones(1, 2, 3, 4), ones(2, 1, 4)]),
     (marks(["select", MARK], ["union", marks(["select", MARK])]), [ones(7, 8, None)], [ones(7, 8), ones(7, 7, 8, None)]),
     (marks(["select", MARK], ["except_all", marks(["select", MARK], ["filter", {"eq": [MARK_ID, value("Integer", 2)]}])]),
      [ones(None, 7, 8)], [ones(None, 8), ones(None, 7, 7, 8)]),
@@ -80,6 +85,11 @@ WORKED: list[tuple[dict[str, Any], list[list[Row]], list[list[Row]]]] = [
     (marks(["group_by", MARK], ["select", MARK], ["having", {"gt": ["count_star", value("BigInt", 1)]}]), [ones(7)], [ones(7, 8), []]),
     (marks(["group_by", MARK], ["select", {"count": MARK}], ["order", [{"desc": {"count": MARK}}]]),
      [ones(2, 1, 0)], [ones(1, 2, 0), ones(2, 1)]),
+    (marks(["group_by", MARK], ["select", [MARK, "count_star"]], ["order", ["count_star", {"desc": MARK}]]),
+     [[(None, 1), (8, 1), (7, 2)], [(8, 1), (None, 1), (7, 2)]], [[(7, 2), (8, 1), (None, 1)]]),
+    (marks(["group_by", MARK], ["select", "count_star"], ["distinct"]), [ones(1, 2), ones(2, 1)], [ones(1, 2, 1), ones(1)]),
+    (marks(["group_by", MARK], ["select", "count_star"], ["union_all", marks(["select", "count_star"])]), [ones(1, 4, 2, 1)], [ones(1, 2, 4)]),
+    (users(JOIN, ["select", ["count_star", {"count": {"nullable": {"col": ["posts", "id"]}}}]]), [[(2, 1)]], [[(1, 1)], [(2, 2)]]),
     (users(JOIN, ["group_by", ID], ["select", [ID, {"count": TITLE}]]), [[(1, 1), (2, 0)]], [[(1, 1)], [(1, 1), (2, 1)]]),
     (users(["filter", {"eq": [value("BigInt", 1), {"single_value": {**POSTS, "calls": [["select", "count_star"]]}}]}]),
      [[(1, "a"), (2, "b")]], [[]]),
