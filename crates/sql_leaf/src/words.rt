@@ -49,7 +49,7 @@ pub const DESC: &str = " DESC";
 /// Behind the operator of a combination that keeps equal rows.
 pub const ALL: &str = "ALL ";
 
-/// What stands between what is sought and what it is looked for in, with the bracket that opens there.
+/// Returns the text between an expression and the values among which it is sought, with the bracket that opens there: ` IN (`.
 pub fn among_text(comparison: ArrayComparison, negated: bool) -> &'static str
     ensures { result.now ≡ among_word comparison negated }
 {
@@ -65,7 +65,7 @@ pub fn among_text(comparison: ArrayComparison, negated: bool) -> &'static str
     }
 }
 
-/// What is written in place of a membership in no values.
+/// Returns the text that is written for a membership in no values: `(1=0)`.
 pub fn constant_text(negated: bool) -> &'static str
     ensures { result.now ≡ constant_sql negated }
 {
@@ -75,7 +75,7 @@ pub fn constant_text(negated: bool) -> &'static str
     }
 }
 
-/// What stands between the sides of a join.
+/// Returns the text between the sides of a join: ` INNER JOIN `.
 pub fn join_text(kind: JoinKind) -> &'static str
     ensures { result.now ≡ join_sql kind }
 {
@@ -85,7 +85,7 @@ pub fn join_text(kind: JoinKind) -> &'static str
     }
 }
 
-/// What stands between the sides of a combination.
+/// Returns the text between the sides of a combination: ` UNION `.
 pub fn combinator_text(combinator: Combinator) -> &'static str
     ensures { result.now ≡ combinator_sql combinator }
 {
