@@ -1,4 +1,4 @@
-//! What a leaf of a source is, and what a column is one of: a table, or an alias of it.
+//! The origin of a leaf of a source and of a column: a table, or an alias of one.
 #![tactic(auto)]
 
 mod origin;

@@ -1,4 +1,4 @@
-//! What a part of a statement means, a list of pieces, and the passes that walk over it.
+//! The meaning of a part of a statement, a list of pieces, and the passes that walk over it.
 //!
 //! One walk serves every purpose: it pushes a part's pieces into a pass, which makes of them the text, the bytes of the
 //! values, the list of values, the flag that says whether a prepared statement may be kept, or the test whether anything

@@ -22,9 +22,9 @@ impl<DB: Backend> QueryFragment<DB> for Identifier<'_> {
     }
 }
 
-/// What stands between the two parts of an `InfixNode`.
+/// The part in the middle of an `InfixNode`, between its two other parts.
 pub trait MiddleFragment<DB: Backend> {
-    /// What it means in the backend's dialect.
+    /// Its meaning in the backend's dialect, a list of pieces.
     ghost middle: { Self → List Piece };
 
     /// Pushes the pieces in order, up to the first refusal.
