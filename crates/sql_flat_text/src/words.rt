@@ -1,4 +1,4 @@
-//! What is written before the children of a node, between them and after them.
+//! The text that is written before the children of a node, between them and after them.
 #![tactic(auto, using(crate::proofs::Pouring::pouring))]
 
 ghost use Rattle.std.specs.Prelude.{◌≡◌, ◌++◌, codes};

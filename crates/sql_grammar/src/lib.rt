@@ -127,8 +127,8 @@ pub fn joined_texts()
         → tokens d (a ++ c ∷ b) ≡ Some (xs ++ ys) }
 {}
 
-/// What the program writes for a tree that the dialect has is read as that tree, and as no other. The placeholder of a value
-/// is written in it as a builder of the dialect writes it.
+/// Proves that the text that the program writes for a tree that the dialect has is read as that tree, and as no other. The
+/// placeholder of a value is written in it as a builder of the dialect writes it.
 pub fn written()
     ensures tree { (d : Dialect) (q : Query) → FitsQuery d q → OnlyReading d (text d q) q }
     ensures place { (d : Dialect) (before : ℕ) (rest : List ℕ) →

@@ -1,4 +1,4 @@
-//! What a statement may answer over a database, and that the types of its columns are right, NULL included.
+//! The answers that a statement may give over a database, and the law that the types of its columns are right, NULL included.
 //!
 //! The definitions are in `specs/`, in words in `docs/MEANING.md`. Each function here carries laws about them. None does anything
 //! when it runs.
@@ -47,8 +47,8 @@ pub fn needs_nullable_is_needed()
     ensures { RuleIsNeeded }
 {}
 
-/// What counts beside its columns has to be left out: here is a boxed statement that breaks no rule and counts in its order alone,
-/// `SELECT "users"."id" FROM "users" ORDER BY COUNT(*)`, and over empty tables it answers a NULL that does not fit.
+/// Proves that statements that count beside their columns have to be left out: here is a boxed one that breaks no rule and counts in
+/// its order alone, `SELECT "users"."id" FROM "users" ORDER BY COUNT(*)`, and over empty tables it answers a NULL that does not fit.
 pub fn counting_beside_is_no_promise()
     ensures { ExceptionIsNeeded }
 {}
@@ -58,7 +58,7 @@ pub fn last_writer_is_an_answer()
     ensures { HasLastWriter }
 {}
 
-/// What operators give on NULL, and what orders, cuts and combinations give on small lists.
+/// Proves what operators give on NULL, and what orders, cuts and combinations give on small lists.
 pub fn operators_work()
     ensures { AreWorked }
 {}

@@ -37,8 +37,8 @@ ghost use Rattle.sql_rules_law.specs.Fitting.{ValuesFit, values_fit};
 ghost use Rattle.sql_rules_law.specs.Lengths.{shape_without_lengths};
 ghost use Rattle.sql_rules_law.specs.Paths.{names_in};
 
-/// What rules keep a statement from having no text: lists without an element, joins without a condition, lists and other
-/// things without a type as operands, and what the dialect lacks. One more keeps placeholders from having no number.
+/// Proves that a statement has a text unless a rule refuses it: for lists without an element, joins without a condition, lists and
+/// other things without a type as operands, or what the dialect lacks. One more rule keeps placeholders from having no number.
 pub fn accepted_have_text()
     ensures text { (schema : Declarations) (d : Dialect) (s : Statement) → PlacesAreCounted s →
         ¬ Broken EmptyList schema d s → ¬ Broken NoRelation schema d s →
