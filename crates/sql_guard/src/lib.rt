@@ -1,7 +1,7 @@
 //! The tenant guard: `restrict_all` puts a predicate beside each leaf of each table, at every depth, so that a statement sees one
 //! tenant's rows alone. `restrict` does so with one table and no subselect.
 //!
-//! What is promised of it is said in `docs/GUARD.md`. The definitions and laws are those of `sql_guard_law`, which this crate
+//! The promises are in `docs/GUARD.md`. The definitions and laws are those of `sql_guard_law`, which this crate
 //! re-exports.
 #![tactic(auto)]
 

@@ -1,4 +1,4 @@
-//! What a statement restricted to one tenant is, and that it answers exactly what the statement answers over that tenant's rows.
+//! Statements restricted to one tenant, and the law that each answers exactly what the statement itself answers over that tenant's rows.
 //!
 //! The definitions are in `specs/`, in words in `docs/GUARD.md`. Each function here carries a law about them. None does anything
 //! when it runs.

@@ -1,6 +1,6 @@
 //! `compile_sound`: what `compile` answers, with column types that are proved right for NULL; and a bounded cache of such answers.
 //!
-//! What a statement may answer over a database is defined in `sql_rows_meaning`, whose definitions and laws this crate re-exports.
+//! The answers that a statement may give over a database are defined in `sql_rows_meaning`. This crate re-exports its definitions and laws.
 #![tactic(auto)]
 
 mod cache;
