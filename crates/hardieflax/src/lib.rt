@@ -117,7 +117,7 @@ pub use sql_rules_law::{
 // The reader: the tree of a text, and the text of a tree.
 pub use sql_read::{MAX_DEPTH as MAX_READ_DEPTH, ReadError, Tree, placeholders, read, write};
 
-/// What `Tree::query` gives: the tree of a text, as its tokens say.
+/// The types of the tree that `Tree::query` gives: the tree of a text, as its tokens say.
 pub mod tree {
     pub use sql_read_lexer::Comparison;
     pub use sql_read_tree::{
@@ -143,7 +143,7 @@ pub mod syntax {
     };
 }
 
-// What `compile_by` asks for where it is told that the names are known.
+// The law that gives the premise of `compile_by` where it is told that the names are known.
 pub use sql_build_law::built_statements_know_their_names;
 
 /// The program's commands as one call, over any source and any sink of bytes.

@@ -1,4 +1,4 @@
-//! What the program writes for a request of a tenant: the line of its statement, limited to the tenant's rows, or the name of its refusal.
+//! The line that the program writes for a request of a tenant: that of its statement, limited to the tenant's rows, or the name of its refusal.
 #![tactic(auto)]
 
 mod line;

@@ -1,4 +1,4 @@
-//! What the program writes for a text that it reads: the text that its tree is written as, or that it has none, as JSON.
+//! The line that the program writes for a text that it reads: the text that its tree is written as, or that it has none, as JSON.
 #![tactic(auto)]
 
 mod input;
