@@ -195,6 +195,7 @@ fn push_values<DB: Backend>(
     }
 }
 
+/// Appends `(1=0)`, or `(1=1)`, in place of a membership in no values.
 fn push_constant<DB: Backend>(
     empty: bool,
     negated: bool,

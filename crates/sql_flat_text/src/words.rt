@@ -290,6 +290,7 @@ fn push_lock<DB: Backend>(lock: LockingClause, sink: &mut Sink<DB>) -> Result<()
     }
 }
 
+/// As `walk_page` and `walk_boxed_end` of `sql_node`, which change with it.
 fn push_select_end<DB: Backend>(
     rows: LimitOffsetClause,
     form: Form,
