@@ -20,9 +20,10 @@ pub use locking::{LockMode, LockingClause, Modifier};
 pub use marks::Marks;
 pub use operator::{Comparison, Logic, Unary};
 pub use position::{Direction, OrderColumn, PositionalItem};
+pub use sql_pass::{CLOSE, DOT, FROM_OPEN, ON, OPEN};
 pub use table_source::{JoinKind, TableSource, Tablesample, TablesampleMethod};
 pub use words::{
-    ALL, ASC, CLOSE, CLOSE_BOTH, COMMA, COUNT_OPEN, COUNT_STAR, DESC, DISTINCT, DISTINCT_ON_CLOSE,
-    DISTINCT_ON_OPEN, EXISTS_OPEN, FROM, GROUP_BY, HAVING, ON, OPEN, ORDER_BY, SELECT, WHERE,
-    among_text, combinator_text, constant_text, join_text,
+    ALL, ASC, CLOSE_BOTH, COMMA, COUNT_OPEN, COUNT_STAR, DESC, DISTINCT, DISTINCT_ON_CLOSE,
+    DISTINCT_ON_OPEN, EXISTS_OPEN, FROM, GROUP_BY, HAVING, ORDER_BY, SELECT, WHERE, among_text,
+    combinator_text, constant_text, join_text,
 };

@@ -1,6 +1,8 @@
 ghost use Rattle.std.specs.Prelude.{◌≡◌};
 ghost use Rattle.sql_leaf.specs.Operators.{comparison_sql, logic_sql, unary_after, unary_before};
 
+use sql_pass::{CLOSE, OPEN};
+
 /// A condition on one expression.
 #[derive(Debug, Clone, Copy, PartialEq, Eq, PartialOrd, Ord, Hash)]
 pub enum Unary {
@@ -19,7 +21,7 @@ impl Unary {
     {
         match self {
             Unary::Not => "NOT (",
-            Unary::IsNull | Unary::IsNotNull => "(",
+            Unary::IsNull | Unary::IsNotNull => OPEN,
         }
     }
 
@@ -29,7 +31,7 @@ impl Unary {
         ensures { result.now ≡ unary_after self }
     {
         match self {
-            Unary::Not => ")",
+            Unary::Not => CLOSE,
             Unary::IsNull => " IS NULL)",
             Unary::IsNotNull => " IS NOT NULL)",
         }

@@ -1,5 +1,5 @@
 //! The words that are written between the parts of a statement, each once: a walk over nodes and a loop over their flat list both take
-//! them from here.
+//! them from here. Those that `sql_pass` writes too are its own, and this crate hands them on.
 
 ghost use Rattle.std.specs.Prelude.{◌≡◌};
 ghost use Rattle.sql_leaf.specs.Words.{among_word, combinator_sql, constant_sql, join_sql};
@@ -7,11 +7,6 @@ ghost use Rattle.sql_leaf.specs.Words.{among_word, combinator_sql, constant_sql,
 use crate::JoinKind;
 use sql_dialect::{ArrayComparison, Combinator};
 
-/// Before one expression or a query, and before two expressions, between which an operator stands: without brackets a condition that is
-/// added later would regroup them.
-pub const OPEN: &str = "(";
-
-pub const CLOSE: &str = ")";
 /// After what a membership looks in.
 pub const CLOSE_BOTH: &str = "))";
 /// Before each part of a list but the first.
@@ -32,8 +27,6 @@ pub const DISTINCT_ON_OPEN: &str = "DISTINCT ON (";
 pub const DISTINCT_ON_CLOSE: &str = ") ";
 
 pub const FROM: &str = " FROM ";
-
-pub const ON: &str = " ON ";
 
 pub const WHERE: &str = " WHERE ";
 

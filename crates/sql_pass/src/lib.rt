@@ -13,6 +13,7 @@ mod pass;
 mod path;
 mod to_sql;
 mod value;
+mod words;
 
 pub use collect::{BindCollector, BindType, Binds, CollectError, RawBytesBindCollector};
 pub use fragment::{QueryFragment, debug_binds};
@@ -23,3 +24,4 @@ pub use pass::{AstPass, PassError};
 pub use path::push_dotted;
 pub use to_sql::ToSql;
 pub use value::{Bound, BoundRef, Value};
+pub use words::{CLOSE, DOT, FROM_OPEN, ON, OPEN};

@@ -1,4 +1,5 @@
-//! The origins that clauses see, found by one loop from the first node to the last.
+//! The origins that clauses see, found by one loop from the first node to the last (`names`, where an example is). `nest` is the stack
+//! of the nodes that are open, the innermost last (`sql_flat_law`).
 #![tactic(auto, using(crate::proofs::Opening::opening))]
 
 ghost use Rattle.std.specs.Prelude.{◌≡◌, ◌<◌, ◌+◌, ◌++◌, IfOk, OnOk, map, option_map};
