@@ -3,6 +3,10 @@
 //! This crate has no code of its own. It re-exports what users of the library crates name, so that a program names one crate;
 //! `specs/Lib.antt` does the same for the words of their contracts. A schema is declared by `SchemaBuilder`, a statement built by
 //! the calls of `QueryDsl`, and `compile` gives its text and values, or the first rule that it breaks.
+//!
+//! Three modules hold what has a name that is taken at the root: `tree`, `syntax` and `program`. `proofs/` has the lemmas for parts of a
+//! user's own and for code that matches nodes. In `crates.txt` a crate that uses this one lists the libraries too: with `hardieflax` alone a
+//! check of clauses over expressions ends with "no module that this path begins with is at hand".
 #![tactic(auto)]
 
 // Schemas, types, texts and lists.

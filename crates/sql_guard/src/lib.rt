@@ -3,6 +3,10 @@
 //!
 //! The promises are in `docs/GUARD.md`. The definitions and laws are those of `sql_guard_law`, which this crate
 //! re-exports.
+//!
+//! `restrict` refuses a subselect, a COUNT or a GROUP BY anywhere (OutOfKind), also where they read other tables. HAVING alone is not refused,
+//! since no group is made by it; such a statement breaks Incompatible. Refusals are asked of the nodes of a flat list, and only what rebuilds
+//! a statement recurses.
 #![tactic(auto)]
 
 mod error;

@@ -2,6 +2,10 @@
 //!
 //! The definitions are in `specs/`, in words in `docs/GUARD.md`. Each function here carries a law about them. None does anything
 //! when it runs.
+//!
+//! The laws are over the meaning alone, so they are proved beside the checker. They are of a guard at every depth (`guarded`), with subselects
+//! and groups. Without subselects that is `restricted`, which `restrict` makes. Several policies act in turn, and a database is cut by all of
+//! them at once, so their order is of no account.
 #![tactic(auto)]
 
 ghost use Rattle.std.specs.Prelude.{◌≡◌, List, []};

@@ -2,6 +2,23 @@
 //!
 //! The definitions are in `specs/`, in words in `docs/MEANING.md`. Each function here carries laws about them. None does anything
 //! when it runs.
+//!
+//! The meaning needs the definitions of the rules and not the checker, so its laws are proved beside `sql_rules_check`; `sql_rows` joins the
+//! two.
+//!
+//! A database is a function of a table's declaration, and a value in a row is found by its column's whole declaration. So no table is looked
+//! up by name, and no premise says that names differ.
+//!
+//! Where NULL comes in an order is a choice for each direction (`NullPlaces`), the same in all orders of a statement and its subselects:
+//! servers differ, and the laws hold for all four choices. Texts compare byte by byte. A server's collation is another order, and the types
+//! fit all the same.
+//!
+//! The columns of a group are read in one row of it, any, for all of them: one row for each column could pair values that no row has. An
+//! aggregate in ON, which the rule Grouping lets pass, counts one row.
+//!
+//! DISTINCT keeps the first of each key of rows in any order. The definition is a line, and that it is any one row of each key is a law
+//! (`first_is_any`). DISTINCT ON sorts all lines first and then leaves the first of each key, as PostgreSQL does. That this is the least by
+//! the order is a law (`first_by_the_order_is_left`), so the definition asks nothing of the order of values.
 #![tactic(auto)]
 
 ghost use Rattle.std.specs.Prelude.{◌≡◌, ◌↔◌, List, [], Some, map};

@@ -1,6 +1,16 @@
 //! Laws on statements that break none of the rules.
 //!
 //! Each function carries laws about the definitions in `specs/` of the crates below. None does anything when it runs.
+//!
+//! That an accepted statement has a text, and which tree that is, are laws over definitions, so they are proved beside the checker. `compile`
+//! cites them.
+//!
+//! A position in an order has four bytes, so its number is small enough to be read back. The laws have that as a premise (`PlacesAreCounted`),
+//! and the checker's loop over the flat list gives it.
+//!
+//! Only in statements that are safe to prepare may lists be exchanged for lists of other lengths, also in what is said of rules. Everywhere
+//! but on PostgreSQL a list is written value by value, so its length shows in the text; and on Bracket each value takes a number, so a longer
+//! list may break TooManyBinds.
 #![tactic(auto)]
 
 ghost use Rattle.std.specs.Prelude.{◌≡◌, ◌≢◌, ◌↔◌, Bool, None, IsTrue, length, map, pos};
