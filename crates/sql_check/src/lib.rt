@@ -2,7 +2,7 @@
 //! the same but for the types of a flat statement, in one loop; and whether a statement's values fit their types.
 //!
 //! Whether values fit is asked apart from the rules (`values_fit`), and takes no memory. A value that does not fit breaks TypeMismatch, so
-//! statements of one shape break the same rules only where their values fit.
+//! statements of one shape need not break the same rules. Where the values of both fit, they do.
 #![tactic(auto)]
 
 mod answer;
