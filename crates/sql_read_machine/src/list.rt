@@ -28,7 +28,18 @@ fn mark_of(e: &Expression) -> Mark
 {
     match e {
         Expression::Placeholder(mark) => *mark,
-        _ => None,
+        Expression::Path(_)
+        | Expression::SingleValue(_)
+        | Expression::Exists(_)
+        | Expression::Compared(_, _, _)
+        | Expression::Connected(_, _, _)
+        | Expression::Not(_)
+        | Expression::NullTest(_, _)
+        | Expression::CountAll
+        | Expression::Count(_)
+        | Expression::InList(_, _, _, _)
+        | Expression::InQuery(_, _, _)
+        | Expression::Constant(_) => None,
     }
 }
 

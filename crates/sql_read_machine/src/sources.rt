@@ -129,7 +129,18 @@ fn from_expression(alloc: Global, stack: &mut Stack, e: Expression) -> Result<()
 {
     match &e {
         Expression::SingleValue(_) => from_query(stack, query_in(e)),
-        _ => from_table(alloc, stack, e),
+        Expression::Path(_)
+        | Expression::Placeholder(_)
+        | Expression::Exists(_)
+        | Expression::Compared(_, _, _)
+        | Expression::Connected(_, _, _)
+        | Expression::Not(_)
+        | Expression::NullTest(_, _)
+        | Expression::CountAll
+        | Expression::Count(_)
+        | Expression::InList(_, _, _, _)
+        | Expression::InQuery(_, _, _)
+        | Expression::Constant(_) => from_table(alloc, stack, e),
     }
 }
 
