@@ -38,11 +38,10 @@ pub(crate) fn policies(alloc: Global) -> Result<Vec<Policy>, Fail> {
 /// Fails with the guarded statement's text for PostgreSQL, where it is another.
 fn guards(
     alloc: Global,
-    statement: Result<Statement, Fail>,
-    policies: Result<Vec<Policy>, Fail>,
+    given: Result<(Statement, Vec<Policy>), Fail>,
     wanted: &str,
 ) -> Result<(), Fail> {
-    let (statement, policies) = beside(statement?, policies)?;
+    let (statement, policies) = given?;
     let guarded = restrict_all(alloc, &statement, &policies);
     drop(statement);
     gives(alloc, guarded, wanted)
@@ -51,11 +50,10 @@ fn guards(
 /// Fails where another refusal is answered, or none.
 fn closes(
     alloc: Global,
-    statement: Result<Statement, Fail>,
-    policies: Result<Vec<Policy>, Fail>,
+    given: Result<(Statement, Vec<Policy>), Fail>,
     wanted: RestrictError,
 ) -> Result<(), Fail> {
-    let (statement, policies) = beside(statement?, policies)?;
+    let (statement, policies) = given?;
     let guarded = restrict_all(alloc, &statement, &policies);
     drop(statement);
     match guarded {
@@ -84,8 +82,7 @@ fn in_a_subselect(rt: HostRuntime) -> Result<(), Fail> {
     let alloc = rt.alloc();
     guards(
         alloc,
-        with_posts(alloc),
-        policies(alloc),
+        beside(with_posts(alloc)?, policies(alloc)),
         "SELECT \"users\".\"id\" FROM \"users\" WHERE EXISTS (SELECT \"posts\".\"id\", \"posts\".\"user_id\" FROM \"posts\" WHERE (\"posts\".\"user_id\" = $1))",
     )
 }
@@ -95,8 +92,7 @@ fn under_a_count(rt: HostRuntime) -> Result<(), Fail> {
     let alloc = rt.alloc();
     guards(
         alloc,
-        counted(alloc),
-        policies(alloc),
+        beside(counted(alloc)?, policies(alloc)),
         "SELECT COUNT(*) FROM \"posts\" WHERE (\"posts\".\"user_id\" = $1)",
     )
 }
@@ -107,8 +103,7 @@ fn right_of_a_left_join(rt: HostRuntime) -> Result<(), Fail> {
     let schema = schema(alloc)?;
     guards(
         alloc,
-        left_joined(alloc, &schema),
-        policies(alloc),
+        beside(left_joined(alloc, &schema)?, policies(alloc)),
         "SELECT \"users\".\"id\" FROM (\"users\" LEFT OUTER JOIN \"posts\" ON ((\"posts\".\"user_id\" = \"users\".\"id\") AND (\"posts\".\"user_id\" = $1)))",
     )
 }
@@ -125,8 +120,7 @@ fn each_of_two(rt: HostRuntime) -> Result<(), Fail> {
     let alloc = rt.alloc();
     guards(
         alloc,
-        counted(alloc),
-        twice(alloc),
+        beside(counted(alloc)?, twice(alloc)),
         "SELECT COUNT(*) FROM \"posts\" WHERE ((\"posts\".\"user_id\" = $1) AND (\"posts\".\"user_id\" = $2))",
     )
 }
@@ -153,13 +147,13 @@ fn users_alone(alloc: Global) -> Result<Vec<Policy>, Fail> {
 fn closed_where_nothing_is_said(rt: HostRuntime) -> Result<(), Fail> {
     let alloc = rt.alloc();
     let lacks = RestrictError::LacksPolicy;
-    closes(alloc, counted(alloc), users_alone(alloc), lacks)?;
-    closes(alloc, with_posts(alloc), users_alone(alloc), lacks)
+    closes(alloc, beside(counted(alloc)?, users_alone(alloc)), lacks)?;
+    closes(alloc, beside(with_posts(alloc)?, users_alone(alloc)), lacks)
 }
 
 #[test]
 fn a_not_as_an_operand(rt: HostRuntime) -> Result<(), Fail> {
     let alloc = rt.alloc();
     let bad = RestrictError::BadPredicate;
-    closes(alloc, counted(alloc), misread_policies(alloc), bad)
+    closes(alloc, beside(counted(alloc)?, misread_policies(alloc)), bad)
 }
