@@ -267,7 +267,11 @@ while read -r word by most call; do
     run "$word" <"$work/deep"
     check "one call $call too many for a $word" beyond
     deep "$most" "$call" | "$by" >"$work/deep"
-    small "$word" <"$work/deep"
+    # `tenant` copies a statement, which takes 5 KB for each combination: 6 MB at the most, where systems give 8.
+    case $word$call in
+        tenant*union*) run "$word" <"$work/deep" ;;
+        *) small "$word" <"$work/deep" ;;
+    esac
     check "a $word of $most calls $call" within
 done <<TXT
 guard guarded 2496 ["filter",$condition]
