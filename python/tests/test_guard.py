@@ -89,6 +89,9 @@ class Guards(unittest.TestCase):
     def test_what_the_guard_refuses(self) -> None:
         session = self.session()
         for made in (query(Posts).count(), query(Users).filter(query(Posts).exists()), query(Posts).group_by(Posts.id).select(count())):
+            if support.engine().has("tenant"):
+                self.assertIn("author_id` = ?", session.build(made).sql)
+                continue
             with self.assertRaises(Refused) as caught:
                 session.build(made)
             self.assertEqual(caught.exception.rule, "OutOfKind")
@@ -102,8 +105,14 @@ class Guards(unittest.TestCase):
     def test_several_guarded_tables(self) -> None:
         session = self.session(guards={Posts: Posts.author_id == 1, Comments: Comments.user_id == 2}, shared=[])
         self.assertIn("user_id", session.build(query(Comments)).sql)
+        both = query(Posts).join(Comments)
+        if support.engine().has("tenant"):
+            text = session.build(both).sql
+            self.assertIn("author_id` = ?", text)
+            self.assertIn("user_id` = ?", text)
+            return
         with self.assertRaises(NotYetGuarded) as caught:
-            session.build(query(Posts).join(Comments))
+            session.build(both)
         self.assertIsInstance(caught.exception, NotImplementedError)
 
     def test_the_command_tenant(self) -> None:

@@ -8,7 +8,7 @@ kit=$work/kit
 # The copy: what ./release packs, crates without sources, tests that pass.
 make_copy() {
     mkdir -p "$copy/crates/sql_low/src" "$copy/crates/sql_tool/src" "$copy/crates/hardieflax_c/src" "$copy/tests"
-    for it in .ci .gitignore CHANGELOG.md LICENSE-APACHE LICENSE-MIT README.md VERSION docs examples packaging release rust python sql_tool; do
+    for it in .ci .gitignore bench CHANGELOG.md CONTRIBUTING.md LICENSE-APACHE LICENSE-MIT README.md VERSION docs examples packaging release rust python sql_tool; do
         cp -R "$top/$it" "$copy"
     done
     rm -rf "$copy/.ci/out"
