@@ -1,5 +1,6 @@
 pub mod Bytes
 pub mod EachItem
+pub mod Filling
 pub mod Pairs
 pub mod Nesting
 pub mod Numbers

@@ -9,7 +9,6 @@ mod within;
 
 pub use call::{Reply, answer};
 pub use responder::Responder;
-pub use session::{Session, requests};
+pub use session::Session;
 pub use sql_dialect::Dialect;
-pub use sql_tool_document::Request;
 pub use sql_tool_run::{Command, LIMIT, Status};

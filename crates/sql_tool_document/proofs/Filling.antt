@@ -1,0 +1,128 @@
+-- A tree that is filled stands for the data that is filled.
+use Rattle.std.proofs.Common.{◌≡◌, ◌∙◌, ℕ, List, [], ◌∷◌, ◌++◌, map, Bool, true, false, cond, codes, Option, Some, None, option_map, option_and_then, Ordering, Less, Equal, Greater, refl, sym, ap}
+use Rattle.std.specs.Borrow.{Bor}
+use Rattle.std.specs.Option.{unwrap_or}
+use Rattle.std.specs.Ordering.{nat_cmp, match_ordering}
+use Rattle.std.specs.Cmp.Lexicographic.{slice_cmp}
+use Rattle.std.specs.Str.{bytes_eq}
+use Rattle.json.specs.Find as json_find
+use Rattle.json.specs.Json as json
+use Rattle.json.specs.Value.{items_of, members_of}
+use Rattle.serde_json.specs.Data.{Data, array, object, Items, item, Members, no_members, member, put}
+use Rattle.serde_json.specs.Find.{get, as_str}
+use Rattle.sql_tool_document.proofs.Seen.{get-seen}
+use Rattle.sql_tool_document.specs.Members.{single}
+use Rattle.sql_tool_document.specs.Places.{scalar, value_for, placed, filled, filled_items, filled_members}
+use Rattle.sql_tool_document.specs.Scalar.{◌>>=◌}
+use Rattle.sql_tool_document.specs.inside.Filled.{scalar_json, json_for, placed_json, filled_json, items_filled, members_filled}
+use Rattle.sql_tool_document.specs.inside.Seen.{data_of, data_items, data_members}
+
+scalar-seen : (j : json.Json) → scalar (data_of j) ≡ option_map data_of (scalar_json j)
+scalar-seen json.null = refl
+scalar-seen (json.boolean b) = refl
+scalar-seen (json.number s) = refl
+scalar-seen (json.string s) = refl
+scalar-seen (json.array js) = refl
+scalar-seen (json.object ms) = refl
+
+then-scalar : (o : Option json.Json)
+    → (option_map data_of o >>= scalar) ≡ option_map data_of (o >>= scalar_json)
+then-scalar None = refl
+then-scalar (Some j) = scalar-seen j
+
+-- the value of a name
+for-seen : (values : Option json.Json) (name : List ℕ)
+    → value_for (option_map data_of values) name ≡ option_map data_of (json_for values name)
+for-seen None name = refl
+for-seen (Some v) name = ap (λ o. o >>= scalar) (get-seen name v) ∙ then-scalar (json_find.get name v)
+
+then-for : (values : Option json.Json) (o : Option (List ℕ))
+    → (o >>= value_for (option_map data_of values)) ≡ option_map data_of (o >>= json_for values)
+then-for values None = refl
+then-for values (Some name) = for-seen values name
+
+if-for : (values : Option json.Json) (b : Bool) (o : Option (List ℕ))
+    → cond b (o >>= value_for (option_map data_of values)) None ≡ option_map data_of (cond b (o >>= json_for values) None)
+if-for values true o = then-for values o
+if-for values false o = refl
+
+at-place : (values : Option json.Json) (o : Option (List ℕ × Data))
+    → (o >>= λ m. cond (bytes_eq m.0 (codes "value")) (as_str m.1 >>= value_for (option_map data_of values)) None)
+    ≡ option_map data_of (o >>= λ m. cond (bytes_eq m.0 (codes "value")) (as_str m.1 >>= json_for values) None)
+at-place values None = refl
+at-place values (Some m) = if-for values (bytes_eq m.0 (codes "value")) (as_str m.1)
+
+-- what is put at a place
+placed-seen : (values : Option json.Json) (ms : json.Members)
+    → placed (option_map data_of values) (data_members ms no_members) ≡ option_map data_of (placed_json values ms)
+placed-seen values ms = at-place values (single (data_members ms no_members))
+
+put-at : (values : Option Data) (o : Ordering) (a b c : Members)
+    → match_ordering o (filled_members values a) (filled_members values b) (filled_members values c)
+    ≡ filled_members values (match_ordering o a b c)
+put-at values Less a b c = refl
+put-at values Equal a b c = refl
+put-at values Greater a b c = refl
+
+put-filled : (values : Option Data) (k : List ℕ) (d : Data) (ms : Members)
+    → put k (filled values d) (filled_members values ms) ≡ filled_members values (put k d ms)
+put-filled values k d no_members = refl
+put-filled values k d (member l e ms) =
+    ap (λ rest. match_ordering (slice_cmp nat_cmp k l) (member k (filled values d) (member l (filled values e) (filled_members values ms))) (member l (filled values d) (filled_members values ms)) (member l (filled values e) rest))
+    (put-filled values k d ms)
+    ∙ put-at values (slice_cmp nat_cmp k l) (member k d (member l e ms)) (member l d ms) (member l e (put k d ms))
+
+chosen : (o : Option json.Json) (j : json.Json) (d : Data) → data_of j ≡ d
+    → data_of (unwrap_or o j) ≡ unwrap_or (option_map data_of o) d
+chosen None j d is = is
+chosen (Some i) j d is = refl
+
+mutual
+  pub filled-data : (values : Option json.Json) (j : json.Json)
+      → data_of (filled_json values j) ≡ filled (option_map data_of values) (data_of j)
+  filled-data values json.null = refl
+  filled-data values (json.boolean b) = refl
+  filled-data values (json.number s) = refl
+  filled-data values (json.string s) = refl
+  filled-data values (json.array js) = ap array (filled-items values js)
+  filled-data values (json.object ms) =
+      chosen (placed_json values ms) (json.object (members_filled values ms)) _
+      (ap object (filled-members values ms no_members))
+      ∙ ap (λ o. unwrap_or o (object (filled_members (option_map data_of values) (data_members ms no_members))))
+      (sym (placed-seen values ms))
+
+  filled-items : (values : Option json.Json) (js : json.Items)
+      → data_items (items_filled values js) ≡ filled_items (option_map data_of values) (data_items js)
+  filled-items values json.no_items = refl
+  filled-items values (json.item j js) = λ i. item (filled-data values j i) (filled-items values js i)
+
+  filled-members : (values : Option json.Json) (ms : json.Members) (found : Members)
+      → data_members (members_filled values ms) (filled_members (option_map data_of values) found)
+      ≡ filled_members (option_map data_of values) (data_members ms found)
+  filled-members values json.no_members found = refl
+  filled-members values (json.member k j ms) found =
+      ap (λ d. data_members (members_filled values ms) (put k d (filled_members (option_map data_of values) found)))
+      (filled-data values j)
+      ∙ ap (data_members (members_filled values ms)) (put-filled (option_map data_of values) k (data_of j) found)
+      ∙ filled-members values ms (put k (data_of j) found)
+
+-- ---- lists, as loops fill them
+
+pub filled-items_of : (values : Option json.Json) (js : List json.Json)
+    → items_of (map (filled_json values) js) ≡ items_filled values (items_of js)
+filled-items_of values [] = refl
+filled-items_of values (j ∷ js) = ap (json.item (filled_json values j)) (filled-items_of values js)
+
+-- the members by the texts of their keys
+abbrev pub keyed : List (List ℕ × json.Json) → json.Members
+keyed [] = json.no_members
+keyed (m ∷ ms) = json.member m.0 m.1 (keyed ms)
+
+pub keyed-members : (ms : List (Bor (List ℕ) × json.Json)) → members_of ms ≡ keyed (map (λ m. (m.0.now, m.1)) ms)
+keyed-members [] = refl
+keyed-members (m ∷ ms) = ap (json.member m.0.now m.1) (keyed-members ms)
+
+pub keyed-filled : (values : Option json.Json) (ms : List (List ℕ × json.Json))
+    → keyed (map (λ m. (m.0, filled_json values m.1)) ms) ≡ members_filled values (keyed ms)
+keyed-filled values [] = refl
+keyed-filled values (m ∷ ms) = ap (json.member m.0 (filled_json values m.1)) (keyed-filled values ms)
