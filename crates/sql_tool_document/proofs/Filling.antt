@@ -78,51 +78,51 @@ chosen None j d is = is
 chosen (Some i) j d is = refl
 
 mutual
-  pub filled-data : (values : Option json.Json) (j : json.Json)
+  pub filled_data : (values : Option json.Json) (j : json.Json)
       → data_of (filled_json values j) ≡ filled (option_map data_of values) (data_of j)
-  filled-data values json.null = refl
-  filled-data values (json.boolean b) = refl
-  filled-data values (json.number s) = refl
-  filled-data values (json.string s) = refl
-  filled-data values (json.array js) = ap array (filled-items values js)
-  filled-data values (json.object ms) =
+  filled_data values json.null = refl
+  filled_data values (json.boolean b) = refl
+  filled_data values (json.number s) = refl
+  filled_data values (json.string s) = refl
+  filled_data values (json.array js) = ap array (filled_items_data values js)
+  filled_data values (json.object ms) =
       chosen (placed_json values ms) (json.object (members_filled values ms)) _
-      (ap object (filled-members values ms no_members))
+      (ap object (filled_members_data values ms no_members))
       ∙ ap (λ o. unwrap_or o (object (filled_members (option_map data_of values) (data_members ms no_members))))
       (sym (placed-seen values ms))
 
-  filled-items : (values : Option json.Json) (js : json.Items)
+  filled_items_data : (values : Option json.Json) (js : json.Items)
       → data_items (items_filled values js) ≡ filled_items (option_map data_of values) (data_items js)
-  filled-items values json.no_items = refl
-  filled-items values (json.item j js) = λ i. item (filled-data values j i) (filled-items values js i)
+  filled_items_data values json.no_items = refl
+  filled_items_data values (json.item j js) = λ i. item (filled_data values j i) (filled_items_data values js i)
 
-  filled-members : (values : Option json.Json) (ms : json.Members) (found : Members)
+  filled_members_data : (values : Option json.Json) (ms : json.Members) (found : Members)
       → data_members (members_filled values ms) (filled_members (option_map data_of values) found)
       ≡ filled_members (option_map data_of values) (data_members ms found)
-  filled-members values json.no_members found = refl
-  filled-members values (json.member k j ms) found =
+  filled_members_data values json.no_members found = refl
+  filled_members_data values (json.member k j ms) found =
       ap (λ d. data_members (members_filled values ms) (put k d (filled_members (option_map data_of values) found)))
-      (filled-data values j)
+      (filled_data values j)
       ∙ ap (data_members (members_filled values ms)) (put-filled (option_map data_of values) k (data_of j) found)
-      ∙ filled-members values ms (put k (data_of j) found)
+      ∙ filled_members_data values ms (put k (data_of j) found)
 
 -- ---- lists, as loops fill them
 
-pub filled-items_of : (values : Option json.Json) (js : List json.Json)
+pub filled_list : (values : Option json.Json) (js : List json.Json)
     → items_of (map (filled_json values) js) ≡ items_filled values (items_of js)
-filled-items_of values [] = refl
-filled-items_of values (j ∷ js) = ap (json.item (filled_json values j)) (filled-items_of values js)
+filled_list values [] = refl
+filled_list values (j ∷ js) = ap (json.item (filled_json values j)) (filled_list values js)
 
 -- the members by the texts of their keys
 abbrev pub keyed : List (List ℕ × json.Json) → json.Members
 keyed [] = json.no_members
 keyed (m ∷ ms) = json.member m.0 m.1 (keyed ms)
 
-pub keyed-members : (ms : List (Bor (List ℕ) × json.Json)) → members_of ms ≡ keyed (map (λ m. (m.0.now, m.1)) ms)
-keyed-members [] = refl
-keyed-members (m ∷ ms) = ap (json.member m.0.now m.1) (keyed-members ms)
+pub members_keyed : (ms : List (Bor (List ℕ) × json.Json)) → members_of ms ≡ keyed (map (λ m. (m.0.now, m.1)) ms)
+members_keyed [] = refl
+members_keyed (m ∷ ms) = ap (json.member m.0.now m.1) (members_keyed ms)
 
-pub keyed-filled : (values : Option json.Json) (ms : List (List ℕ × json.Json))
+pub keyed_filled : (values : Option json.Json) (ms : List (List ℕ × json.Json))
     → keyed (map (λ m. (m.0, filled_json values m.1)) ms) ≡ members_filled values (keyed ms)
-keyed-filled values [] = refl
-keyed-filled values (m ∷ ms) = ap (json.member m.0 (filled_json values m.1)) (keyed-filled values ms)
+keyed_filled values [] = refl
+keyed_filled values (m ∷ ms) = ap (json.member m.0 (filled_json values m.1)) (keyed_filled values ms)

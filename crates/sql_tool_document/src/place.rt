@@ -108,7 +108,7 @@ fn fill_members<'a>(
 }
 
 /// The template with a value at each place.
-#[tactic(auto, using(crate::proofs::Filling::filled-seen))]
+#[tactic(auto, using(crate::proofs::Filling::filled_data))]
 pub(crate) fn fill_places<'a>(
     alloc: Global,
     template: &Value<'a>,

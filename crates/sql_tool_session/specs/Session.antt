@@ -103,11 +103,11 @@ IsMade schema (Some t) q r = IsGuarded schema t q r
 abbrev pub AreMade : Declarations → List Asked → List StatementRequest → Type 0
 AreMade schema [] [] = Unit {0}
 AreMade schema [] (r ∷ rs) = ⊥
-AreMade schema (a ∷ as) [] = ⊥
-AreMade schema (a ∷ as) (r ∷ rs) = IsMade schema a.tenant a.request r × AreMade schema as rs
+AreMade schema (a ∷ more) [] = ⊥
+AreMade schema (a ∷ more) (r ∷ rs) = IsMade schema a.tenant a.request r × AreMade schema more rs
 
 -- Over the schema the session has answered these requests, by this text, and knows how many they are. The text is the lines of what is
--- made of them, with ids counted over all (`output` and `guarded_output` of `Session::answer`); `AreWritten` also says that the session
+-- made of them, with ids counted over all (`answers_are_outputs`); `AreWritten` also says that the session
 -- finds their ids.
 pub record HasAnswered (schema : Declarations) (asked : List Asked) (text : List ℕ) (s : Session) : Type 0 where
   pub schema : s.cache.schema ≡ schema

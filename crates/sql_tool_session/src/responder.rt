@@ -7,7 +7,7 @@ ghost use Rattle.sql_tool_run.specs.declared.status.Status.{Status};
 ghost use Rattle.sql_schema.specs.Declarations.{Declarations};
 ghost use Rattle.sql_tool_document.specs.Trees.{request_tree};
 ghost use Rattle.sql_tool_guard.specs.Trees.{tenant_tree};
-ghost use Rattle.sql_tool_session.specs.Session.{Asked, Asking as AskingTree, HasAnswered, IsGuardedOpening, IsGuardedCall, IsPlainCall, IsPlainOpening, asked_by, asked_for, opened_by, opening_status, template_by, template_of};
+ghost use Rattle.sql_tool_session.specs.Session.{Asked, Asking as AskingTree, HasAnswered, asked_by, asked_for, opened_by, opening_status, template_by, template_of};
 ghost use Rattle.sql_tool_session.specs.Within.{HasTooDeep, before_too_deep};
 ghost use Rattle.sql_tool_session.specs.declared.session.Session.{Session as SessionTree};
 
@@ -103,7 +103,6 @@ impl Responder {
     /// Opens a session over the document's schema, in place of an earlier one, with the document's output. Where the document has policies
     /// the session keeps them, and each of its statements is guarded by them, with the call's values at their places. A request that nests
     /// too deep ends the call with NoMemory: then the session has answered the requests before it, and the answer is their lines.
-    #[tactic(auto, using(crate::proofs::Asking::plain_opening, crate::proofs::Asking::guarded_opening))]
     pub fn open(&mut self, alloc: Global, document: &[u8]) -> Status
         ensures opened { result ≡ Status.Done → (a : AskingTree) × (session : SessionTree)
             × (opened_by document.now ≡ Some a) × (self.new.session ≡ Some session)
@@ -127,9 +126,6 @@ impl Responder {
         ensures status { (result ≡ Status.NoMemory) ⊎ (result ≡ opening_status document.now) }
         // More bytes than the limit are always TooLarge.
         ensures too_large { greatest_input < length document.now → result ≡ Status.TooLarge }
-        // A document without policies opens as `build` answers it, and one with policies asks for a tenant.
-        ensures plain { IsPlainOpening document.now }
-        ensures guarded { IsGuardedOpening document.now }
     {
         self.session = None;
         self.answer = Vec::new(alloc);
@@ -142,7 +138,6 @@ impl Responder {
     /// Answers the requests of a document that declares no table, over the session. In a session with policies they hold with the
     /// document's values at their places. A request that nests too deep ends the call with NoMemory: then the session has answered the
     /// requests before it, the answer is their lines, and the session goes on. Where memory runs out there is no session from then on.
-    #[tactic(auto, using(crate::proofs::Asking::plain_call, crate::proofs::Asking::guarded_call))]
     pub fn next(&mut self, alloc: Global, document: &[u8]) -> Status
         // Usage exactly where there is no session.
         ensures usage { (result ≡ Status.Usage) ↔ (self.old.session ≡ None) }
@@ -182,9 +177,6 @@ impl Responder {
         ensures status { (result ≡ Status.Done) ⊎ ((result ≡ Status.Usage)
             ⊎ ((result ≡ Status.BadDocument) ⊎ ((result ≡ Status.TooLarge)
             ⊎ (result ≡ Status.NoMemory)))) }
-        // A session without policies reads the bytes as `build` does, and in one with policies they ask for a tenant.
-        ensures plain { (before : SessionTree) → IsPlainCall before document.now }
-        ensures guarded { (before : SessionTree) → IsGuardedCall before document.now }
     {
         self.answer = Vec::new(alloc);
         let Some(session) = mem::replace(&mut self.session, None) else {

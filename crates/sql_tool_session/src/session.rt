@@ -2,12 +2,9 @@ ghost use Rattle.std.specs.Prelude.{◌≡◌, ◌⊎◌, ◌∷◌, ◌++◌, �
 ghost use Rattle.sql_schema.specs.Declarations.{Declarations};
 ghost use Rattle.sql_tool_run.specs.Limits.{greatest_input};
 ghost use Rattle.sql_tool_run.specs.declared.status.Status.{Status};
-ghost use Rattle.sql_tool_document.specs.Documents.{Document as DocumentTree};
-ghost use Rattle.sql_tool_document.specs.Trees.{document_tree, named_policy_tree, request_tree};
-ghost use Rattle.sql_tool_build.specs.Output.{IsOutput, StatementRequest, line_text};
+ghost use Rattle.sql_tool_document.specs.Trees.{named_policy_tree, request_tree};
+ghost use Rattle.sql_tool_build.specs.Output.{StatementRequest, line_text};
 ghost use Rattle.sql_tool_build.specs.inside.Keys.{HasLine, seen_at};
-ghost use Rattle.sql_tool_guard.specs.Output.{IsGuardedOutput};
-ghost use Rattle.sql_tool_guard.specs.Tenants.{Tenant as TenantTree};
 ghost use Rattle.sql_tool_guard.specs.Trees.{tenant_tree};
 ghost use Rattle.sql_tool_session.specs.Session.{Asked, Asking as AskingTree, HasAnswered, IsMade, asked_by, asked_for, opened_by, opening_status, template_by, template_of, tenant_in};
 
@@ -162,7 +159,6 @@ impl Session {
     /// The lines of these requests, in order, for this tenant, as they are in the output of one document that has the requests of all
     /// calls so far: each id is the number of the session's first request of that dialect and shape. Where memory runs out the session
     /// is given up, since it may know of requests whose lines are lost.
-    #[tactic(auto, using(crate::proofs::Answered::answered_output, crate::proofs::Answered::guarded_output))]
     pub(crate) fn answer(
         self,
         alloc: Global,
@@ -175,12 +171,6 @@ impl Session {
             → HasAnswered schema (asked ++ asked_for (option_map tenant_tree tenant.now)
             (map request_tree requests.now)) (text ++ more.1.items) more.0) }
         ensures template { IfOk result (λ more. more.0.template ≡ self.template) }
-        // What was answered for nobody is the output of `build`, and for one tenant that of `tenant`.
-        ensures output { (d : DocumentTree) (text : List ℕ) (session : Session)
-            → HasAnswered d.schema (asked_for None d.requests) text session → IsOutput d text }
-        ensures guarded_output { (d : DocumentTree) (t : TenantTree) (text : List ℕ)
-            (session : Session) → HasAnswered d.schema (asked_for (Some t) d.requests) text session
-            → IsGuardedOutput d t text }
     {
         let mut session = self;
         let lines = session.lines(alloc, tenant, requests);
