@@ -1,5 +1,7 @@
 -- A tree that is filled stands for the data that is filled.
-use Rattle.std.proofs.Common.{◌≡◌, ◌∙◌, ℕ, List, [], ◌∷◌, ◌++◌, map, Bool, true, false, cond, codes, Option, Some, None, option_map, option_and_then, Ordering, Less, Equal, Greater, refl, sym, ap}
+use Rattle.std.proofs.Common.{◌≡◌, ◌∙◌, ◌+◌, ◌<◌, ℕ, List, [], ◌∷◌, ◌++◌, length, map, take, get_or, Bool, true, false, cond, codes, Option, Some, None, option_map, option_and_then, Ordering, Less, Equal, Greater, refl, sym, ap}
+use Rattle.std.proofs.lemmas.List.{map_push, take_more}
+use Rattle.std.specs.declared.alloc.Global.{Global}
 use Rattle.std.specs.Borrow.{Bor}
 use Rattle.std.specs.Option.{unwrap_or}
 use Rattle.std.specs.Ordering.{nat_cmp, match_ordering}
@@ -7,7 +9,8 @@ use Rattle.std.specs.Cmp.Lexicographic.{slice_cmp}
 use Rattle.std.specs.Str.{bytes_eq}
 use Rattle.json.specs.Find as json_find
 use Rattle.json.specs.Json as json
-use Rattle.json.specs.Value.{items_of, members_of}
+use Rattle.json.specs.Value.{items_of, items_view, members_view, value_view}
+use Rattle.json.specs.declared.value.Value.{Value}
 use Rattle.serde_json.specs.Data.{Data, array, object, Items, item, Members, no_members, member, put}
 use Rattle.serde_json.specs.Find.{get, as_str}
 use Rattle.sql_tool_document.proofs.Seen.{get-seen}
@@ -108,21 +111,47 @@ mutual
 
 -- ---- lists, as loops fill them
 
-pub filled_list : (values : Option json.Json) (js : List json.Json)
-    → items_of (map (filled_json values) js) ≡ items_filled values (items_of js)
-filled_list values [] = refl
-filled_list values (j ∷ js) = ap (json.item (filled_json values j)) (filled_list values js)
+-- what was filled so far, and one more
+pub fills_on : {X Y : Type 0} (made asked : X → Y) (front xs : List X) (i : ℕ) (x y : X) → i < length xs
+    → x ≡ get_or xs i x → made y ≡ asked x → map made front ≡ map asked (take i xs)
+    → map made (front ++ y ∷ []) ≡ map asked (take (i + 1) xs)
+fills_on made asked front xs i x y lt is same so_far =
+    map_push made front y ∙ (λ j. so_far j ++ same j ∷ []) ∙ sym (map_push asked (take i xs) x)
+    ∙ ap (λ z. map asked (take i xs ++ z ∷ [])) is ∙ ap (map asked) (sym (take_more xs i x lt))
+
+filled_views : (values : Option json.Json) (vs : List (Value Global))
+    → items_of (map (λ v. filled_json values (value_view v)) vs) ≡ items_filled values (items_view vs)
+filled_views values [] = refl
+filled_views values (v ∷ vs) = ap (json.item (filled_json values (value_view v))) (filled_views values vs)
+
+pub items_done : (values : Option json.Json) (made vs : List (Value Global))
+    → map value_view made ≡ map (λ v. filled_json values (value_view v)) vs
+    → items_view made ≡ items_filled values (items_view vs)
+items_done values made vs is = ap items_of is ∙ filled_views values vs
 
 -- the members by the texts of their keys
-abbrev pub keyed : List (List ℕ × json.Json) → json.Members
+abbrev keyed : List (List ℕ × json.Json) → json.Members
 keyed [] = json.no_members
 keyed (m ∷ ms) = json.member m.0 m.1 (keyed ms)
 
-pub members_keyed : (ms : List (Bor (List ℕ) × json.Json)) → members_of ms ≡ keyed (map (λ m. (m.0.now, m.1)) ms)
-members_keyed [] = refl
-members_keyed (m ∷ ms) = ap (json.member m.0.now m.1) (members_keyed ms)
+abbrev pub Entry : Type 0
+Entry = Bor (List ℕ) × Value Global
 
-pub keyed_filled : (values : Option json.Json) (ms : List (List ℕ × json.Json))
-    → keyed (map (λ m. (m.0, filled_json values m.1)) ms) ≡ members_filled values (keyed ms)
+abbrev pub entry_view : Entry → List ℕ × json.Json
+entry_view m = (m.0.now, value_view m.1)
+
+abbrev pub entry_filled : Option json.Json → Entry → List ℕ × json.Json
+entry_filled values m = (m.0.now, filled_json values (value_view m.1))
+
+keyed_views : (ms : List Entry) → keyed (map entry_view ms) ≡ members_view ms
+keyed_views [] = refl
+keyed_views (m ∷ ms) = ap (json.member m.0.now (value_view m.1)) (keyed_views ms)
+
+keyed_filled : (values : Option json.Json) (ms : List Entry)
+    → keyed (map (entry_filled values) ms) ≡ members_filled values (members_view ms)
 keyed_filled values [] = refl
-keyed_filled values (m ∷ ms) = ap (json.member m.0 (filled_json values m.1)) (keyed_filled values ms)
+keyed_filled values (m ∷ ms) = ap (json.member m.0.now (filled_json values (value_view m.1))) (keyed_filled values ms)
+
+pub members_done : (values : Option json.Json) (made ms : List Entry)
+    → map entry_view made ≡ map (entry_filled values) ms → members_view made ≡ members_filled values (members_view ms)
+members_done values made ms is = sym (keyed_views made) ∙ ap keyed is ∙ keyed_filled values ms

@@ -34,10 +34,7 @@ fn value_for<'a>(values: Option<&Value<'a>>, name: &str) -> Option<Value<'a>>
 }
 
 /// What is put into an object of these members, where it is a place and its name has a value.
-fn placed<'a>(
-    members: &Vec<(&'a str, Value<'a>)>,
-    values: Option<&Value<'a>>,
-) -> Option<Value<'a>>
+fn placed<'a>(members: &Vec<(&'a str, Value<'a>)>, values: Option<&Value<'a>>) -> Option<Value<'a>>
     ensures { option_map value_view result
         ≡ placed_json (option_map (λ v. value_view v.now) values.entry)
         (members_view members.now.items) }

@@ -138,11 +138,7 @@ fn call_with(alloc: Global, template: &Template, bytes: &[u8]) -> Result<Call, R
 
 /// The document that the bytes are, in a session with these policies, else `NotADocument`; or `NoMemory`.
 #[tactic(auto, unfolding(crate::specs::Sessions::call_in))]
-pub fn read_call(
-    alloc: Global,
-    template: &Option<Template>,
-    bytes: &[u8],
-) -> Result<Call, Refusal>
+pub fn read_call(alloc: Global, template: &Option<Template>, bytes: &[u8]) -> Result<Call, Refusal>
     ensures { Gives call_tree result (call_in (option_map template_tree template.now) bytes.now) }
 {
     match template {

@@ -92,11 +92,7 @@ fn tenant_named(
 
 impl Session {
     /// A session over this schema, with these policies, that has answered nothing.
-    fn new(
-        alloc: Global,
-        schema: Schema,
-        template: Option<Template>,
-    ) -> Result<Session, AllocError>
+    fn new(alloc: Global, schema: Schema, template: Option<Template>) -> Result<Session, AllocError>
         ensures { IfOk result (λ session. HasAnswered schema [] [] session
             × (session.template ≡ template)) }
     {

@@ -1,6 +1,8 @@
 //! The program's commands over bytes in memory, and sessions.
 
-use crate::examples::{FILTER, MORE, MORE_LINES, OPEN_TENANTS, READ, TENANT_8, TENANT_8_LINES, TEXT};
+use crate::examples::{
+    FILTER, MORE, MORE_LINES, OPEN_TENANTS, READ, TENANT_8, TENANT_8_LINES, TEXT,
+};
 use sql_test_kit::is;
 use sql_tool_document::{Call, Opening, Template, read_call, read_opening};
 use sql_tool_guard::policies_in;
