@@ -107,6 +107,12 @@ void hardieflax_free(hardieflax *handle);
 /* The version of the library, as "0.1.0": a text that stays. CONTRIBUTING.md says what may change from one version to another. */
 const char *hardieflax_version(void);
 
+/* The toolchain that the library is proved with, as README.md names it: a text that stays. */
+const char *hardieflax_kit(void);
+
+/* The name of a status, as "BadDocument": a text that stays. It is "Unknown" for a number that no call returns. */
+const char *hardieflax_status_name(uint32_t status);
+
 #ifdef __cplusplus
 }
 #endif

@@ -65,11 +65,15 @@ guarded_made schema t [] (r ∷ rs) all = absurd all
 guarded_made schema t (q ∷ qs) [] all = absurd all
 guarded_made schema t (q ∷ qs) (r ∷ rs) all = (all.0, guarded_made schema t qs rs all.1)
 
+pub plain_output : (d : Document) (text : List ℕ) (rs : List StatementRequest) → AreMade d.schema (asked_for None d.requests) rs
+    → (ls : List Line) → AreLines d.schema [] rs ls → text ≡ lines_text ls → IsOutput d text
+plain_output d text rs made ls lines is =
+    (ls, subst (λ x. AreLines d.schema [] x ls) (plain_made d.schema d.requests rs made) lines, is)
+
 pub answered_output : (d : Document) (text : List ℕ) (s : Session)
     → HasAnswered d.schema (asked_for None d.requests) text s → IsOutput d text
 answered_output d text s has =
-    let (rs, made, (ls, lines, tells, is)) = has.written in
-    (ls, subst (λ x. AreLines d.schema [] x ls) (plain_made d.schema d.requests rs made) lines, is)
+    let (rs, made, (ls, lines, tells, is)) = has.written in plain_output d text rs made ls lines is
 
 pub answered_guarded : (d : Document) (t : Tenant) (text : List ℕ) (s : Session)
     → HasAnswered d.schema (asked_for (Some t) d.requests) text s → IsGuardedOutput d t text

@@ -1,4 +1,4 @@
-mod Answered
-mod Asking
+pub mod Answered
+pub mod Asking
 mod Calls
 mod TooDeep
