@@ -71,6 +71,9 @@ uint32_t hardieflax_build(hardieflax *handle, const uint8_t *document, size_t le
 /* As `guard`: the same, each statement restricted to the rows of the document's tenant. */
 uint32_t hardieflax_guard(hardieflax *handle, const uint8_t *document, size_t length);
 
+/* As `tenant`: the same, guarded by the document's policies. */
+uint32_t hardieflax_tenant(hardieflax *handle, const uint8_t *document, size_t length);
+
 /* As `read D`: a line with the text, as the grammar reads it. */
 uint32_t hardieflax_read(hardieflax *handle, uint32_t dialect, const uint8_t *text, size_t length);
 

@@ -42,6 +42,8 @@ static call call_of(const char *word) {
         return hardieflax_build;
     if (strcmp(word, "guard") == 0)
         return hardieflax_guard;
+    if (strcmp(word, "tenant") == 0)
+        return hardieflax_tenant;
     return strcmp(word, "session") == 0 ? hardieflax_open : NULL;
 }
 

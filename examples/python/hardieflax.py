@@ -79,6 +79,7 @@ _INPUT = [ctypes.c_char_p, ctypes.c_size_t]
 _CALLS = {
     "build": _INPUT,
     "guard": _INPUT,
+    "tenant": _INPUT,
     "read": [ctypes.c_uint32, *_INPUT],
     "audit": [ctypes.c_uint32, *_INPUT],
     "open": _INPUT,
@@ -147,6 +148,10 @@ class Hardieflax:
     def guard(self, document: bytes) -> bytes:
         """The same, each statement restricted to the rows of the document's tenant."""
         return self._call("guard", document)
+
+    def tenant(self, document: bytes) -> bytes:
+        """The same, guarded by the document's policies."""
+        return self._call("tenant", document)
 
     def read(self, dialect: Dialect, text: bytes) -> bytes:
         """A line with the text, as the dialect's grammar reads it. ValueError: no such dialect."""

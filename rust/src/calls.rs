@@ -157,6 +157,13 @@ impl Hardieflax {
         self.answer(status)
     }
 
+    /// The same, guarded by the document's policies.
+    pub fn tenant(&mut self, document: &[u8]) -> Lines<'_> {
+        // SAFETY: as above.
+        let status = unsafe { raw::hardieflax_tenant(&mut self.handle, document.as_ptr(), document.len()) };
+        self.answer(status)
+    }
+
     /// A line with the text, as the dialect's grammar reads it.
     pub fn read(&mut self, dialect: Dialect, text: &[u8]) -> Lines<'_> {
         // SAFETY: as above.

@@ -16,6 +16,7 @@ pub struct Handle {
 extern "C" {
     pub fn hardieflax_build(handle: *mut Handle, document: *const u8, length: usize) -> u32;
     pub fn hardieflax_guard(handle: *mut Handle, document: *const u8, length: usize) -> u32;
+    pub fn hardieflax_tenant(handle: *mut Handle, document: *const u8, length: usize) -> u32;
     pub fn hardieflax_read(handle: *mut Handle, dialect: u32, text: *const u8, length: usize) -> u32;
     pub fn hardieflax_audit(handle: *mut Handle, dialect: u32, texts: *const u8, length: usize) -> u32;
     pub fn hardieflax_open(handle: *mut Handle, document: *const u8, length: usize) -> u32;

@@ -24,6 +24,7 @@ fn each_call_passes_what_it_is_given() {
     let mut handle = Hardieflax::new();
     assert_eq!(handle.build(TEXT.as_bytes()), Ok("build - é \0 x"));
     assert_eq!(handle.guard(TEXT.as_bytes()), Ok("guard - é \0 x"));
+    assert_eq!(handle.tenant(TEXT.as_bytes()), Ok("tenant - é \0 x"));
     assert_eq!(handle.open(TEXT.as_bytes()), Ok("open - é \0 x"));
     assert_eq!(handle.next(TEXT.as_bytes()), Ok("next - é \0 x"));
     for (number, dialect) in [Dialect::Pg, Dialect::Mysql, Dialect::Sqlite, Dialect::Bracket].into_iter().enumerate() {

@@ -108,6 +108,8 @@ uint32_t hardieflax_build(hardieflax *handle, const uint8_t *document, size_t le
 
 uint32_t hardieflax_guard(hardieflax *handle, const uint8_t *document, size_t length) { return answer(handle, "guard", NULL, document, length); }
 
+uint32_t hardieflax_tenant(hardieflax *handle, const uint8_t *document, size_t length) { return answer(handle, "tenant", NULL, document, length); }
+
 uint32_t hardieflax_read(hardieflax *handle, uint32_t dialect, const uint8_t *text, size_t length) {
     return dialect > HARDIEFLAX_BRACKET ? HARDIEFLAX_USAGE : answer(handle, "read", DIALECTS[dialect], text, length);
 }

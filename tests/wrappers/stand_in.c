@@ -114,6 +114,10 @@ uint32_t hardieflax_guard(hardieflax *handle, const uint8_t *document, size_t le
     return answer(handle, "guard", -1, document, length);
 }
 
+uint32_t hardieflax_tenant(hardieflax *handle, const uint8_t *document, size_t length) {
+    return answer(handle, "tenant", -1, document, length);
+}
+
 uint32_t hardieflax_read(hardieflax *handle, uint32_t dialect, const uint8_t *text, size_t length) {
     if (dialect > HARDIEFLAX_BRACKET)
         return HARDIEFLAX_USAGE;

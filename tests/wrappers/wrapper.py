@@ -40,6 +40,7 @@ class Wrapper(unittest.TestCase):
         text = "é \0 x".encode()
         self.assertEqual(self.handle.build(text), b"build - " + text)
         self.assertEqual(self.handle.guard(text), b"guard - " + text)
+        self.assertEqual(self.handle.tenant(text), b"tenant - " + text)
         self.assertEqual(self.handle.open(text), b"open - " + text)
         self.assertEqual(self.handle.next(text), b"next - " + text)
         for number, dialect in enumerate((Dialect.PG, Dialect.MYSQL, Dialect.SQLITE, Dialect.BRACKET)):

@@ -57,6 +57,16 @@ pub extern "C" fn hardieflax_guard(alloc: Global, handle: &mut Handle, document:
     number_of(handle.ask(alloc, Command::Guard, document))
 }
 
+/// The same for a document with policies, as `tenant` writes it.
+#[unsafe(no_mangle)]
+pub extern "C" fn hardieflax_tenant(alloc: Global, handle: &mut Handle, document: &[u8]) -> u32
+    requires { IsSound handle.old }
+    ensures { (status : Ending) × (result ≡ code_of status)
+        × IsAnswered command.Tenant document.now handle.old handle.new status }
+{
+    number_of(handle.ask(alloc, Command::Tenant, document))
+}
+
 /// The line of a text, as `read D` writes it. A number of no dialect leaves the handle as it was.
 #[unsafe(no_mangle)]
 pub extern "C" fn hardieflax_read(
