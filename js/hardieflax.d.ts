@@ -175,6 +175,8 @@ export declare class Session {
   private constructor();
   /** Whether it answers: not after `close`, nor after memory ran out. */
   readonly isOpen: boolean;
+  /** The status's word and the lines of more requests, as the library writes them. */
+  lines(requests: readonly Request[]): { status: "Done" | Status; lines: string };
   /**
    * An answer for each request. Where a request nests too deep it throws a HardieflaxError of NoMemory, whose `answered` are the answers
    * before it, and goes on; where memory ran out, without answers, and is closed.

@@ -190,15 +190,20 @@ export class Session {
     return this.#engine !== undefined;
   }
 
+  /** The status's word and the lines of more requests, as the library writes them. */
+  lines(requests) {
+    if (this.#engine === undefined) return { status: "Usage", lines: "" };
+    const answer = this.#engine.ask("next", stringify({ schema: { tables: [] }, requests }));
+    if (answer.status === "NoMemory" && this.#engine.ask("next", NOTHING).status !== "Done") this.close();
+    return answer;
+  }
+
   /**
    * An answer for each request. Where a request nests too deep it throws a HardieflaxError of NoMemory, whose `answered` are the answers
    * before it, and goes on; where memory ran out, without answers, and is closed.
    */
   build(requests) {
-    if (this.#engine === undefined) throw new HardieflaxError("Usage");
-    const answer = this.#engine.ask("next", stringify({ schema: { tables: [] }, requests }));
-    if (answer.status === "NoMemory" && this.#engine.ask("next", NOTHING).status !== "Done") this.close();
-    return answered(answer);
+    return answered(this.lines(requests));
   }
 
   /** Gives back its memory. It answers nothing after that. */

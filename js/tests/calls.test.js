@@ -137,6 +137,17 @@ test("a module is found by its bytes, its URL and its path", async () => {
   await assert.rejects(load({ module: Uint8Array.of(1, 2, 3) }), WebAssembly.CompileError);
 });
 
+test("the examples of the pages print what they say", async () => {
+  for (const page of ["docs/EMBEDDING.md", "js/README.md"]) {
+    for (const [, code] of file(page).matchAll(/^```js\n(.*?)^```/gms)) {
+      const body = code.replace(/^import \{ open \} from "hardieflax";\n/, "");
+      const printed = [];
+      await new Function("open", "console", `return (async () => {${body}})()`)((tables) => open(tables, { module }), { log: (text) => printed.push(text) });
+      assert.ok(printed.length > 0 && printed.every((text) => code.includes(`// ${text}\n`)), `${page} prints ${printed}`);
+    }
+  }
+});
+
 test("what is exported has the names of the header's calls", () => {
   const declared = [...file("examples/c/hardieflax.h").matchAll(/^[a-z].*[ *]hardieflax_([a-z]+)\(.*;$/gm)].map(([, name]) => name);
   const exported = WebAssembly.Module.exports(module).map(({ name }) => name);
