@@ -131,8 +131,11 @@ clang -mllvm -expand-div-rem-bits=64 -mllvm -expand-fp-convert-bits=64 -ffunctio
     -mllvm -no-x86-call-frame-opt -mllvm -disable-machine-licm -mllvm -disable-postra-machine-licm -mllvm -sink-common-insts=false \
     -fno-crash-diagnostics -Werror -O3 -c -x ir "$work/module.ll" -o "$work/module.o"
 for it in heap calls; do
-    clang -std=c11 -O2 -fwrapv -ffreestanding -nostdinc -ffunction-sections -fdata-sections -Wall -Wextra -Werror \
-        "-DHARDIEFLAX_VERSION=\"$version\"" -c -x c "$top/packaging/wasm/$it.c" -o "$work/$it.o"
+    clang -std=c11 -O2 -fwrapv -ffreestanding -nostdinc -Wall -Wextra -Werror "-DHARDIEFLAX_VERSION=\"$version\"" \
+        -S -emit-llvm -x c "$top/packaging/wasm/$it.c" -o "$work/$it.c.ll"
+    # clang has each export in a list of what is used, for which the linker makes a table of functions. Node 20 knows no such table with 64 bits.
+    sed '/^@llvm.used = /d' "$work/$it.c.ll" >"$work/$it.ll"
+    clang -O2 -ffunction-sections -fdata-sections -Werror -c -x ir "$work/$it.ll" -o "$work/$it.o"
 done
 llvm llvm-ar rcsD "$work/library.a" "$work/module.o" "$work/heap.o" "$work/calls.o"
 "$kit/bin/rattle-link" --target wasm64-unknown-unknown --toolchain "$kit/toolchain" --stack $STACK -o "$work/linked.wasm" "$work/library.a" >&2

@@ -44,6 +44,18 @@ if ! is_current; then
     check 'the module is made' make || { echo "$passed passed, $failed failed"; exit 1; }
 fi
 
+# types: a user of the types compiles, and what they refuse is refused
+types() {
+    cat >"$work/tsconfig.json" <<TXT
+{ "compilerOptions": { "strict": true, "noEmit": true, "target": "ES2022", "module": "ES2022", "moduleResolution": "node", "lib": ["ES2022", "DOM"],
+  "baseUrl": ".", "paths": { "hardieflax": ["$top/js/hardieflax.d.ts"] }, "types": [] }, "files": ["$top/js/tests/types.ts"] }
+TXT
+    tsc -p "$work/tsconfig.json" >"$work/log" 2>&1 && return
+    cat "$work/log"
+    return 1
+}
+if command -v tsc >/dev/null; then check 'the types' types; else echo 'skipped the types: no tsc'; fi
+
 # wide FLAG..: whether node has 64-bit memories under these flags
 wide() { node "$@" -e 'process.exit(WebAssembly.validate(Uint8Array.of(0, 97, 115, 109, 1, 0, 0, 0, 5, 3, 1, 4, 0)) ? 0 : 1)' 2>"$work/log"; }
 
