@@ -60,7 +60,7 @@ if command -v tsc >/dev/null; then check 'the types' types; else echo 'skipped t
 wide() { node "$@" -e 'process.exit(WebAssembly.validate(Uint8Array.of(0, 97, 115, 109, 1, 0, 0, 0, 5, 3, 1, 4, 0)) ? 0 : 1)' 2>"$work/log"; }
 
 node_tests() {
-    HARDIEFLAX_MODULE=$module node "$@" --test --test-reporter=tap "$top/js/tests/" >"$work/log" 2>&1
+    HARDIEFLAX_MODULE=$module node "$@" --test --test-reporter=tap "$top"/js/tests/*.test.js >"$work/log" 2>&1
     status=$?
     grep '^ *# .*filters: ' "$work/log" | sed 's/^ *# */  /' | sort -u
     grep -q '^# tests [1-9]' "$work/log" && [ "$status" = 0 ] && return

@@ -26,6 +26,7 @@ make_copy() {
     printf '#!/bin/sh\n%s/sql_tool generate 0 >/dev/null\n' "$copy" >"$copy/tests/process.sh"
     printf '#!/bin/sh\ncd %s/crates/hardieflax_c && rt lib\n' "$copy" >"$copy/tests/embed.sh"
     # A module that nothing runs.
+    # shellcheck disable=SC2016 # that script's words
     printf '#!/bin/sh\necho "module $1" >"$2"\n' >"$copy/packaging/wasm.sh"
     chmod +x "$copy/tests/process.sh" "$copy/tests/embed.sh" "$copy/packaging/wasm.sh"
 }
@@ -90,7 +91,8 @@ test_release() {
     check 'what is proved' tells "commit $(git -C "$copy" rev-parse HEAD)" 'rattle-kit-test logic 0' 'rt: ok; all of it' '2 passed, 0 failed' \
         "$(sha256sum "$program" | cut -d' ' -f1)" liblibc_c.a "Rattle's checker"
     check 'its packages' [ -e "$copy/dist/hardieflax_${plain}_amd64.deb" ]
-    check 'its JavaScript package and its page' [ -e "$copy/dist/hardieflax-$plain.tgz" ] && [ -e "$copy/dist/hardieflax-$plain.html" ]
+    check 'its JavaScript package' [ -e "$copy/dist/hardieflax-$plain.tgz" ]
+    check 'its page' [ -e "$copy/dist/hardieflax-$plain.html" ]
     check 'the licences of what is linked' holds_licence "hardieflax-$plain-x86_64-linux.tar.gz"
     mv "$copy/dist" "$work/first"
     check 'a release again' ends 0 released
