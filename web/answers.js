@@ -7,6 +7,10 @@ export const DIALECTS = [["Pg", "PostgreSQL"], ["Mysql", "MySQL"], ["Sqlite", "S
 // Requests beyond so many are answered and not shown.
 export const SHOWN = 100;
 
+// What the JSON Schema cannot say.
+const CONTRADICTION = "the schema's declarations, or what the requests say of them, do not go together "
+  + '(docs/DOCUMENT.md, "What is no document")';
+
 /** The text with the parts between places replaced by others: `parts` are [start, end, text], in order. */
 function replaced(text, parts) {
   let made = "";
@@ -87,14 +91,15 @@ function asked(text, root, tenant) {
   return policies === undefined ? { call: "build", text } : { call: "tenant", text: withPolicies(text, root, policies) };
 }
 
-const DEFINITIONS = { build: undefined, guard: "GUARDED", tenant: "POLICED" };
+// What a document with such a member is, in the JSON Schema.
+const DEFINITIONS = { guard: "GUARDED", tenant: "POLICED" };
 
 function said(text, { start, end, says }, kind) {
   return { ...lineOf(text, start), start, end, says, kind };
 }
 
-function problems(text, root, call, schema) {
-  const { faults, warnings } = check(schema, root, DEFINITIONS[call]);
+function problems(text, root, schema) {
+  const { faults, warnings } = check(schema, root, DEFINITIONS[guardOf(root)]);
   return [...faults.map((each) => said(text, each, "fault")), ...warnings.map((each) => said(text, each, "warning"))];
 }
 
@@ -116,9 +121,9 @@ export function answers(library, text, schema, tenant = { on: false }) {
   }
   const { call, text: input } = asked(text, root, tenant);
   const { status, lines } = library.lines(call, input);
-  const found = problems(text, root, call, schema).filter(({ says }) => !(call === "tenant" && guardOf(root) === undefined && says.includes('"tenant"')));
+  const found = problems(text, root, schema);
   if (status === "BadDocument" && !found.some(({ kind }) => kind === "fault")) {
-    found.push(said(text, { start: root.start, end: root.start + 1, says: "the schema's declarations, or what the requests say of them, do not go together (docs/DOCUMENT.md, \"What is no document\")" }, "fault"));
+    found.push(said(text, { start: root.start, end: root.start + 1, says: CONTRADICTION }, "fault"));
   }
   return { call, status, lines, requests: requestsOf(library, text, input, root, call), said: found };
 }

@@ -1,6 +1,7 @@
 // A document in the part of a link behind `#`, which no server sees: compressed, in the letters of base64 that a link takes.
 
-async function through(bytes, stream) {
+/** The bytes as a stream makes others of them. */
+export async function through(bytes, stream) {
   return new Uint8Array(await new Response(new Blob([bytes]).stream().pipeThrough(stream)).arrayBuffer());
 }
 
@@ -24,7 +25,8 @@ export async function unlinked(hash) {
   const found = /^#?d=([\w-]+)$/.exec(hash);
   if (found === null) return undefined;
   try {
-    const shown = JSON.parse(new TextDecoder("utf-8", { fatal: true }).decode(await through(bytesOf(found[1]), new DecompressionStream("deflate-raw"))));
+    const bytes = await through(bytesOf(found[1]), new DecompressionStream("deflate-raw"));
+    const shown = JSON.parse(new TextDecoder("utf-8", { fatal: true }).decode(bytes));
     return typeof shown?.text === "string" ? shown : undefined;
   } catch {
     return undefined;

@@ -1,7 +1,7 @@
 // The page: an editor on the left, answers on the right, by the module that the page holds.
 import { load } from "../js/hardieflax.js";
 import { answers, columnsOf, DIALECTS, guardOf, SHOWN } from "./answers.js";
-import { bytesOf, linked, unlinked } from "./link.js";
+import { bytesOf, linked, through, unlinked } from "./link.js";
 import { added, tokens } from "./marks.js";
 import { tree } from "./places.js";
 
@@ -69,8 +69,8 @@ function requestOf(request, index) {
   jump.addEventListener("click", () => show(request.start, request.end));
   const dialects = request.answers.map(({ dialect, answer, plain }) => {
     const own = dialect === request.dialect;
-    return make("section", own ? "dialect own" : "dialect", make("h3", "", make("span", "", NAMES.get(dialect)), own ? make("span", "", "asked") : undefined),
-      ...bodyOf(answer, plain));
+    const heading = make("h3", "", make("span", "", NAMES.get(dialect)), own ? make("span", "", "asked") : undefined);
+    return make("section", own ? "dialect own" : "dialect", heading, ...bodyOf(answer, plain));
   });
   return make("article", "", make("h2", "", jump), make("div", "dialects", ...dialects));
 }
@@ -141,15 +141,20 @@ function offerColumns(text) {
   box.value = columns.find((name) => name === before) ?? columns.find((name) => /tenant|account|org/i.test(name)) ?? columns[0] ?? "";
 }
 
+const ENDINGS = {
+  BadDocument: "this is no document",
+  NoMemory: "memory ran out, or a request nests too deep",
+  TooLarge: "the document has more than 16777216 bytes",
+};
+
 function stateOf({ status, call, requests, said }, all) {
-  if (status === "Done") {
-    const more = all > requests.length ? `, of which ${SHOWN} are shown` : "";
-    const noted = said.length === 0 ? "" : "; see below";
-    const isPlain = element("tenant-on").checked && call === "build";
-    return `${all} request${all === 1 ? "" : "s"}${more}, answered in ${took < 10 ? took.toFixed(1) : Math.round(took)} ms${isPlain ? "; no tenant: no table has that column with such a value" : ""}${noted}`;
-  }
-  const words = { BadDocument: "this is no document", NoMemory: "memory ran out, or a request nests too deep", TooLarge: "the document has more than 16777216 bytes" };
-  return `${status}: ${words[status] ?? ""}`;
+  if (status !== "Done") return `${status}: ${ENDINGS[status]}`;
+  const parts = [`${all} request${all === 1 ? "" : "s"}`];
+  if (all > requests.length) parts.push(`, of which ${SHOWN} are shown`);
+  parts.push(`, answered in ${took < 10 ? took.toFixed(1) : Math.round(took)} ms`);
+  if (element("tenant-on").checked && call === "build") parts.push("; no tenant: no table has that column with such a value");
+  if (said.length > 0) parts.push("; see below");
+  return parts.join("");
 }
 
 function answer() {
@@ -233,8 +238,7 @@ function listen() {
 }
 
 async function start() {
-  const bytes = await new Response(new Blob([bytesOf(element("module").textContent.trim())]).stream().pipeThrough(new DecompressionStream("gzip"))).arrayBuffer();
-  library = await load({ module: bytes });
+  library = await load({ module: await through(bytesOf(element("module").textContent.trim()), new DecompressionStream("gzip")) });
   document.documentElement.dataset.version = library.version;
   listen();
   if (!(await showLink())) {

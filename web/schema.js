@@ -80,11 +80,13 @@ class Checker {
     const first = schema.prefixItems ?? [];
     first.forEach((each, index) => index < items.length && this.check(each, items[index]));
     if (schema.items !== undefined) items.slice(first.length).forEach((each) => this.check(schema.items, each));
-    if (schema.minItems !== undefined && items.length < schema.minItems) this.fault(node, () => this.wants(schema, schema.minItems, "at least", items.length));
-    if (schema.maxItems !== undefined && items.length > schema.maxItems) this.fault(node, () => this.wants(schema, schema.maxItems, "at most", items.length));
+    const { minItems = 0, maxItems = Infinity } = schema;
+    if (items.length < minItems) this.fault(node, () => this.wants(schema, minItems, "at least", items.length));
+    if (items.length > maxItems) this.fault(node, () => this.wants(schema, maxItems, "at most", items.length));
     if (schema.contains === undefined) return;
     const found = items.filter((each) => this.holds(schema.contains, each)).length;
-    if (found < (schema.minContains ?? 1) || found > (schema.maxContains ?? Infinity)) this.fault(node, () => schema.$comment ?? "too many or too few such items");
+    const { minContains = 1, maxContains = Infinity } = schema;
+    if (found < minContains || found > maxContains) this.fault(node, () => schema.$comment ?? "too many or too few such items");
   }
 
   wants(schema, count, bound, has) {
@@ -108,8 +110,9 @@ class Checker {
         else this.check(schema.additionalProperties, member);
       }
     }
-    if (schema.minProperties !== undefined && members.size < schema.minProperties) this.fault(node, () => "a member is missing here");
-    if (schema.maxProperties !== undefined && members.size > schema.maxProperties) this.fault(node, () => `one member is expected here, and there are ${members.size}`);
+    const { minProperties = 0, maxProperties = Infinity } = schema;
+    if (members.size < minProperties) this.fault(node, () => "a member is missing here");
+    if (members.size > maxProperties) this.fault(node, () => `one member is expected here, and there are ${members.size}`);
   }
 
   combined(schema, node) {
@@ -171,7 +174,8 @@ export function check(schema, node, definition) {
     for (const [name, { from, to }] of object.members) {
       if (known.has(name) || known.size === 0 || name.startsWith("$")) continue;
       const near = nearest(name, known);
-      warnings.push({ start: from, end: to, says: `nothing reads the member ${quoted(name)}${near === undefined ? "" : `: ${quoted(near)} is meant?`}` });
+      const meant = near === undefined ? "" : `: ${quoted(near)} is meant?`;
+      warnings.push({ start: from, end: to, says: `nothing reads the member ${quoted(name)}${meant}` });
     }
   }
   return { faults: faults.sort((a, b) => a.start - b.start), warnings: warnings.sort((a, b) => a.start - b.start) };

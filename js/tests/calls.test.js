@@ -44,7 +44,8 @@ test("it answers as the program does, whose status each call has", { skip: !isBu
   const generated = Array.from({ length: 300 }, (_, index) => ({ ...filters(index % 40, DIALECTS[index % 4]) }));
   const inputs = [
     ["build", "{"], ["build", Uint8Array.of(0x22, 0xff)], ["build", "[]"], ["build", ""], ["guard", file("examples/filter.json")],
-    ["tenant", file("examples/filter.json")], ["build", JSON.stringify(document(...generated))], ["build", JSON.stringify(document(filters(300)))],
+    ["tenant", file("examples/filter.json")], ["build", JSON.stringify(document(...generated))],
+    ["build", JSON.stringify(document(filters(300)))],
     ["audit", "{}", "Mysql"], ["read", "", "Pg"], ["read", "SELECT 1", "Sqlite"], ["read", Uint8Array.of(0xff), "Bracket"], ["read", "(".repeat(500), "Pg"],
   ];
   for (const [call, input, dialect] of inputs) {
@@ -56,12 +57,16 @@ test("it answers as the program does, whose status each call has", { skip: !isBu
 });
 
 test("answers are objects, whose whole numbers keep their value", () => {
-  const query = { from: { table: "foo" }, calls: [["filter", { eq: [{ col: ["foo", "big"] }, { bind: ["BigInt", 9007199254740993n] }] }], ["select", [{ col: ["foo", "name"] }]]] };
+  const isBig = { eq: [{ col: ["foo", "big"] }, { bind: ["BigInt", 9007199254740993n] }] };
+  const query = { from: { table: "foo" }, calls: [["filter", isBig], ["select", [{ col: ["foo", "name"] }]]] };
   const [built, refused] = library.build(document({ dialect: "Mysql", query }, { dialect: "Pg", query: { from: { table: "bar" } } }));
-  assert.deepEqual(built, { binds: [["BigInt", 9007199254740993n]], columns: ["Text?"], id: 1, safe: true, sql: "SELECT `foo`.`name` FROM `foo` WHERE (`foo`.`big` = ?)" });
+  assert.deepEqual(built, {
+    binds: [["BigInt", 9007199254740993n]], columns: ["Text?"], id: 1, safe: true, sql: "SELECT `foo`.`name` FROM `foo` WHERE (`foo`.`big` = ?)",
+  });
   assert.deepEqual(refused, { refused: "UnknownName" });
   assert.deepEqual(library.read("Pg", 'SELECT  "a" .  "b"'), { refused: "NotInGrammar" });
-  assert.deepEqual(library.audit("Pg", { schema, texts: ['SELECT "foo"."id" FROM "foo"'] }), [{ columns: [["foo", "id"]], sources: [0], tables: ["foo"] }]);
+  const audited = library.audit("Pg", { schema, texts: ['SELECT "foo"."id" FROM "foo"'] });
+  assert.deepEqual(audited, [{ columns: [["foo", "id"]], sources: [0], tables: ["foo"] }]);
 });
 
 test("a session goes on with its ids", async () => {
@@ -142,7 +147,8 @@ test("the examples of the pages print what they say", async () => {
     for (const [, code] of file(page).matchAll(/^```js\n(.*?)^```/gms)) {
       const body = code.replace(/^import \{ open \} from "hardieflax";\n/, "");
       const printed = [];
-      await new Function("open", "console", `return (async () => {${body}})()`)((tables) => open(tables, { module }), { log: (text) => printed.push(text) });
+      const run = new Function("open", "console", `return (async () => {${body}})()`);
+      await run((tables) => open(tables, { module }), { log: (text) => printed.push(text) });
       assert.ok(printed.length > 0 && printed.every((text) => code.includes(`// ${text}\n`)), `${page} prints ${printed}`);
     }
   }

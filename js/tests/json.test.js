@@ -3,8 +3,10 @@ import assert from "node:assert/strict";
 import test from "node:test";
 import { JsonError, parse, read, stringify } from "../json.js";
 
-const DOCUMENTS = ["null", "true", " [ ] ", "{}", "[1,-2,0,1.5,1e3,-1E-2]", '"a\\u00e9\\n\\"\\\\"', '{"a":{"b":[{"c":"d"}]},"e":null}', '"\u2028"', '{"__proto__":1}'];
-const NONE = ["", "nul", "[1,]", "{a:1}", '{"a"}', "01", "1.", ".5", "+1", "1e", '"\n"', '"\\x"', "[1 2]", "[1]x", '"abc', "NaN", "'a'", '{"a":1,}', "-"];
+const DOCUMENTS = ["null", "true", " [ ] ", "{}", "[1,-2,0,1.5,1e3,-1E-2]", '"a\\u00e9\\n\\"\\\\"', '{"a":{"b":[{"c":"d"}]},"e":null}',
+  '"\u2028"', '{"__proto__":1}'];
+const NONE = ["", "nul", "[1,]", "{a:1}", '{"a"}', "01", "1.", ".5", "+1", "1e", '"\n"', '"\\x"', "[1 2]", "[1]x", '"abc', "NaN", "'a'",
+  '{"a":1,}', "-"];
 
 test("what JavaScript reads is read the same", () => {
   for (const text of DOCUMENTS) {

@@ -26,7 +26,8 @@ export function run(words, input) {
 }
 
 /** A schema of one table, and a request with so many filters, which nests as deep. */
-export const schema = { tables: [{ name: "foo", columns: [{ name: "id", type: "Integer" }, { name: "big", type: "BigInt" }, { name: "name", type: "Text?" }] }] };
+const columns = [{ name: "id", type: "Integer" }, { name: "big", type: "BigInt" }, { name: "name", type: "Text?" }];
+export const schema = { tables: [{ name: "foo", columns }] };
 export function filters(count, dialect = "Pg") {
   const filter = ["filter", { eq: [{ col: ["foo", "id"] }, { bind: ["Integer", 1] }] }];
   return { dialect, query: { from: { table: "foo" }, calls: Array.from({ length: count }, () => filter) } };

@@ -50,7 +50,8 @@ test("a guard's tokens are marked, and no others", () => {
   const marked = (plain, guarded) => added(plain, guarded).map(({ text, added: isAdded }) => (isAdded ? `<${text}>` : text)).join("").replaceAll("><", "");
   assert.equal(marked("a WHERE (b = $1) LIMIT $2", "a WHERE ((b = $1) AND (c = $2)) LIMIT $3"), "a WHERE (<(>b = $1)< AND (c = $2))> LIMIT $3");
   assert.equal(marked("a", "a"), "a");
-  assert.deepEqual(tokens('"a""b".`c` [d]]e] $12 ? @p3').filter(({ kind }) => kind === "name").map(({ text }) => text), ['"a""b"', "`c`", "[d]]e]"]);
+  const named = tokens('"a""b".`c` [d]]e] $12 ? @p3').filter(({ kind }) => kind === "name").map(({ text }) => text);
+  assert.deepEqual(named, ['"a""b"', "`c`", "[d]]e]"]);
   for (const line of file("crates/sql_tool/stdout").split("\n").slice(0, -1)) {
     const { sql } = JSON.parse(line);
     if (sql !== undefined) assert.equal(tokens(sql).map(({ text }) => text).join(""), sql);
@@ -78,8 +79,8 @@ test("each request is shown in the four dialects", () => {
     assert.deepEqual({ ...answer, id: 0 }, { ...own[index], id: 0 }, `request ${index + 1}`);
     assert.equal(JSON.parse(text.slice(start, end)).dialect, dialect);
   });
-  assert.equal(inDialect('{"requests":[{"dialect":"Pg"},{"dialect" : "Mysql","x":1}]}', tree('{"requests":[{"dialect":"Pg"},{"dialect" : "Mysql","x":1}]}'), "Sqlite"),
-    '{"requests":[{"dialect":"Sqlite"},{"dialect" : "Sqlite","x":1}]}');
+  const two = '{"requests":[{"dialect":"Pg"},{"dialect" : "Mysql","x":1}]}';
+  assert.equal(inDialect(two, tree(two), "Sqlite"), '{"requests":[{"dialect":"Sqlite"},{"dialect" : "Sqlite","x":1}]}');
 });
 
 test("a tenant's lines are the program's, beside what the request was", () => {
@@ -89,7 +90,8 @@ test("a tenant's lines are the program's, beside what the request was", () => {
   const { answer, plain } = on.requests[0].answers[0];
   assert.ok(answer.sql.length > plain.sql.length && plain.binds.length < answer.binds.length);
   assert.equal(answers(library, file("examples/guard.json"), SCHEMA, { on: true }).lines, file("examples/guard.jsonl"));
-  assert.equal(answers(library, text, SCHEMA).call, "build");
+  const off = answers(library, text, SCHEMA);
+  assert.deepEqual([off.call, off.said], ["build", []]);
 });
 
 test("a tenant's column makes policies", () => {
@@ -98,7 +100,8 @@ test("a tenant's column makes policies", () => {
   const root = tree(text);
   assert.ok(columnsOf(root).includes("tenant"));
   const policies = policiesOf(root, "tenant", "7");
-  assert.deepEqual(policies.find(({ table }) => table === "users"), { table: "users", predicate: { eq: [{ col: ["users", "tenant"] }, { bind: ["Integer", 7] }] } });
+  const isTenant = { eq: [{ col: ["users", "tenant"] }, { bind: ["Integer", 7] }] };
+  assert.deepEqual(policies.find(({ table }) => table === "users"), { table: "users", predicate: isTenant });
   assert.deepEqual(policies.find(({ table }) => table === "countries"), { table: "countries" });
   assert.equal(policiesOf(root, "tenant", "x"), undefined);
   assert.equal(policiesOf(root, "nothing", "7"), undefined);
@@ -113,9 +116,12 @@ test("what is no document is said where it shows", () => {
   assert.deepEqual(broken.said.map(({ line, column }) => [line, column]), [[2, 14]]);
   const twice = JSON.stringify({ schema: { tables: [schema.tables[0], schema.tables[0]] }, requests: [] });
   assert.equal(answers(library, twice, SCHEMA).said.length, 1);
-  const misspelt = answers(library, JSON.stringify({ schema, requests: [{ dialect: "Pg", query: { from: { table: "foo" }, call: [] } }] }), SCHEMA);
+  const requests = [{ dialect: "Pg", query: { from: { table: "foo" }, call: [] } }];
+  const misspelt = answers(library, JSON.stringify({ schema, requests }), SCHEMA);
   assert.deepEqual([misspelt.status, misspelt.said.map(({ kind }) => kind)], ["Done", ["warning"]]);
-  for (const text of ["", "[]", "1", '"a"', "{}", "[".repeat(100000)]) assert.equal(answers(library, text, SCHEMA, { on: true, column: "id", value: "1" }).status, "BadDocument", text.slice(0, 9));
+  for (const text of ["", "[]", "1", '"a"', "{}", "[".repeat(100000)]) {
+    assert.equal(answers(library, text, SCHEMA, { on: true, column: "id", value: "1" }).status, "BadDocument", text.slice(0, 9));
+  }
 });
 
 test("of many requests the first are shown", () => {

@@ -102,7 +102,8 @@ class Page {
     const text = key === "Enter" ? "\r" : key === " " ? " " : undefined;
     const numbers = { Tab: 9, Enter: 13, " ": 32, ArrowDown: 40, Backspace: 8, a: 65 };
     for (const type of ["keyDown", "keyUp"]) {
-      await this.ask("Input.dispatchKeyEvent", { type, key, code, modifiers, windowsVirtualKeyCode: numbers[key], text: type === "keyDown" ? text : undefined });
+      const pressed = { type, key, code, modifiers, windowsVirtualKeyCode: numbers[key] };
+      await this.ask("Input.dispatchKeyEvent", type === "keyDown" ? { ...pressed, text } : pressed);
     }
   }
 

@@ -10,6 +10,7 @@ const read = (name) => readFileSync(TOP + name, "utf8");
 const EXAMPLES = JSON.parse(read("web/examples.json"));
 const url = pathToFileURL(file).href;
 const READY = "document.documentElement.dataset.version !== undefined && document.getElementById('lines').textContent !== ''";
+const USERS = '{"tables":[{"name":"users","columns":[{"name":"id","type":"Integer"}]}]}';
 // What a person waits for on an idle machine. On a busy one a sum says little, so this is told and not tested.
 const times = [];
 let passed = 0;
@@ -28,7 +29,11 @@ const status = (page) => page.tell("document.getElementById('status').textConten
 const said = (page) => page.tell("[...document.querySelectorAll('#said button')].map((each) => each.textContent)");
 
 async function choose(page, index) {
-  await page.tell(`(() => { const box = document.getElementById('example'); box.value = '${index}'; box.dispatchEvent(new Event('change', { bubbles: true })); })()`);
+  await page.tell(`(() => {
+    const box = document.getElementById('example');
+    box.value = '${index}';
+    box.dispatchEvent(new Event('change', { bubbles: true }));
+  })()`);
   await page.until("document.getElementById('status').textContent !== 'Loading'");
 }
 
@@ -57,15 +62,20 @@ async function examples(page) {
     const counts = await page.tell("[document.querySelectorAll('article').length, document.querySelectorAll('.dialect').length]");
     const requests = stored.split("\n").length - 1;
     expect(`${name}: each request in four dialects`, counts[0] === requests && counts[1] === 4 * requests, counts);
-    times.push(await page.tell(`(() => { let best = 1e9; for (let i = 0; i < 5; i += 1) { const began = performance.now(); document.getElementById('document').dispatchEvent(new Event('input')); best = Math.min(best, performance.now() - began); } return best; })()`));
+    times.push(await page.tell(`Math.min(...Array.from({ length: 5 }, () => {
+      const began = performance.now();
+      document.getElementById('document').dispatchEvent(new Event('input'));
+      return performance.now() - began;
+    }))`));
   }
 }
 
 async function typing(page) {
   await write(page, read("crates/sql_tool/stdin"));
-  await page.until(`document.getElementById('lines').textContent.split("\\n").length - 1 === ${read("crates/sql_tool/stdout").split("\n").length - 1}`);
+  const count = read("crates/sql_tool/stdout").split("\n").length;
+  await page.until(`document.getElementById('lines').textContent.split("\\n").length === ${count}`);
   expect("the stored run: its lines are the program's", (await lines(page)) === read("crates/sql_tool/stdout"));
-  await write(page, '{"schema":{"tables":[{"name":"users","columns":[{"name":"id","type":"Integer"}]}]},"requests":[\n  {"dialect":"Pg","query":{"from":{"table":"users"}}}');
+  await write(page, `{"schema":${USERS},"requests":[\n  {"dialect":"Pg","query":{"from":{"table":"users"}}}`);
   expect("half a document is none", (await status(page)).startsWith("BadDocument"), await status(page));
   expect("half a document: where it ends", (await said(page))[0]?.startsWith("line 2, column 54"), await said(page));
   await page.type("]}");
@@ -81,9 +91,9 @@ async function faults(page) {
   expect("a type that is none: its place, and what is meant", one === 'line 1, column 66: there is no "Interger" here: "Integer" is meant?', one);
   expect("it is marked in the document", (await page.tell("document.querySelector('#marks mark')?.textContent")) === '"Interger"');
   await page.tell("document.querySelector('#said button').click()");
-  const chosen = await page.tell("(() => { const it = document.getElementById('document'); return it.value.slice(it.selectionStart, it.selectionEnd); })()");
+  const chosen = await page.tell("getSelection().toString()");
   expect("what is said leads to its place", chosen === '"Interger"', chosen);
-  await write(page, '{"schema":{"tables":[{"name":"users","columns":[{"name":"id","type":"Integer"}]}]},"requests":[{"dialect":"Pg","query":{"from":{"table":"users"},"call":[]}}]}');
+  await write(page, `{"schema":${USERS},"requests":[{"dialect":"Pg","query":{"from":{"table":"users"},"call":[]}}]}`);
   expect("a misspelt member is warned of", (await said(page))[0]?.endsWith('nothing reads the member "call": "calls" is meant?'), await said(page));
   await write(page, '{"schema":{"tables":[]},"requests":[{"dialect":"Pg","query":{"from":{"table":"<b>x</b>"}}}]}');
   const refused = await page.tell("[document.querySelector('.refused').textContent, document.querySelector('.why').textContent]");
@@ -150,7 +160,7 @@ async function looks(page) {
       }
     }
     await page.dark(false);
-    await write(page, '{"schema":{"tables":[{"name":"users","columns":[{"name":"id","type":"Interger"}]}]},\n"requests":[{"dialect":"Pg","query":{"from":{"table":"users"},"call":[]}}]}');
+    await write(page, `{"schema":${USERS.replace("Integer", "Interger")},\n"requests":[{"dialect":"Pg","query":{"from":{"table":"users"},"call":[]}}]}`);
     await fits(page, `faults, ${name}`);
     await photograph(page, `${name}-light-faults`);
   }
@@ -165,7 +175,7 @@ async function main() {
     await page.size(1280, 900);
     await page.open(url, READY);
     expect("it has a version", (await page.tell("document.documentElement.dataset.version")).startsWith(read("VERSION").trim()));
-    const loaded = await page.tell("performance.getEntriesByType('resource').filter(({ name }) => !name.startsWith('data:') && !name.startsWith('blob:')).map(({ name }) => name)");
+    const loaded = await page.tell("performance.getEntriesByType('resource').map(({ name }) => name).filter((name) => !/^(data|blob):/.test(name))");
     expect("nothing else is loaded", loaded.length === 0, loaded);
     for (const part of [examples, typing, faults, tenants, links, keyboard, looks]) {
       try {
