@@ -36,10 +36,11 @@ INNER: dict[str, set[str]] = {
     # parts of the audit
     "sql_audit_resolution": {"Meaning", "Resolution", "resolve"},
     # the words between the parts of a statement
+    "sql_pass": {"CLOSE", "DOT", "FROM_OPEN", "ON", "OPEN"},
     "sql_leaf": {
-        "ALL", "ASC", "CLOSE", "CLOSE_BOTH", "COMMA", "COUNT_OPEN", "COUNT_STAR", "DESC", "DISTINCT", "DISTINCT_ON_CLOSE",
-        "DISTINCT_ON_OPEN", "EXISTS_OPEN", "FROM", "GROUP_BY", "HAVING", "ON", "OPEN", "ORDER_BY", "SELECT", "WHERE",
-        "among_text", "combinator_text", "constant_text", "join_text",
+        "ALL", "ASC", "CLOSE_BOTH", "COMMA", "COUNT_OPEN", "COUNT_STAR", "DESC", "DISTINCT", "DISTINCT_ON_CLOSE", "DISTINCT_ON_OPEN",
+        "EXISTS_OPEN", "FROM", "GROUP_BY", "HAVING", "ORDER_BY", "SELECT", "WHERE", "among_text", "combinator_text", "constant_text",
+        "join_text",
     },
     # parts of sources and of shapes
     "sql_origin": {"same_table"},

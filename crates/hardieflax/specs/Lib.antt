@@ -127,7 +127,7 @@ pub use Rattle.sql_rules_law.specs.Examples as LawExamples
 pub use Rattle.sql_rules_law.specs.Fitting
 pub use Rattle.sql_rules_law.specs.Lengths
 pub use Rattle.sql_rules_law.specs.Paths as ColumnPaths
--- What `compile` gives.
+-- The answer of `compile`.
 pub use Rattle.sql_check.specs.Compiled
 pub use Rattle.sql_check.specs.Fused
 pub use Rattle.sql_flat_text.specs.Steps
@@ -135,12 +135,12 @@ pub use Rattle.sql_check.specs.Errors
 pub use Rattle.sql_check.specs.declared.built.Built
 pub use Rattle.sql_check.specs.declared.error.CompileError
 pub use Rattle.sql_rules_check.specs.declared.names.Names as KnownNames
--- What a statement cache holds.
+-- The contents of a statement cache.
 pub use Rattle.sql_rows.specs.Calls as CacheCalls
 pub use Rattle.sql_rows.specs.Entries
 pub use Rattle.sql_rows.specs.Sound
 pub use Rattle.sql_rows.specs.declared.cache.RequestKey
--- What statements answer.
+-- The answers of statements.
 pub use Rattle.sql_rows_meaning.specs.Answers
 pub use Rattle.sql_rows_meaning.specs.Beside as CountedBeside
 pub use Rattle.sql_rows_meaning.specs.Counted as CountedAnswers
@@ -167,13 +167,13 @@ pub use Rattle.sql_guard.specs.Refused
 pub use Rattle.sql_guard.specs.Trees as PolicyTrees
 pub use Rattle.sql_guard.specs.declared.error.RestrictError
 pub use Rattle.sql_guard.specs.declared.policy.Policy
--- What the reader gives.
+-- The results of the reader.
 pub use Rattle.sql_read.specs.Seen as ReadTrees
 pub use Rattle.sql_read.specs.declared.error.ReadError
 pub use Rattle.sql_read_tree.specs.Counts as TreeCounts
 pub use Rattle.sql_read_tree.specs.Path as TreePaths
 pub use Rattle.sql_read_tree.specs.View as TreeViews
--- What the audit of a text tells.
+-- The report of the audit of a text.
 pub use Rattle.sql_audit.specs.Report as AuditReports
 pub use Rattle.sql_audit.specs.declared.error.AuditError
 pub use Rattle.sql_audit.specs.declared.report.AuditReport
@@ -188,7 +188,7 @@ pub use Rattle.sql_build_syntax.specs.Forms as SyntaxForms
 pub use Rattle.sql_build_syntax.specs.Tree as SyntaxTree
 pub use Rattle.sql_build_syntax.specs.View as SyntaxViews
 pub use Rattle.sql_build_syntax.specs.declared.form.Form as SyntaxForm
--- What the program does with its source and its sink.
+-- The effects of the program on its source and its sink.
 pub use Rattle.sql_tool_run.specs.Command as Commands
 pub use Rattle.sql_tool_run.specs.Limits as CommandLimits
 pub use Rattle.sql_tool_run.specs.Run as Runs

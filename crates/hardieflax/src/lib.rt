@@ -3,6 +3,10 @@
 //! This crate has no code of its own. It re-exports what users of the library crates name, so that a program names one crate;
 //! `specs/Lib.antt` does the same for the words of their contracts. A schema is declared by `SchemaBuilder`, a statement built by
 //! the calls of `QueryDsl`, and `compile` gives its text and values, or the first rule that it breaks.
+//!
+//! Three modules hold what has a name that is taken at the root: `tree`, `syntax` and `program`. `proofs/` has the lemmas for parts of a
+//! user's own and for code that matches nodes. In `crates.txt` a crate that uses this one lists the libraries too: with `hardieflax` alone a
+//! check of clauses over expressions ends with "no module that this path begins with is at hand".
 #![tactic(auto)]
 
 // Schemas, types, texts and lists.
@@ -117,7 +121,7 @@ pub use sql_rules_law::{
 // The reader: the tree of a text, and the text of a tree.
 pub use sql_read::{MAX_DEPTH as MAX_READ_DEPTH, ReadError, Tree, placeholders, read, write};
 
-/// What `Tree::query` gives: the tree of a text, as its tokens say.
+/// The types of the tree that `Tree::query` gives: the tree of a text, as its tokens say.
 pub mod tree {
     pub use sql_read_lexer::Comparison;
     pub use sql_read_tree::{
@@ -143,7 +147,7 @@ pub mod syntax {
     };
 }
 
-// What `compile_by` asks for where it is told that the names are known.
+// The law that gives the premise of `compile_by` where it is told that the names are known.
 pub use sql_build_law::built_statements_know_their_names;
 
 /// The program's commands as one call, over any source and any sink of bytes.

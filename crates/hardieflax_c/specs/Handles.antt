@@ -1,4 +1,4 @@
--- What a handle that C holds stands for.
+-- The meaning of a handle that C holds.
 use Rattle.std.specs.Prelude.{◌≡◌, ◌<◌, ◌⊎◌, ◌↔◌, ◌++◌, ℕ, List, Option, Some, None, is_some, length, option_and_then}
 use Rattle.std.specs.Vec.{vec_ptr}
 use Rattle.sql_tool_run.specs.Command.{IsOutputOf, IsOutputPrefixOf}

@@ -1,4 +1,4 @@
--- What a handle that C holds stands for.
+-- The meaning of a handle that C holds.
 pub mod Dialects
 pub mod Handles
 pub mod Owning

@@ -1,4 +1,4 @@
--- What C owns with a handle: nothing, or a responder on the heap with the right to free it.
+-- The memory that C owns with a handle: nothing, or a responder on the heap with the right to free it.
 use Rattle.std.specs.Prelude.{Option, Some, None}
 use base.Fml.{Fml, ftrue}
 use denote.RawPtr.{Ptr}

@@ -17,7 +17,7 @@ pub struct Handle {
 }
 
 impl Handle {
-    /// What the handle keeps, taken out of it.
+    /// Takes what the handle keeps out of it.
     fn take(&mut self, alloc: Global) -> Option<Box<Responder>>
         requires { IsSound self.old }
         ensures kept { option_map (λ b. b.value) result ≡ kept_by self.old }
@@ -33,7 +33,7 @@ impl Handle {
         Some(owner.into_box(alloc))
     }
 
-    /// What the handle keeps, or a new responder, which has no session.
+    /// Takes what the handle keeps, or makes a new responder, which has no session.
     fn take_or_make(&mut self, alloc: Global) -> Result<Box<Responder>, AllocError>
         requires { IsSound self.old }
         ensures kept { IfOk result (λ b. b.value.session ≡ session_of self.old) }

@@ -2,6 +2,10 @@
 //!
 //! A caller of these functions upholds what the header says of a handle, of pointers and of threads. Nothing checks a caller, nor the
 //! header.
+//!
+//! A handle is a struct in the caller's memory, of zeros at first, and a call writes through a `&mut` to it. So what C owns with a handle is a
+//! definition (`specs/Owning.antt`), and the clauses of the calls are facts about its fields. The answer lies where the library made it until
+//! the next call, with no copy and no second call to free it.
 #![tactic(auto)]
 
 ghost use Rattle.std.specs.Prelude.{◌≡◌, IfSome, None};

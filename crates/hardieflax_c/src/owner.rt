@@ -28,7 +28,7 @@ impl Owner {
         Owner { at }
     }
 
-    /// What the box owned, by its address.
+    /// Returns an owner of what the box owned, by its address.
     pub(crate) fn of(responder: Box<Responder>) -> Owner
         ensures { result.kept ≡ Some responder.value }
     {

@@ -1,4 +1,4 @@
-//! What is told of a statement: its text, the rules that it breaks, its flat list and its keys.
+//! The answers about a statement: its text, the rules that it breaks, its flat list and its keys.
 
 ghost use Rattle.std.specs.Prelude.{◌≡◌, ◌+◌, ◌*◌, ◌≤◌, [], IfOk, IfErr, Some, length};
 ghost use Rattle.hardieflax.specs.AnswerFitting.{AnswersFit};
@@ -50,7 +50,7 @@ pub fn compiled<DB: Backend>(
     compile(alloc, backend, schema, statement)
 }
 
-/// What a query of a document compiles to. Its names are the schema's, so none is looked up again.
+/// Compiles a query of a document. Its names are the schema's, so none is looked up again.
 pub fn compiled_query(alloc: Global, schema: &Schema, query: &Query) -> Result<Built, CompileError>
     ensures built { IfOk result (λ b. (s : tree.Statement)
         × (statement_in schema.now PgDialect (query_tree query.now) ≡ Some s)

@@ -57,7 +57,7 @@ pub fn bound<V: ToSql>(alloc: Global, of: &V) -> Result<Option<Expr>, NoMemory>
     value(alloc, of)
 }
 
-/// What is bound for a value.
+/// Returns what is bound for a value.
 pub fn bound_value<V: ToSql>(alloc: Global, of: &V) -> Result<Bound, NoMemory>
     ensures { IfOk result (λ b. b ≡ V.binds of.now) }
 {

@@ -20,7 +20,7 @@ use hardieflax::syntax::{
 use hardieflax::{Dialect, Expr, NoMemory, Schema, Statement};
 use std::alloc::Global;
 
-/// What the program does with these words.
+/// Runs the program with these words.
 pub fn ran<S: Source, K: Sink>(alloc: Global, words: &[String], from: &mut S, to: &mut K) -> Status
     ensures headline { result ≡ Status.Done → IfSome (S.left from.old) (λ input.
         (c : CommandName) × (command_of (map string_bytes words.now) ≡ Some c)

@@ -1,4 +1,4 @@
-//! What is said of a text, and of a statement for one tenant.
+//! The answers about a text, and about a statement for one tenant.
 
 ghost use Rattle.std.specs.Prelude.{◌≡◌, IfOk, IfErr, IsErrOf, length, map, string_bytes};
 ghost use Rattle.hardieflax.specs.AuditReports.{IsRefused, IsReported};

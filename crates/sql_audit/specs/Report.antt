@@ -1,4 +1,4 @@
--- What the audit of a text answers: its report, or the first refusal that holds of it.
+-- The answer of the audit of a text: its report, or the first refusal that holds of it.
 use Rattle.std.specs.Prelude.{◌≡◌, ℕ, List, [], map, Bool, true, false, Option, Some, None, is_none, if◌then◌else◌}
 use Rattle.std.specs.List.{list_any}
 use Rattle.sql_dialect.specs.declared.backend.Dialect.{Dialect}
@@ -21,7 +21,7 @@ use Rattle.sql_audit.specs.declared.report.AuditReport.{AuditReport}
 abbrev pub tables_of : List TableDecl → Query → List (Option Name)
 tables_of ts q = map (name_at ts) (tables_query q)
 
--- What each column path stands for. No clause encloses the whole statement.
+-- The meaning of each column path. No clause encloses the whole statement.
 abbrev pub meanings_of : List TableDecl → Query → List Meaning
 meanings_of ts q = map (meaning ts) (uses_query [] 0 q)
 

@@ -1,4 +1,4 @@
--- What the paths of a text stand for, by the tables of a schema (PostgreSQL, Value Expressions, Column References).
+-- The meanings of the paths of a text, by the tables of a schema (PostgreSQL, Value Expressions, Column References).
 use Rattle.std.specs.Prelude.{ℕ, List, [], ◌∷◌, Bool, Option, None, Some, find, option_map, if◌then◌else◌}
 use Rattle.std.specs.Cmp.Lexicographic.{pointwise}
 use Rattle.std.specs.List.{filter_map, starts_with}

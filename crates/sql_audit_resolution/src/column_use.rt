@@ -1,6 +1,6 @@
 use sql_schema::SqlText;
 
-/// What a column path of a text stands for.
+/// The column that a column path of a text stands for.
 #[derive(Debug, Drop, PartialEq, Eq)]
 pub struct ColumnUse {
     /// The name by which the table is looked up.
@@ -11,7 +11,7 @@ pub struct ColumnUse {
     pub leaf: usize,
 }
 
-/// What a column path of a text stands for, where it may stand for nothing.
+/// The meaning of a column path of a text, which may stand for nothing.
 #[derive(Debug, Drop, PartialEq, Eq)]
 pub enum Meaning {
     /// It names no leaf that its clause sees.

@@ -12,7 +12,7 @@ use sql_schema::{NoMemory, Schema, SqlText, Table};
 use std::alloc::Global;
 use std::marker::Model;
 
-/// What is known of a text so far, in its order.
+/// The tables and the meanings that are known of a text so far, in its order.
 #[derive(Drop)]
 pub(crate) struct Known {
     tables: Vec<Option<SqlText>>,

@@ -90,7 +90,7 @@ fn meaning_in(
     Ok(meaning_of(first))
 }
 
-/// What a path stands for, where these levels are sought in order.
+/// Returns the meaning of a path, where these levels are sought in order.
 pub(crate) fn sought(
     alloc: Global,
     schema: &Schema,

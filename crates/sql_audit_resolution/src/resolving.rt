@@ -11,12 +11,12 @@ use sql_read_tree::Query;
 use sql_schema::{NoMemory, Schema, SqlText};
 use std::alloc::Global;
 
-/// What the leaves and the paths of a text are, in the order of the text.
+/// The tables of the leaves and the meanings of the paths of a text, in the order of the text.
 #[derive(Debug, Drop)]
 pub struct Resolution {
     /// The name by which the table of each leaf is looked up, if the schema has that table.
     pub tables: Vec<Option<SqlText>>,
-    /// What each column path stands for.
+    /// The meaning of each column path.
     pub meanings: Vec<Meaning>,
 }
 

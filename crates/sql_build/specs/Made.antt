@@ -1,4 +1,4 @@
--- What the operators and calls of a query make (diesel, `ExpressionMethods`, `QueryDsl`).
+-- The results of the operators and calls of a query (diesel, `ExpressionMethods`, `QueryDsl`).
 use Rattle.std.specs.Prelude.{Bool, true, false}
 use Rattle.sql_leaf.specs.declared.locking.LockMode.TheVariants as lock
 use Rattle.sql_leaf.specs.declared.locking.Modifier.TheVariants as way

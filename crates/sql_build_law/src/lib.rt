@@ -1,6 +1,10 @@
 //! A law on the statements that queries stand for.
 //!
 //! The function carries a law about the definitions in `specs/` of the crates below. It does nothing when it runs.
+//!
+//! A caller of this law may tell the checker that the names are known (`Names::Known`), and they are not looked up again: to compare each
+//! column's declaration of its table with the schema's takes the width of the table for each column. Statements that a guard made or that a
+//! number determines do not come from a query, so their names are looked up.
 #![tactic(auto)]
 
 ghost use Rattle.std.specs.Prelude.{◌≡◌, Some};

@@ -3,7 +3,7 @@ use sql_leaf::{Comparison, Logic, Unary};
 use sql_pass::Value;
 use sql_schema::{SqlList, SqlType};
 
-/// What is made of one expression.
+/// An operator on one expression.
 #[derive(Debug, Clone, Copy, PartialEq, Eq)]
 pub enum UnaryOperator {
     /// `NOT (a)`
@@ -14,7 +14,7 @@ pub enum UnaryOperator {
     Count,
 }
 
-/// What is made of two expressions.
+/// An operator on two expressions.
 #[derive(Debug, Clone, Copy, PartialEq, Eq)]
 pub enum BinaryOperator {
     /// `(a = b)`

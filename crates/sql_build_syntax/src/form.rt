@@ -7,7 +7,7 @@ ghost use Rattle.sql_build_syntax.specs.declared.form.Form.TheVariants as form;
 
 use crate::{Call, ClauseCall, PlainCall};
 
-/// What kind of statement a query has become by its calls so far. It begins as a select statement.
+/// The kind of statement that a query has become by its calls so far. It begins as a select statement.
 #[derive(Debug, Clone, Copy, PartialEq, Eq)]
 pub enum Form {
     /// A select statement, on which all calls stand but those of combinations alone.

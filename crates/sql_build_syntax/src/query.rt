@@ -1,7 +1,7 @@
 use crate::{Call, Expr, Source};
 use sql_schema::SqlList;
 
-/// What a query begins with.
+/// The beginning of a query.
 #[cycle(syntax)]
 pub enum QueryStart {
     /// `"from":SOURCE`

@@ -1,7 +1,7 @@
 use crate::{AliasName, Expr, TableName};
 use sql_leaf::JoinKind;
 
-/// What rows are read from.
+/// A source of rows.
 #[cycle(syntax)]
 pub enum Source {
     /// `{"table":"users"}`

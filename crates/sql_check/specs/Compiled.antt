@@ -1,4 +1,4 @@
--- What the answer says of a statement that breaks no rule, and how that is read.
+-- The answer for a statement that breaks no rule, and how it is read.
 use Rattle.std.specs.Prelude.{◌≡◌, ◌++◌, ℕ, List, ◌∷◌, map, length, Some, Result, IfOk, IfErr}
 use Rattle.sql_schema.specs.Declarations.{Declarations}
 use Rattle.sql_dialect.specs.declared.backend.Dialect.{Dialect}
@@ -53,7 +53,7 @@ pub record IsLeast (r : Rule) (schema : Declarations) (d : Dialect) (s : Stateme
   pub broken : Broken r schema d s
   pub before : (front rest : List Rule) × (all_rules ≡ front ++ r ∷ rest) × Each (λ q. ¬ Broken q schema d s) front
 
--- What `compile` answers of the statement: it is built, and read as itself; or the rule that an error names is the first that is broken.
+-- The answer of `compile` for the statement: it is built, and read as itself; or the rule that an error names is the first that is broken.
 pub record Compiles (schema : Declarations) (d : Dialect) (s : Statement) (answer : Result Built CompileError) : Type 0 where
   pub built : IfOk answer (λ b. IsBuilt schema d s b)
   pub read : IfOk answer (λ b. IsRead d s b.sql b.binds)

@@ -1,4 +1,4 @@
--- What the loop over the flat list of a statement answers of it.
+-- The answer of the loop over the flat list of a statement.
 use Rattle.std.specs.Prelude.{◌≡◌}
 use Rattle.sql_dialect.specs.declared.backend.Dialect.{Dialect}
 use Rattle.sql_key.specs.Keys.{id_of}

@@ -1,4 +1,4 @@
--- What `compile` answers, and the types of a statement's columns.
+-- The answer of `compile`, and the types of a statement's columns.
 pub mod Compiled
 pub mod Errors
 pub mod Fused

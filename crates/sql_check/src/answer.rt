@@ -17,7 +17,7 @@ use sql_schema::{NoMemory, SqlList, SqlText};
 use std::alloc::Global;
 use std::sync::ledger::Ledger;
 
-/// What `fused` answers.
+/// The answer of `fused`.
 #[derive(Drop)]
 pub struct FusedAnswer {
     /// The text: `SELECT "users"."id" FROM "users" WHERE ("users"."id" = $1)`.

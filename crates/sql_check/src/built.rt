@@ -30,7 +30,7 @@ use std::alloc::Global;
 use std::marker::Brand;
 use std::sync::ledger::{Blank, Ledger};
 
-/// What `compile` answers of a statement that breaks no rule.
+/// The answer of `compile` for a statement that breaks no rule.
 #[derive(Drop)]
 pub struct Built {
     /// The text: `SELECT "users"."id" FROM "users" WHERE ("users"."id" = $1)`.
@@ -58,7 +58,7 @@ fn known_types(alloc: Global, types: &[Option<SqlType>]) -> Result<Vec<SqlType>,
     Ok(all)
 }
 
-/// What `fused` answers with a count of its own.
+/// Returns the answer of `fused`, with a count of its own.
 fn fused_from<DB: Backend, L: Ledger>(
     alloc: Global,
     backend: &DB,
@@ -77,7 +77,7 @@ fn fused_from<DB: Backend, L: Ledger>(
     fused(alloc, backend, flat, &mut Steps::<L>::new(blank))
 }
 
-/// What `fused` answers, whose steps nobody counts.
+/// Returns the answer of `fused`, whose steps nobody counts.
 pub(crate) fn uncounted<DB: Backend>(
     alloc: Global,
     backend: &DB,
@@ -126,7 +126,7 @@ fn build<DB: Backend>(
     })
 }
 
-/// What `compile_by` answers of the statement whose flat list this is.
+/// Returns the answer of `compile_by` for the statement whose flat list this is.
 ///
 /// List and schema stay as they are. `NoMemory` may stand in place of any answer.
 pub fn compile_flat_by<DB: Backend>(

@@ -1,5 +1,8 @@
 //! Compiles statements: text, values, types, flag and key of a statement that breaks no rule, or the first rule that it breaks;
 //! the same but for the types of a flat statement, in one loop; and whether a statement's values fit their types.
+//!
+//! Whether values fit is asked apart from the rules (`values_fit`), and takes no memory. A value that does not fit breaks TypeMismatch, so
+//! statements of one shape need not break the same rules. Where the values of both fit, they do.
 #![tactic(auto)]
 
 mod answer;

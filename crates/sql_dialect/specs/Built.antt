@@ -1,4 +1,4 @@
--- What a builder that numbers its placeholders holds.
+-- The contents of a builder that numbers its placeholders.
 use Rattle.std.specs.Prelude.{ℕ, List}
 
 pub record Built : Type 0 where

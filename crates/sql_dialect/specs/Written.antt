@@ -1,4 +1,4 @@
--- What each dialect writes for a name and for a placeholder.
+-- The text that each dialect writes for a name and for a placeholder.
 use Rattle.std.specs.Prelude.{ℕ, ◌+◌, List, [], ◌∷◌, Bool, true, false, decimal}
 use Rattle.sql_dialect.specs.Quote.{quoted_by}
 use Rattle.sql_dialect.specs.declared.backend.Dialect.{Dialect}

@@ -9,7 +9,7 @@ pub enum Combinator {
     Except,
 }
 
-/// What a combination makes of equal rows.
+/// The rule for equal rows of a combination.
 #[derive(Debug, Clone, Copy, PartialEq, Eq, PartialOrd, Ord, Hash)]
 pub enum DuplicateRule {
     /// Keeps one of them, as `UNION` alone does.

@@ -1,4 +1,7 @@
 //! The four dialects, and the builders that write a statement's text in each.
+//!
+//! Bracket numbers placeholders as PostgreSQL does, and takes lists and the bytes of values as MySQL does. So each case by dialect is tried by
+//! a second dialect.
 #![tactic(auto)]
 
 mod backend;

@@ -1,7 +1,7 @@
 ghost use Rattle.std.specs.Prelude.{◌≡◌};
 ghost use Rattle.sql_dialect.specs.Names as named;
 
-/// What becomes of a row that is there already.
+/// The form in which an insert says what becomes of a row that is there already.
 #[derive(Debug, Clone, Copy, PartialEq, Eq)]
 pub enum OnConflictClause {
     DoesNotSupportOnConflictClause,

@@ -42,7 +42,7 @@ pub enum AliasSyntax {
     AsAliasSyntax,
 }
 
-/// What a database understands, and in which form.
+/// The SQL that a database understands, and the form in which it does.
 pub trait SqlDialect {
     /// The dialect as which all values of the type answer.
     ghost answers_as: { Dialect };

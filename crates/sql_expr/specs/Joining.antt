@@ -1,4 +1,4 @@
--- What a join is given on its right side: a source, alone or with its condition.
+-- The right side of a join: a source, alone or with its condition.
 use Rattle.std.specs.Prelude.{Option, Some, None, List, [], ◌++◌, codes}
 use Rattle.sql_dialect.specs.declared.backend.Dialect.{Dialect}
 use Rattle.sql_pass.specs.Pieces.{Piece, one, Text}

@@ -16,7 +16,7 @@ use sql_node::{Expr, InValues, OrderItem};
 use sql_schema::{Column, NoMemory};
 use std::alloc::Global;
 
-/// What can be made of an expression.
+/// Methods that make an expression from another.
 pub trait ExpressionMethods: Sized {
     /// The expression.
     ghost expression: { Self → tree.Expr };

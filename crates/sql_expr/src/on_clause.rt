@@ -4,6 +4,7 @@ ghost use Rattle.std.specs.Prelude.{◌≡◌, ◌++◌, IfOk};
 ghost use Rattle.sql_expr.specs.Joining.{wrapper_tree, side_tree, side_pieces};
 
 use sql_dialect::Backend;
+use sql_leaf::ON;
 use sql_node::{Expr, Source};
 use sql_pass::{AstPass, PassError, QueryFragment};
 use sql_schema::NoMemory;
@@ -54,7 +55,7 @@ impl<DB: Backend> QueryFragment<DB> for OnClauseWrapper {
 
     fn walk_ast(&self, pass: &mut AstPass<DB>) -> Result<(), PassError> {
         self.source.walk_ast(pass)?;
-        pass.push_sql(" ON ")?;
+        pass.push_sql(ON)?;
         self.on.walk_ast(pass)?;
         Ok(())
     }

@@ -21,7 +21,7 @@ pub enum Uniqueness {
     DistinctOn,
 }
 
-/// What a select statement has beside its clauses.
+/// The properties of a select statement beside its clauses.
 #[derive(Debug, Clone, Copy, PartialEq, Eq, PartialOrd, Ord, Hash)]
 pub struct Selecting {
     /// Whether the selection is the default one.
@@ -32,7 +32,7 @@ pub struct Selecting {
     pub marks: Marks,
 }
 
-/// What a combination has beside its sides and its order.
+/// The properties of a combination beside its sides and its order.
 #[derive(Debug, Clone, Copy, PartialEq, Eq, PartialOrd, Ord, Hash)]
 pub struct Combining {
     pub combinator: Combinator,

@@ -13,6 +13,9 @@
 //! 6        Column "users"."id" ends at 7
 //! 7        Value 1             ends at 8
 //! ```
+//!
+//! A clause has a node of its own over its expression, and an absent clause has none. So each clause writes its own word, and what a node's
+//! children are needs no index.
 #![tactic(auto)]
 
 mod building;

@@ -47,6 +47,7 @@ fn selecting(
     }
 }
 
+/// `push_boxed` changes with it.
 #[tactic(auto, using(sql_flat_law::proofs::Adding::adding, sql_node::proofs::Trees::opens_select_statement))]
 #[cycle(walk)]
 fn push_select(
@@ -77,6 +78,7 @@ fn push_select(
     Ok(())
 }
 
+/// `push_select` changes with it.
 #[tactic(auto, using(sql_flat_law::proofs::Adding::adding, sql_node::proofs::Trees::opens_boxed_select_statement))]
 #[cycle(walk)]
 fn push_boxed(

@@ -1,4 +1,6 @@
 //! Reads the flat list of a statement back.
+//!
+//! It is a crate of its own, so that no other library waits for its proof but `hardieflax`.
 #![tactic(auto)]
 
 mod clauses;

@@ -1,4 +1,4 @@
-//! What nodes over three children at most stand for.
+//! The parts that nodes over at most three children stand for.
 #![tactic(auto)]
 
 ghost use Rattle.std.specs.Prelude.{◌≡◌, IfOk, Some, option_map};
@@ -62,7 +62,7 @@ fn part_over_expr(alloc: Global, kind: &FlatKind, a: Expr) -> Result<Part, NoMem
     }
 }
 
-/// What a node over one expression stands for.
+/// Returns the part that a node over one expression stands for.
 fn part_over_one(alloc: Global, kind: &FlatKind, one: Part) -> Result<Part, NoMemory>
     ensures { IfOk result (λ p. part_of p ≡ over_expr kind.now (expr_of (part_of one))) }
 {
@@ -266,7 +266,7 @@ fn side_part(one: Part) -> Part
     }
 }
 
-/// What a node of that kind stands for, over these children.
+/// Returns the part that a node of that kind stands for, over these children.
 #[tactic(auto, using(sql_node::proofs::Trees::opens_expr, sql_node::proofs::Trees::opens_source))]
 pub(crate) fn part_over_few(
     alloc: Global,

@@ -1,4 +1,4 @@
-//! What trees of nodes stand for.
+//! The parts of statements that trees of nodes stand for.
 #![tactic(auto)]
 
 ghost use Rattle.std.specs.Prelude.{◌≡◌, ◌++◌, OnOk, option_map, map};
@@ -15,7 +15,7 @@ use sql_node::{
 use sql_pass::Value;
 use sql_schema::{NoMemory, SqlList, SqlType};
 
-/// What a tree of nodes stands for.
+/// The part of a statement that a tree of nodes stands for.
 pub(crate) enum Part {
     Expr(Expr),
     /// A value of a list.
@@ -106,7 +106,7 @@ impl Part {
         }
     }
 
-    /// What a membership looks in.
+    /// Returns the values or the subquery of a membership, where the part is one of these.
     #[tactic(auto, using(sql_node::proofs::Trees::opens_in_values))]
     pub(crate) fn in_values(self) -> Option<InValues>
         ensures { option_map in_values_tree result ≡ among_in (part_of self) }

@@ -73,7 +73,7 @@ fn positions_part(
     Ok(Part::Positions(SqlList::from(items)))
 }
 
-/// What a node over three children at most stands for.
+/// Returns the part that a node over at most three children stands for.
 fn few_part(
     alloc: Global,
     kind: &FlatKind,
@@ -91,7 +91,7 @@ fn few_part(
     part_over_few(alloc, kind, one, two, three)
 }
 
-/// What a node of that kind stands for, over the trees that begin before the end, which leave the stack.
+/// Returns the part that a node of that kind stands for, over the trees that begin before the end. It takes these off the stack.
 fn part_over(
     alloc: Global,
     kind: &FlatKind,

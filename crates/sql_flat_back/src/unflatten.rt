@@ -18,7 +18,7 @@ fn unflattened(alloc: Global, flat: &Flat) -> Result<Statement, NoMemory>
     }
 }
 
-/// What a statement can be read back from.
+/// A list from which a statement can be read back.
 pub trait Unflatten {
     /// The flat list.
     ghost list: { Self → List FlatNode };

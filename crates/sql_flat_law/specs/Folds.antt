@@ -1,4 +1,4 @@
--- What a tree gives: from below, from above, and gathered with parts left out.
+-- The results of a tree: from below, from above, and gathered with parts left out.
 use Rattle.std.specs.Prelude.{List, [], ◌∷◌, ◌++◌, Bool, if◌then◌else◌}
 use Rattle.sql_flat_law.specs.Rose.{Rose, node, Roses, none, more}
 

@@ -1,4 +1,4 @@
--- What is said of each tree or node on a stack.
+-- A function over each tree or node on a stack.
 use Rattle.std.specs.Prelude.{ℕ, List, map}
 
 abbrev pub seen : {A B : Type 0} → (A → B) → List (ℕ × A) → List (ℕ × B)

@@ -1,4 +1,4 @@
--- What is written of a tree, node by node: something before a node, between its children and after it. A list writes
+-- The text that is written of a tree, node by node: something before a node, between its children and after it. A list writes
 -- nothing of its own: its elements, those of lists inside it too, are parted by commas.
 use Rattle.std.specs.Prelude.{ℕ, suc, List, [], ◌++◌, Bool, true, false, Option, None, Some}
 use Rattle.sql_flat_law.specs.Rose.{Rose, node, Roses, none, more}

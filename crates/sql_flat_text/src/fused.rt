@@ -16,7 +16,7 @@ use sql_schema::{SqlList, SqlText};
 use std::alloc::Global;
 use std::sync::ledger::Ledger;
 
-/// What a statement is written as.
+/// The text and the values of a statement, as one loop over its nodes writes them.
 #[derive(Debug, Drop)]
 pub struct Fused {
     /// The text: `SELECT "users"."id" FROM "users" WHERE ("users"."id" = $1)`.

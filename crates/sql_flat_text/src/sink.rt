@@ -1,4 +1,4 @@
-//! What the loop writes to: the text, the values and the flag.
+//! The sink to which the loop writes: the text, the values and the flag.
 #![tactic(auto, using(crate::proofs::Pouring::pouring))]
 
 ghost use Rattle.std.specs.Prelude.{◌≡◌, ◌∷◌, [], Ok, OnOk, IsErrOf};
@@ -14,7 +14,7 @@ use sql_schema::{SqlList, SqlText};
 use std::alloc::Global;
 use std::mem;
 
-/// What is written so far.
+/// The text, the values and the flag that are written so far.
 #[derive(Drop)]
 pub(crate) struct Sink<DB: Backend> {
     pub(crate) builder: DB::QueryBuilder,

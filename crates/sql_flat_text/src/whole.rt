@@ -18,7 +18,7 @@ use crate::sink::Sink;
 use crate::words::array_comparison;
 use sql_dialect::{ArrayComparison, Backend, BindError, Dialect, NoMemory};
 use sql_flat::{FlatKind, FlatNode};
-use sql_leaf::{Alias, COUNT_STAR, PositionalItem, constant_text};
+use sql_leaf::{Alias, COUNT_STAR, DOT, PositionalItem, constant_text};
 use sql_pass::{Bound, Value};
 use sql_schema::{Column, SqlList, SqlText, SqlType};
 use std::alloc::Global;
@@ -121,7 +121,7 @@ fn push_path<DB: Backend>(
         None => sink.push_identifier(name),
         Some(schema) => {
             sink.push_identifier(schema)?;
-            sink.push_sql(".")?;
+            sink.push_sql(DOT)?;
             sink.push_identifier(name)
         }
     }
@@ -141,12 +141,12 @@ fn push_column<DB: Backend>(
         None => {
             let (schema, name) = column.table().path();
             push_path(schema, name, sink)?;
-            sink.push_sql(".")?;
+            sink.push_sql(DOT)?;
             sink.push_identifier(column.sql_name())
         }
         Some(alias) => {
             sink.push_identifier(alias.as_str())?;
-            sink.push_sql(".")?;
+            sink.push_sql(DOT)?;
             sink.push_identifier(column.sql_name())
         }
     }
@@ -195,6 +195,7 @@ fn push_values<DB: Backend>(
     }
 }
 
+/// Appends `(1=0)`, or `(1=1)`, in place of a membership in no values.
 fn push_constant<DB: Backend>(
     empty: bool,
     negated: bool,

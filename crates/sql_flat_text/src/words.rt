@@ -1,4 +1,4 @@
-//! What is written before the children of a node, between them and after them.
+//! The text that is written before the children of a node, between them and after them.
 #![tactic(auto, using(crate::proofs::Pouring::pouring))]
 
 ghost use Rattle.std.specs.Prelude.{◌≡◌, ◌++◌, codes};
@@ -17,7 +17,7 @@ use sql_dialect::{ArrayComparison, Backend, BindError, Dialect, DuplicateRule};
 use sql_flat::{Combining, FlatKind, Form, Uniqueness};
 use sql_leaf::{
     ALL, ASC, CLOSE, CLOSE_BOTH, COMMA, COUNT_OPEN, DESC, DISTINCT, DISTINCT_ON_CLOSE,
-    DISTINCT_ON_OPEN, Direction, EXISTS_OPEN, FROM, GROUP_BY, HAVING, LimitOffsetClause,
+    DISTINCT_ON_OPEN, Direction, EXISTS_OPEN, FROM, FROM_OPEN, GROUP_BY, HAVING, LimitOffsetClause,
     LockingClause, ON, OPEN, ORDER_BY, SELECT, WHERE, among_text, combinator_text, join_text,
 };
 
@@ -66,7 +66,7 @@ fn push_from_open<DB: Backend>(sink: &mut Sink<DB>) -> Result<(), BindError>
         (one (Text from_open)) result
         (sunk DB.QueryBuilder.text DB.QueryBuilder.count sink.new) }
 {
-    sink.push_sql("SELECT * FROM (")
+    sink.push_sql(FROM_OPEN)
 }
 
 #[tactic(auto, unfolding(sql_pass::specs::Parts::side_open))]
@@ -290,6 +290,7 @@ fn push_lock<DB: Backend>(lock: LockingClause, sink: &mut Sink<DB>) -> Result<()
     }
 }
 
+/// As `walk_page` and `walk_boxed_end` of `sql_node`, which change with it.
 fn push_select_end<DB: Backend>(
     rows: LimitOffsetClause,
     form: Form,

@@ -53,7 +53,7 @@ pub data Kind : Type 0 where
   LockMode : Kind
   LockWait : Kind
 
--- What a kind is: its trees, those that fit a dialect, and the tokens of a tree, put before those that follow.
+-- A kind of the grammar: its trees, those that fit a dialect, and the tokens of a tree, put before those that follow.
 pub record Production : Type 1 where
   pub Tree : Type 0
   pub Fits : Dialect → Tree → Type 0

@@ -1,4 +1,4 @@
--- What a text says: a reading of it in a dialect is a tree that the dialect's grammar has for the text's tokens.
+-- The readings of a text: a reading of it in a dialect is a tree that the dialect's grammar has for the text's tokens.
 use Rattle.std.specs.Prelude.{◌≡◌, ℕ, List, Some}
 use Rattle.sql_dialect.specs.declared.backend.Dialect.{Dialect}
 use Rattle.sql_grammar.specs.Token.{Token}

@@ -1,4 +1,4 @@
--- What a text of SQL is made of (PostgreSQL, 4.1 Lexical Structure; MySQL, 9 Language Structure; SQLite, SQLite Keywords).
+-- The tokens of a text of SQL (PostgreSQL, 4.1 Lexical Structure; MySQL, 9 Language Structure; SQLite, SQLite Keywords).
 use Rattle.std.specs.Prelude.{ℕ, List, Option}
 
 -- The words of the grammar, spelled as they stand here, in capital letters.

@@ -11,7 +11,7 @@ use Rattle.sql_dialect.specs.declared.backend.Dialect.TheVariants.{Pg, Mysql, Sq
 use Rattle.sql_grammar.specs.Token.{Comparison, Equal, NotEqual, Less, LessOrEqual, Greater, GreaterOrEqual, Token, Quoted, Number, Mark, Sign, Open, Close, Comma, Dot, Star, Minus}
 use Rattle.sql_grammar.specs.Spelling.{is_letter, is_digit, word_of, value_of, is_placeholder_number, is_equal, is_p, quote, end_quote}
 
--- What has been read of the token at hand.
+-- The part of the token at hand that has been read.
 pub data State : Type 0 where
   -- no token is at hand
   Between : State
@@ -75,7 +75,7 @@ begun d c =
     else (if nat_eq c 62 then Some AfterGreater
     else begun_name d c))))))))))))
 
--- What the token at hand is, where it ends.
+-- The token at hand, where it ends.
 pub data Ending : Type 0 where
   Nothing : Ending
   Broken : Ending

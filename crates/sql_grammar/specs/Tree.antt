@@ -1,4 +1,4 @@
--- What a statement says: one kind of node for each production of the grammar. P is what stands at the place of a value: a
+-- The tree of a statement: one kind of node for each production of the grammar. P is what stands at the place of a value: a
 -- mark in a text that is read, a value in a tree that is filled. Lists are never empty, so each has a first element by its
 -- form. The words are SQL's (PostgreSQL, SELECT; MySQL, 13.2.13 SELECT Statement; SQLite, SELECT and SQL Language
 -- Expressions).

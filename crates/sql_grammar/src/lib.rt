@@ -1,6 +1,12 @@
 //! The grammar of SELECT statements in the four dialects, and laws on it. `docs/GRAMMAR.md` has it in words.
 //!
 //! The functions here do nothing when they run: each carries laws about the definitions in `specs/`.
+//!
+//! A page whose offset is written first is a node of its own (`FetchBy`, beside `PageBy`), since on Bracket the offset's value comes before
+//! the limit's. With one node for both orders, each function that numbers or fills the values of a tree would need the dialect.
+//!
+//! The kinds of trees are those of the productions. For most of them the law of one reading follows from that of queries, by a query around
+//! the part.
 #![tactic(auto)]
 
 ghost use Rattle.std.specs.Prelude.{◌≡◌, ◌+◌, ◌<◌, [], ◌∷◌, ◌++◌, ℕ, List, Some, None, IsTrue, IsFalse, length, codes};
@@ -127,8 +133,8 @@ pub fn joined_texts()
         → tokens d (a ++ c ∷ b) ≡ Some (xs ++ ys) }
 {}
 
-/// What the program writes for a tree that the dialect has is read as that tree, and as no other. The placeholder of a value
-/// is written in it as a builder of the dialect writes it.
+/// Proves that the text that the program writes for a tree that the dialect has is read as that tree, and as no other. The
+/// placeholder of a value is written in it as a builder of the dialect writes it.
 pub fn written()
     ensures tree { (d : Dialect) (q : Query) → FitsQuery d q → OnlyReading d (text d q) q }
     ensures place { (d : Dialect) (before : ℕ) (rest : List ℕ) →

@@ -1,8 +1,12 @@
 //! The tenant guard: `restrict_all` puts a predicate beside each leaf of each table, at every depth, so that a statement sees one
 //! tenant's rows alone. `restrict` does so with one table and no subselect.
 //!
-//! What is promised of it is said in `docs/GUARD.md`. The definitions and laws are those of `sql_guard_law`, which this crate
+//! The promises are in `docs/GUARD.md`. The definitions and laws are those of `sql_guard_law`, which this crate
 //! re-exports.
+//!
+//! `restrict` refuses a subselect, a COUNT or a GROUP BY anywhere (OutOfKind), also where they read other tables. HAVING alone is not refused,
+//! since no group is made by it; such a statement breaks Incompatible. Refusals are asked of the nodes of a flat list, and only what rebuilds
+//! a statement recurses.
 #![tactic(auto)]
 
 mod error;

@@ -45,21 +45,6 @@ fn is_misread_operand(expr: &Expr) -> bool
     is_negation(expr) || is_misread(expr)
 }
 
-#[cycle(misread)]
-fn is_either_misread(a: &Expr, b: &Expr) -> bool
-    ensures { result ≡ (misread (expr_tree a.now) || misread (expr_tree b.now)) }
-{
-    is_misread(a) || is_misread(b)
-}
-
-#[cycle(misread)]
-fn is_either_operand_misread(a: &Expr, b: &Expr) -> bool
-    ensures { result ≡ ((negation (expr_tree a.now) || misread (expr_tree a.now))
-        || (negation (expr_tree b.now) || misread (expr_tree b.now))) }
-{
-    is_misread_operand(a) || is_misread_operand(b)
-}
-
 /// Whether a NOT is an operand of a comparison, a null test or a membership.
 #[cycle(misread)]
 fn is_misread(expr: &Expr) -> bool
@@ -69,13 +54,13 @@ fn is_misread(expr: &Expr) -> bool
         Expr::Nullable(a) | Expr::Not(a) | Expr::Count(a) => is_misread(a),
         Expr::IsNull(a) | Expr::IsNotNull(a) => is_misread_operand(a),
         Expr::EqAny(a, _) | Expr::NeAll(a, _) => is_misread_operand(a),
-        Expr::And(a, b) | Expr::Or(a, b) => is_either_misread(a, b),
+        Expr::And(a, b) | Expr::Or(a, b) => is_misread(a) || is_misread(b),
         Expr::Eq(a, b)
         | Expr::Ne(a, b)
         | Expr::Gt(a, b)
         | Expr::Ge(a, b)
         | Expr::Lt(a, b)
-        | Expr::Le(a, b) => is_either_operand_misread(a, b),
+        | Expr::Le(a, b) => is_misread_operand(a) || is_misread_operand(b),
         Expr::Column(_)
         | Expr::Field(_)
         | Expr::Value(_, _)
@@ -118,7 +103,8 @@ pub(crate) fn are_sound(alloc: Global, policies: &[Policy]) -> Result<bool, NoMe
 }
 
 fn may_be_one_schema(one: Option<&str>, other: Option<&str>) -> bool
-    ensures { result ≡ may_be_one (option_map (λ s. s.now) one) (option_map (λ s. s.now) other) }
+    ensures { result ≡ may_be_one (option_map (λ s. s.now) one.entry)
+        (option_map (λ s. s.now) other.entry) }
 {
     match (one, other) {
         (Some(one), Some(other)) => one.eq_ignore_ascii_case(other),

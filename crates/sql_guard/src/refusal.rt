@@ -117,7 +117,7 @@ pub(crate) fn is_predicate(alloc: Global, table: &Table, expr: &Expr) -> Result<
     Ok(and_not(condition, foreign))
 }
 
-/// What keeps a statement from being restricted.
+/// The reasons that keep a statement from being restricted.
 #[derive(Debug, Clone, Copy)]
 pub(crate) struct Kept {
     /// An aggregate, a subselect or a `GROUP BY` stands in it.
@@ -126,7 +126,7 @@ pub(crate) struct Kept {
     pub(crate) unrelated: bool,
 }
 
-/// What keeps the statement from it.
+/// Returns the reasons that keep the statement from being restricted.
 pub(crate) fn kept_from(alloc: Global, statement: &Statement) -> Result<Kept, NoMemory>
     ensures kind { IfOk result (λ k. Decides k.out_of_kind
         (AnyOf IsOutOfKind (parts [] (statement_tree statement.now)))) }
@@ -194,7 +194,7 @@ pub fn count_predicates(
     Ok(count)
 }
 
-/// What keeps a statement from being guarded.
+/// The reasons that keep a statement from being guarded.
 #[derive(Debug, Clone, Copy)]
 pub(crate) struct Gaps {
     /// A join has no condition.
@@ -203,7 +203,7 @@ pub(crate) struct Gaps {
     pub(crate) uncovered: bool,
 }
 
-/// What keeps the statement from being guarded by the policies.
+/// Returns the reasons that keep the statement from being guarded by the policies.
 pub(crate) fn find_gaps(
     alloc: Global,
     policies: &[Policy],

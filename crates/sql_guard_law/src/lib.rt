@@ -1,7 +1,11 @@
-//! What a statement restricted to one tenant is, and that it answers exactly what the statement answers over that tenant's rows.
+//! Statements restricted to one tenant, and the law that each answers exactly what the statement itself answers over that tenant's rows.
 //!
 //! The definitions are in `specs/`, in words in `docs/GUARD.md`. Each function here carries a law about them. None does anything
 //! when it runs.
+//!
+//! The laws are over the meaning alone, so they are proved beside the checker. They are of a guard at every depth (`guarded`), with subselects
+//! and groups. Without subselects that is `restricted`, which `restrict` makes. Several policies act in turn, and a database is cut by all of
+//! them at once, so their order is of no account.
 #![tactic(auto)]
 
 ghost use Rattle.std.specs.Prelude.{◌≡◌, List, []};

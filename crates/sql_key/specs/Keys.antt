@@ -1,4 +1,4 @@
--- What a key holds: the flat list of the statement's shape, which is the statement's flat list with its values erased.
+-- The contents of a key: the flat list of the statement's shape, which is the statement's flat list with its values erased.
 use Rattle.std.specs.Prelude.{List, Option, None, Some, if◌then◌else◌}
 use Rattle.sql_node.specs.Tree.{Statement}
 use Rattle.sql_flat.specs.Flat.{flat_of}

@@ -13,6 +13,8 @@ use sql_pass::{AstPass, PassError, QueryFragment};
 use sql_schema::NoMemory;
 use std::alloc::Global;
 
+const OFFSET: &str = " OFFSET ";
+
 /// How many rows are given, and how many are left out before them.
 #[derive(Debug, Clone, Copy, PartialEq, Eq, PartialOrd, Ord, Hash)]
 pub struct LimitOffsetClause {
@@ -101,7 +103,7 @@ fn walk_offset<DB: Backend>(offset: i64, pass: &mut AstPass<DB>) -> Result<(), P
         (offset_pieces offset) result
         (held DB.QueryBuilder.text DB.QueryBuilder.count pass.new) }
 {
-    pass.push_sql(" OFFSET ")?;
+    pass.push_sql(OFFSET)?;
     push_big(offset, pass)?;
     Ok(())
 }
@@ -111,7 +113,7 @@ fn walk_offset_rows<DB: Backend>(offset: i64, pass: &mut AstPass<DB>) -> Result<
         (offset_rows_pieces offset) result
         (held DB.QueryBuilder.text DB.QueryBuilder.count pass.new) }
 {
-    pass.push_sql(" OFFSET ")?;
+    pass.push_sql(OFFSET)?;
     push_big(offset, pass)?;
     pass.push_sql(" ROWS")?;
     Ok(())

@@ -20,7 +20,7 @@ pub enum LockMode {
     ForKeyShare,
 }
 
-/// What is done where a row is locked already.
+/// The modifier of a lock, which says what is done where a row is locked already.
 #[derive(Debug, Clone, Copy, PartialEq, Eq, PartialOrd, Ord, Hash)]
 pub enum Modifier {
     NoModifier,

@@ -7,8 +7,8 @@ use sql_pass::{AstPass, PassError, QueryFragment};
 use sql_schema::NoMemory;
 use std::alloc::Global;
 
-/// What calls leave on a statement that they can't act on. A statement with a mark is refused once it is checked, and a mark
-/// stays for good. A mark is not written.
+/// The marks that calls leave on a statement that they can't act on. A statement with a mark is refused once it is checked,
+/// and a mark stays for good. A mark is not written.
 #[derive(Debug, Clone, Copy, PartialEq, Eq, PartialOrd, Ord, Hash)]
 pub struct Marks {
     /// A join on a statement without a source.

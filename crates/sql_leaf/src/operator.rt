@@ -1,7 +1,9 @@
 ghost use Rattle.std.specs.Prelude.{◌≡◌};
 ghost use Rattle.sql_leaf.specs.Operators.{comparison_sql, logic_sql, unary_after, unary_before};
 
-/// What is said of one expression.
+use sql_pass::{CLOSE, OPEN};
+
+/// A condition on one expression.
 #[derive(Debug, Clone, Copy, PartialEq, Eq, PartialOrd, Ord, Hash)]
 pub enum Unary {
     /// `NOT (a)`.
@@ -13,23 +15,23 @@ pub enum Unary {
 }
 
 impl Unary {
-    /// What stands before the expression: `NOT (`.
+    /// Returns the text before the expression: `NOT (`.
     pub fn before(self) -> &'static str
         ensures { result.now ≡ unary_before self }
     {
         match self {
             Unary::Not => "NOT (",
-            Unary::IsNull | Unary::IsNotNull => "(",
+            Unary::IsNull | Unary::IsNotNull => OPEN,
         }
     }
 
-    /// What stands after the expression: ` IS NULL)`.
+    /// Returns the text after the expression: ` IS NULL)`.
     #[tactic(auto, unfolding(crate::specs::Operators::is_not_null))]
     pub fn after(self) -> &'static str
         ensures { result.now ≡ unary_after self }
     {
         match self {
-            Unary::Not => ")",
+            Unary::Not => CLOSE,
             Unary::IsNull => " IS NULL)",
             Unary::IsNotNull => " IS NOT NULL)",
         }
@@ -48,7 +50,7 @@ pub enum Comparison {
 }
 
 impl Comparison {
-    /// What stands between the two: ` = `.
+    /// Returns the text between the two sides: ` = `.
     pub fn text(self) -> &'static str
         ensures { result.now ≡ comparison_sql self }
     {
@@ -71,7 +73,7 @@ pub enum Logic {
 }
 
 impl Logic {
-    /// What stands between the two: ` AND `.
+    /// Returns the text between the two sides: ` AND `.
     pub fn text(self) -> &'static str
         ensures { result.now ≡ logic_sql self }
     {

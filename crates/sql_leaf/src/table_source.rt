@@ -8,7 +8,7 @@ ghost use Rattle.sql_leaf.specs.Sources.{join_kind_sql, only_pieces, method_sql,
 
 use crate::bound::{push_integer, push_small};
 use sql_dialect::Backend;
-use sql_pass::{AstPass, PassError, QueryFragment};
+use sql_pass::{AstPass, CLOSE, PassError, QueryFragment};
 use sql_schema::{NoMemory, Table};
 use std::alloc::Global;
 
@@ -135,7 +135,7 @@ fn walk_seed<DB: Backend>(seed: Option<i32>, pass: &mut AstPass<DB>) -> Result<(
         Some(seed) => {
             push_repeatable(pass)?;
             push_integer(seed, pass)?;
-            pass.push_sql(")")
+            pass.push_sql(CLOSE)
         }
     }
 }
@@ -165,7 +165,7 @@ impl<DB: Backend> QueryFragment<DB> for Tablesample {
     fn walk_ast(&self, pass: &mut AstPass<DB>) -> Result<(), PassError> {
         pass.push_sql(method_word(self.method))?;
         push_small(self.portion, pass)?;
-        pass.push_sql(")")?;
+        pass.push_sql(CLOSE)?;
         walk_seed(self.seed, pass)?;
         Ok(())
     }

@@ -1,5 +1,5 @@
 //! The words that are written between the parts of a statement, each once: a walk over nodes and a loop over their flat list both take
-//! them from here.
+//! them from here. Those that `sql_pass` writes too are its own, and this crate hands them on.
 
 ghost use Rattle.std.specs.Prelude.{◌≡◌};
 ghost use Rattle.sql_leaf.specs.Words.{among_word, combinator_sql, constant_sql, join_sql};
@@ -7,11 +7,6 @@ ghost use Rattle.sql_leaf.specs.Words.{among_word, combinator_sql, constant_sql,
 use crate::JoinKind;
 use sql_dialect::{ArrayComparison, Combinator};
 
-/// Before one expression or a query, and before two expressions, between which an operator stands: without brackets a condition that is
-/// added later would regroup them.
-pub const OPEN: &str = "(";
-
-pub const CLOSE: &str = ")";
 /// After what a membership looks in.
 pub const CLOSE_BOTH: &str = "))";
 /// Before each part of a list but the first.
@@ -33,8 +28,6 @@ pub const DISTINCT_ON_CLOSE: &str = ") ";
 
 pub const FROM: &str = " FROM ";
 
-pub const ON: &str = " ON ";
-
 pub const WHERE: &str = " WHERE ";
 
 pub const GROUP_BY: &str = " GROUP BY ";
@@ -49,7 +42,7 @@ pub const DESC: &str = " DESC";
 /// Behind the operator of a combination that keeps equal rows.
 pub const ALL: &str = "ALL ";
 
-/// What stands between what is sought and what it is looked for in, with the bracket that opens there.
+/// Returns the text between an expression and the values among which it is sought, with the bracket that opens there: ` IN (`.
 pub fn among_text(comparison: ArrayComparison, negated: bool) -> &'static str
     ensures { result.now ≡ among_word comparison negated }
 {
@@ -65,7 +58,7 @@ pub fn among_text(comparison: ArrayComparison, negated: bool) -> &'static str
     }
 }
 
-/// What is written in place of a membership in no values.
+/// Returns the text that is written for a membership in no values: `(1=0)`.
 pub fn constant_text(negated: bool) -> &'static str
     ensures { result.now ≡ constant_sql negated }
 {
@@ -75,7 +68,7 @@ pub fn constant_text(negated: bool) -> &'static str
     }
 }
 
-/// What stands between the sides of a join.
+/// Returns the text between the sides of a join: ` INNER JOIN `.
 pub fn join_text(kind: JoinKind) -> &'static str
     ensures { result.now ≡ join_sql kind }
 {
@@ -85,7 +78,7 @@ pub fn join_text(kind: JoinKind) -> &'static str
     }
 }
 
-/// What stands between the sides of a combination.
+/// Returns the text between the sides of a combination: ` UNION `.
 pub fn combinator_text(combinator: Combinator) -> &'static str
     ensures { result.now ≡ combinator_sql combinator }
 {

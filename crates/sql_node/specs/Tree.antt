@@ -18,7 +18,7 @@ use Rattle.sql_leaf.specs.declared.operator.Unary.{Unary}
 use Rattle.sql_leaf.specs.declared.operator.Comparison.{Comparison}
 use Rattle.sql_leaf.specs.declared.operator.Logic.{Logic}
 
--- What a column is one of: a table, or an alias of one. Two leaves of a source are one where their origins are equal.
+-- The origin of a column: a table, or an alias of one. Two leaves of a source are one where their origins are equal.
 pub record Origin : Type 0 where
   pub alias : Option (List ℕ)
   pub table : TableDecl

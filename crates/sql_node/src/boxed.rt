@@ -84,7 +84,7 @@ impl BoxedSelectStatement {
     }
 }
 
-/// Pushes the order of a boxed statement and what follows it.
+/// Pushes the order of a boxed statement and what follows it. `walk_page`, and `push_select_end` of `sql_flat_text`, change with it.
 #[cycle(walk)]
 fn walk_boxed_end<DB: Backend>(
     order: &OrderClause,

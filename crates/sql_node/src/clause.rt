@@ -24,7 +24,7 @@ pub enum FromClause {
     FromClause(Source),
 }
 
-/// What is selected, and whether by default: the columns of the source.
+/// The selection, and whether it is the default one: the columns of the source.
 #[cycle(ast)]
 #[derive(Drop)]
 pub enum SelectClause {

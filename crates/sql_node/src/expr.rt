@@ -149,7 +149,7 @@ fn drop_among(among: InValues) {
     drop(among);
 }
 
-/// What a membership looks in.
+/// The values or the subquery in which a membership looks.
 #[cycle(ast)]
 pub enum InValues {
     /// Values of that type.

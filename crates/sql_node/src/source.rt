@@ -13,7 +13,7 @@ use sql_pass::{AstPass, PassError, QueryFragment};
 use sql_schema::NoMemory;
 use std::alloc::Global;
 
-/// What rows are read from.
+/// A source of rows.
 #[cycle(ast)]
 pub enum Source {
     Table(TableSource),

@@ -161,6 +161,7 @@ impl<DB: Backend> QueryFragment<DB> for Statement {
     }
 }
 
+/// As `walk_boxed_end`, and `push_select_end` of `sql_flat_text`, which change with it.
 fn walk_page<DB: Backend>(
     rows: LimitOffsetClause,
     locking: LockingClause,

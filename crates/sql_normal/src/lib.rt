@@ -37,7 +37,7 @@ pub fn filled_by_values()
         length (values_query (normal d s)) ≡ length (values_of (pieces d s)) }
 {}
 
-/// What a filled tree doesn't show: whether a selection is the default one, whether the statement is boxed, the marks that
+/// Proves that a filled tree doesn't show whether a selection is the default one, whether the statement is boxed, the marks that
 /// calls left, nullables, and lists inside lists.
 pub fn leaves_no_trace()
     ensures selects { (d : Dialect) (default other_default : Bool) (e : Expr) (f : From)

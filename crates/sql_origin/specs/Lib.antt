@@ -1,4 +1,4 @@
--- What rows come from: tables, aliases, and the leaves of a source.
+-- The origins of rows: tables, aliases, and the leaves of a source.
 pub mod Borrowed
 pub mod Leaves
 pub mod Origins

@@ -1,4 +1,4 @@
--- What rows come from: a table, or an alias of one (PostgreSQL, SELECT, FROM Clause; diesel, `QuerySource`, `Alias`).
+-- The origins of rows: a table, or an alias of one (PostgreSQL, SELECT, FROM Clause; diesel, `QuerySource`, `Alias`).
 use Rattle.std.specs.Prelude.{ℕ, List, [], ◌∷◌, Bool, ◌&&◌, Option, None, Some}
 use Rattle.std.specs.Option.{option_eq}
 use Rattle.std.specs.Str.{bytes_eq}

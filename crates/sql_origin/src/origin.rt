@@ -11,7 +11,7 @@ use sql_node::Expr;
 use sql_schema::{Column, NoMemory, SqlText, Table};
 use std::alloc::Global;
 
-/// What a leaf of a source is, and what a column is one of: a table, or an alias of it.
+/// The origin of a leaf of a source or of a column: a table, or an alias of one.
 #[derive(Clone, Copy)]
 pub struct Origin<'s> {
     /// The alias's name, where it is one.

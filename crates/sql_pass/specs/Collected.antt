@@ -1,4 +1,4 @@
--- What a collector holds: the types of the binds and their bytes, in order, None for a NULL.
+-- The contents of a collector: the types of the binds and their bytes, in order, None for a NULL.
 use Rattle.std.specs.Prelude.{ℕ, List, ◌∷◌, [], ◌++◌, map, Option, Some, None, Vec}
 use Rattle.std.specs.declared.alloc.Global.{Global}
 use Rattle.sql_dialect.specs.declared.backend.Dialect.{Dialect}

@@ -1,4 +1,4 @@
--- What a pass holds, and what a list of pieces makes of it.
+-- The contents of a pass, and the change that a list of pieces makes to them.
 use Rattle.std.specs.Prelude.{ℕ, Bool, true, false, ◌&&◌, ◌||◌, List, ◌++◌, nat_eq}
 use Rattle.sql_dialect.specs.declared.backend.Dialect.{Dialect}
 use Rattle.sql_dialect.specs.Written.{numbers, MAX_BINDS}

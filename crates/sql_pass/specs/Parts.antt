@@ -11,7 +11,7 @@ pieces_of_option f (Some x) = f x
 unfoldable pub from_open : List ℕ
 from_open = codes "SELECT * FROM ("
 
--- What stands before a query that is a side of a combination. SQLite takes no brackets there (SELECT, Compound Select
+-- The text before a query that is a side of a combination. SQLite takes no brackets there (SELECT, Compound Select
 -- Statements): the query is read from as a table.
 unfoldable pub side_open : Dialect → List ℕ
 side_open Pg = codes "("

@@ -1,4 +1,4 @@
--- What a part of a statement means: a list of pieces, and functions of that list (diesel, `AstPass`).
+-- The meaning of a part of a statement: a list of pieces, and functions of that list (diesel, `AstPass`).
 use Rattle.std.specs.Prelude.{ℕ, ◌+◌, Bool, true, false, ◌&&◌, List, [], ◌∷◌, ◌++◌}
 use Rattle.sql_dialect.specs.declared.backend.Dialect.{Dialect}
 use Rattle.sql_dialect.specs.Written.{quoted, placeholder, raised}

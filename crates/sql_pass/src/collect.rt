@@ -12,7 +12,7 @@ use sql_schema::SqlType;
 use std::alloc::{AllocError, Global};
 use std::marker::Model;
 
-/// What was bound: a value or a list of values, of which type.
+/// The type of what was bound: of a value, or of each value of a list.
 #[derive(Debug, Clone, Copy, PartialEq, Eq)]
 pub enum BindType {
     Value(SqlType),

@@ -18,7 +18,7 @@ use std::alloc::{AllocError, Global};
 
 /// A part of a statement. It means a list of pieces, and a walk pushes them.
 pub trait QueryFragment<DB: Backend> {
-    /// What the part means in the backend's dialect.
+    /// The meaning of the part in the backend's dialect, a list of pieces.
     ghost pieces: { Self → List Piece };
 
     /// Pushes the pieces in order, up to the first refusal.

@@ -8,6 +8,7 @@ ghost use Rattle.sql_pass.specs.Walks.{Walks};
 
 use crate::fragment::QueryFragment;
 use crate::pass::{AstPass, PassError};
+use crate::words::{CLOSE, FROM_OPEN, ON, OPEN};
 use sql_dialect::{Backend, Dialect};
 
 /// A name, which is written quoted: `"users"`, or `` `users` ``.
@@ -22,9 +23,9 @@ impl<DB: Backend> QueryFragment<DB> for Identifier<'_> {
     }
 }
 
-/// What stands between the two parts of an `InfixNode`.
+/// The part in the middle of an `InfixNode`, between its two other parts.
 pub trait MiddleFragment<DB: Backend> {
-    /// What it means in the backend's dialect.
+    /// Its meaning in the backend's dialect, a list of pieces.
     ghost middle: { Self → List Piece };
 
     /// Pushes the pieces in order, up to the first refusal.
@@ -50,7 +51,7 @@ impl<DB: Backend> MiddleFragment<DB> for OnKeyword {
     ghost middle = { λ _. one (Text (codes " ON ")) };
 
     fn push_sql(&self, pass: &mut AstPass<DB>) -> Result<(), PassError> {
-        pass.push_sql(" ON ")
+        pass.push_sql(ON)
     }
 }
 
@@ -96,7 +97,7 @@ impl<DB: Backend, T: QueryFragment<DB>> QueryFragment<DB> for ParenthesisWrapper
     fn walk_ast(&self, pass: &mut AstPass<DB>) -> Result<(), PassError> {
         push_side_open(pass)?;
         self.inner.walk_ast(pass)?;
-        pass.push_sql(")")?;
+        pass.push_sql(CLOSE)?;
         Ok(())
     }
 }
@@ -109,7 +110,7 @@ pub fn push_side_open<DB: Backend>(pass: &mut AstPass<DB>) -> Result<(), PassErr
         (held DB.QueryBuilder.text DB.QueryBuilder.count pass.new) }
 {
     match pass.backend().dialect() {
-        Dialect::Pg | Dialect::Mysql | Dialect::Bracket => pass.push_sql("("),
+        Dialect::Pg | Dialect::Mysql | Dialect::Bracket => pass.push_sql(OPEN),
         Dialect::Sqlite => push_from_open(pass),
     }
 }
@@ -119,5 +120,5 @@ fn push_from_open<DB: Backend>(pass: &mut AstPass<DB>) -> Result<(), PassError>
     ensures { Walks DB.speaks (held DB.QueryBuilder.text DB.QueryBuilder.count pass.old)
         (one (Text from_open)) result (held DB.QueryBuilder.text DB.QueryBuilder.count pass.new) }
 {
-    pass.push_sql("SELECT * FROM (")
+    pass.push_sql(FROM_OPEN)
 }

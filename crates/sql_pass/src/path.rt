@@ -7,6 +7,7 @@ ghost use Rattle.sql_pass.specs.Walks.{Walks};
 
 use crate::fragment::QueryFragment;
 use crate::pass::{AstPass, PassError};
+use crate::words::DOT;
 use sql_dialect::Backend;
 use sql_schema::{Column, Table};
 
@@ -15,7 +16,7 @@ pub fn push_dotted<DB: Backend>(name: &str, pass: &mut AstPass<DB>) -> Result<()
     ensures { Walks DB.speaks (held DB.QueryBuilder.text DB.QueryBuilder.count pass.old)
         (dotted name.now) result (held DB.QueryBuilder.text DB.QueryBuilder.count pass.new) }
 {
-    pass.push_sql(".")?;
+    pass.push_sql(DOT)?;
     pass.push_identifier(name)?;
     Ok(())
 }

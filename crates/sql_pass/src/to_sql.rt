@@ -9,7 +9,7 @@ use std::alloc::Global;
 
 /// A value that may be bound.
 pub trait ToSql {
-    /// What is bound for it.
+    /// The value or the list that is bound for it.
     ghost binds: { Self → Bound };
 
     /// The bound value: of `7i32` the Integer 7. Of Rust's values the type is the one that has no NULL.

@@ -16,7 +16,7 @@ pub enum Value {
     Null,
 }
 
-/// What is bound to a placeholder: a value, or a list of values as one.
+/// A value that is bound to a placeholder, or a list of values that is bound as one.
 #[derive(Debug, Drop, PartialEq, Eq)]
 pub enum Bound {
     Value(SqlType, Value),

@@ -1,4 +1,4 @@
--- What raw queries mean, and the line that shows a part.
+-- The meaning of raw queries, and the line that shows a part.
 pub mod Raw
 pub mod Boxed
 pub mod Debug

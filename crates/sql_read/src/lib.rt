@@ -1,4 +1,15 @@
 //! Reads a text as the tree that the grammar has for it, and writes a tree.
+//!
+//! Some 280 functions are for readers of texts alone, so they are in five crates of at most 120, apart from the grammar, on which most other
+//! crates depend: a change in one of the five leaves the others alone.
+//!
+//! The machine may find a tree for tokens that have no reading, as it looks at no more than it needs. So `read` asks whether the dialect has
+//! the tree, writes it and compares. These are further passes, all linear, in place of a proof that the machine takes nothing else.
+//!
+//! Lexer and machine keep a stack of their own on the heap, however deep a text is. The tree is tested, written and dropped by calls, one for
+//! each level. A level has brackets of its own, so the tokens tell the depth before a tree is made, and a text that nests too deep is
+//! NoMemory. A text that leaves a bracket open has no reading at any depth; that is looked at first, so that one such line of a log hides no
+//! others.
 #![tactic(auto)]
 
 mod error;

@@ -12,7 +12,7 @@ use sql_read_tree::{Query, count_query};
 use sql_read_writer::push_query;
 use std::alloc::Global;
 
-/// What a text says: of `SELECT ("a"."x" = $7)` a query that selects one comparison.
+/// The tree that a text is read as: of `SELECT ("a"."x" = $7)` a query that selects one comparison.
 ///
 /// It comes from `read` alone, so its brackets nest no deeper than `MAX_DEPTH`, and each walk over it, its drop among them, ends
 /// within the stack.
@@ -33,7 +33,7 @@ impl Tree {
 /// The text of a tree in a dialect, with single spaces: `SELECT ("a"."x" = $7)`.
 pub fn write(alloc: Global, dialect: Dialect, tree: &Tree) -> Result<String, NoMemory>
     ensures text { IfOk result (λ s. string_bytes s ≡ text_of dialect (tree_of tree.now)) }
-    // What was read is written with the same tokens, so that it is read as the same tree.
+    // The tree of a text is written with the text's tokens, so that it is read as the same tree.
     ensures same_tokens { (t : List ℕ) → IsReading dialect t (tree_of tree.now)
         → IfOk result (λ s. tokens dialect (string_bytes s) ≡ tokens dialect t) }
     ensures read_back { (t : List ℕ) → IsReading dialect t (tree_of tree.now)

@@ -1,3 +1,3 @@
--- What only the lexer and its proofs need.
+-- Definitions that only the lexer and its proofs need.
 pub mod Cut
 pub mod States

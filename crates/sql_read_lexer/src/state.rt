@@ -13,7 +13,7 @@ use crate::word::word;
 use sql_dialect::{Dialect, NoMemory};
 use std::alloc::Global;
 
-/// What has been read of the token at hand.
+/// The part of the token at hand that has been read.
 #[derive(Drop)]
 pub enum State {
     /// No token is at hand.
@@ -217,7 +217,7 @@ pub fn begin(alloc: Global, dialect: Dialect, byte: u8) -> Result<Option<State>,
     Ok(begin_name(alloc, dialect, byte))
 }
 
-/// What a state comes to where its token ends.
+/// The result of a state where its token ends.
 #[derive(Drop)]
 pub enum End {
     /// No token was at hand.
@@ -227,7 +227,7 @@ pub enum End {
     Is(Token),
 }
 
-/// What the token at hand is, where it ends.
+/// Ends the token at hand, and returns what it is.
 #[tactic(auto, unfolding(sql_grammar::specs::Tokens::ending))]
 pub fn finish(state: State) -> End
     requires { IsText (state_of state) }

@@ -61,7 +61,7 @@ pub enum Keyword {
     Next,
 }
 
-/// What a text is made of.
+/// A token of a text.
 #[derive(Debug, Drop)]
 pub enum Token {
     /// A quoted identifier, by its name.

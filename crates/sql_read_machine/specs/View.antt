@@ -1,4 +1,4 @@
--- What the program keeps, seen as the machine's items.
+-- The program's stack, seen as the machine's items.
 use Rattle.std.specs.Prelude.{◌≡◌, ℕ, List, [], ◌∷◌, map, reverse, string_bytes, Option, Some, None}
 use Rattle.sql_grammar.specs.MarkTree as t
 use Rattle.sql_grammar.specs.Token as token

@@ -18,7 +18,7 @@ pub struct Places {
     pub later: Vec<Place>,
 }
 
-/// What stands after the first part of a bracket, with the bracket's end.
+/// The part of a bracket after its first part, with the bracket's end.
 #[derive(Drop)]
 pub enum Right {
     Compares(Comparison, Expression),
@@ -43,7 +43,7 @@ pub struct Clauses {
     pub lock: Lock,
 }
 
-/// What tokens have come to.
+/// An entry of the stack: what some tokens have come to.
 #[derive(Drop)]
 pub enum Entry {
     /// A token as it is.
@@ -82,7 +82,7 @@ pub enum Entry {
     Tail(Box<Clauses>),
 }
 
-/// What the tokens so far have come to. The last entry is the top.
+/// The stack of what the tokens so far have come to. The last entry is the top.
 #[derive(Drop)]
 pub struct Stack {
     pub entries: Vec<Entry>,

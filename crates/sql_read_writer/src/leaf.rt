@@ -25,7 +25,7 @@ pub fn push(out: &mut String, text: &str) -> Result<(), NoMemory>
     out.push_str(text)
 }
 
-/// What stands before an element of a list: a word before the first, a comma before the others.
+/// Writes the text before an element of a list: a word before the first, a comma before the others.
 pub fn push_head(out: &mut String, first: bool, head: &'static str) -> Result<(), NoMemory>
     ensures { (rest : List ℕ) → OnOk result
         (string_bytes out.new ++ rest

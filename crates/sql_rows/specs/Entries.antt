@@ -1,4 +1,4 @@
--- What a statement cache holds: different pairs of a dialect and a key, the one that was used last first, at most as many as
+-- The contents of a statement cache: different pairs of a dialect and a key, the one that was used last first, at most as many as
 -- its capacity (diesel, `connection::statement_cache`, whose `StatementCacheKey` tells statements apart). A key is that of a
 -- statement with an id, so equal pairs are requests of one shape.
 use Rattle.std.specs.Prelude.{◌≡◌, ◌⊎◌, min, ℕ, ◌+◌, ◌-◌, ◌^◌, List, ◌∷◌, ◌++◌, take, Contains, Some, Result, OnOk, OnErr}
@@ -37,7 +37,7 @@ pub record IsHit (before : Entries) (pair : RequestKey) (after : Entries) : Type
 abbrev pub put : Entries → RequestKey → Entries
 put before pair = record before { keys = pair ∷ take (before.capacity - 1) before.keys }
 
--- What a call makes of the entries. Out of memory leaves them as they were, or, where the pair was there, as after the hit.
+-- The change that a call makes to the entries. Out of memory leaves them as they were, or, where the pair was there, as after the hit.
 pub record IsNext {A E : Type 0} (d : Dialect) (s : Statement) (before : Entries) (answer : Result A E) (after : Entries) : Type 0 where
   pub found : (pair : RequestKey) → IsLookedUp d s pair → Contains before.keys pair
       → OnOk answer (IsHit before pair after) × OnErr answer ((after ≡ before) ⊎ IsHit before pair after)

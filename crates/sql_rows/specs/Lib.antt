@@ -1,9 +1,9 @@
--- What a statement cache holds, and what each call makes of it.
+-- The contents of a statement cache, and the change that each call makes to it.
 pub mod Calls
 pub mod Entries
 pub mod Sound
 pub mod inside
--- What statements mean: `Rattle.sql_rows.specs.Fitting.{AnswersFit}` is that of `sql_rows_meaning`.
+-- The meaning of statements: `Rattle.sql_rows.specs.Fitting.{AnswersFit}` is that of `sql_rows_meaning`.
 pub use Rattle.sql_rows_meaning.specs.Answers
 pub use Rattle.sql_rows_meaning.specs.Beside
 pub use Rattle.sql_rows_meaning.specs.Counted

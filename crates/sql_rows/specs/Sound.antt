@@ -1,4 +1,4 @@
--- What `compile_sound` answers: what `compile` does, with column types that are right for NULL.
+-- The answer of `compile_sound`: that of `compile`, with column types that are right for NULL.
 use Rattle.std.specs.Prelude.{Result, IfOk}
 use Rattle.sql_schema.specs.Declarations.{Declarations}
 use Rattle.sql_dialect.specs.declared.backend.Dialect.{Dialect}

@@ -82,7 +82,7 @@ impl From<RequestKey> for NamedRequest {
     }
 }
 
-/// What of an answer is the same for all statements of one key.
+/// The part of an answer that is the same for all statements of one key.
 #[derive(Drop)]
 struct Kept {
     sql: SqlText,
@@ -177,7 +177,7 @@ fn lacks_name(schema: &Schema, names: Names, nodes: &[FlatNode]) -> bool
     }
 }
 
-/// What is told of the statement whose key this is: what was kept with its pair, and its own values.
+/// Returns the answer for the statement whose key this is: what was kept with its pair, and its own values.
 fn tell<DB: Backend>(
     alloc: Global,
     backend: &DB,
@@ -277,7 +277,7 @@ impl StatementCache {
         false
     }
 
-    /// What is kept with the first pair, in memory of its own.
+    /// Returns what is kept with the first pair, in memory of its own.
     fn recall(&self, alloc: Global) -> Result<Kept, NoMemory>
         requires { self.now.keys ≢ [] }
         ensures { IfOk result (λ kept. (pair : RequestKey)
@@ -361,7 +361,7 @@ impl StatementCache {
         }
     }
 
-    /// What is kept names tables and columns of the schema alone.
+    /// Proves that the entries name tables and columns of the schema alone.
     fn keeps_known_names(&self)
         ensures { (pair : Pair) → Contains self.now.keys pair → IsKnown self.now.schema pair }
     {
@@ -413,7 +413,7 @@ impl StatementCache {
         }
     }
 
-    /// What `compile_sound_by` answers of the statement, whatever was asked before.
+    /// Returns the answer of `compile_sound_by` for the statement, whatever was asked before.
     ///
     /// Where the statement has an id and its values fit, what an earlier statement of that id was told serves for it: only the values
     /// are its own. `IsNext` says what becomes of the entries.
@@ -444,7 +444,7 @@ impl StatementCache {
         }
     }
 
-    /// What `compile_sound` answers of the statement, whatever was asked before.
+    /// Returns the answer of `compile_sound` for the statement, whatever was asked before.
     /// Each name is looked up.
     pub fn compile_cached<DB: Backend>(
         &mut self,

@@ -1,6 +1,12 @@
 //! `compile_sound`: what `compile` answers, with column types that are proved right for NULL; and a bounded cache of such answers.
 //!
-//! What a statement may answer over a database is defined in `sql_rows_meaning`, whose definitions and laws this crate re-exports.
+//! The answers that a statement may give over a database are defined in `sql_rows_meaning`. This crate re-exports its definitions and laws.
+//!
+//! The cache keeps the text, the types of the columns and the flag. The values are each statement's own, and a walk takes them. If memory runs
+//! out after a hit, the entry stays at the front: to undo the look-up would gain nothing.
+//!
+//! Keys are hashed with a fixed seed, as the default of `lru` is. Whoever picks statements may make keys that hash alike, and a look-up then
+//! compares as many keys as there are entries. The program keeps 256.
 #![tactic(auto)]
 
 mod cache;

@@ -19,7 +19,7 @@ use sql_rows_meaning::types_are_sound;
 use sql_schema::Schema;
 use std::alloc::Global;
 
-/// What `compile_by` answers. And a column whose type is not nullable gives NULL over no database that conforms to the schema:
+/// Returns the answer of `compile_by`. A column whose type is not nullable gives NULL over no database that conforms to the schema:
 /// `"users"."id"` of type Integer, `COUNT(*)`, but `"posts"."title"` right of a left join only as `Text?`. One rare form of a boxed
 /// statement is left out (`CountsBeside`, `docs/MEANING.md`).
 ///
@@ -39,7 +39,7 @@ pub fn compile_sound_by<DB: Backend>(
     compile_by(alloc, names, backend, schema, statement)
 }
 
-/// What `compile_sound_by` answers of the statement whose flat list this is.
+/// Returns the answer of `compile_sound_by` for the statement whose flat list this is.
 pub(crate) fn compile_sound_flat_by<DB: Backend>(
     alloc: Global,
     names: Names,
@@ -55,7 +55,7 @@ pub(crate) fn compile_sound_flat_by<DB: Backend>(
     compile_flat_by(alloc, names, backend, schema, flat)
 }
 
-/// What `compile` answers, with column types that are right for NULL, as those of `compile_sound_by`.
+/// Returns the answer of `compile`, with column types that are right for NULL, as those of `compile_sound_by`.
 ///
 /// Statement and schema stay as they are. `NoMemory` may stand in place of any answer.
 pub fn compile_sound<DB: Backend>(

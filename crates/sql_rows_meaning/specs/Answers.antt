@@ -1,6 +1,6 @@
--- What a statement may answer over a database (PostgreSQL, SELECT; Table Expressions; Aggregate Functions; Subquery Expressions;
--- Combining Queries). It is a relation: SQL leaves the order of rows and other choices open, so a statement has several answers.
--- Where NULL comes in an order is the server's choice, and the same for the whole statement.
+-- The answers that a statement may give over a database (PostgreSQL, SELECT; Table Expressions; Aggregate Functions; Subquery
+-- Expressions; Combining Queries). It is a relation: SQL leaves the order of rows and other choices open, so a statement has several
+-- answers. Where NULL comes in an order is the server's choice, and the same for the whole statement.
 use Rattle.std.specs.Prelude.{◌≡◌, pos, Bool, true, false, List, [], ◌∷◌, ◌++◌, map, length, Option, None, Some, if◌then◌else◌, IsPermutation}
 use Rattle.std.specs.List.{AllZip}
 use Rattle.sql_pass.specs.declared.value.Value.{Value}

@@ -1,5 +1,5 @@
--- What DISTINCT ON leaves where an order stands beside it: of each set of rows in which its expressions are equal the first by ORDER
--- BY (PostgreSQL, SELECT, DISTINCT Clause).
+-- The rows that DISTINCT ON leaves where an order stands beside it: of each set of rows in which its expressions are equal the first
+-- by ORDER BY (PostgreSQL, SELECT, DISTINCT Clause).
 use Rattle.std.specs.Prelude.{◌≡◌, ⊤, true, ◌||◌, List, [], ◌∷◌, map, IsPermutation}
 use Rattle.std.specs.List.{AllZip}
 use Rattle.sql_schema.specs.Declarations.{Declarations}
@@ -14,7 +14,7 @@ use Rattle.sql_rows_meaning.specs.Groups.{Group, alone, counts}
 use Rattle.sql_rows_meaning.specs.Rows.{Row, NullPlaces, Filtered, IsPart, IsOrdered, same_row, row_before, page}
 use Rattle.sql_rows_meaning.specs.Worked.{IsOneOfEach, IsFirst}
 
--- What a statement takes of its groups of rows, in any order: DISTINCT leaves some of these lines, and LIMIT cuts what is left.
+-- The lines that a statement takes of its groups of rows, in any order: DISTINCT leaves some of these lines, and LIMIT cuts what is left.
 abbrev pub TakesLines : NullPlaces → Statement → Database → Frame → List Line → Type 0
 TakesLines places (select default e f u w o rows g h form marks) db outer lines =
     (all passing taken : List Frame) × (groups kept : List Group)

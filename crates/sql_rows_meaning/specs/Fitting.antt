@@ -1,5 +1,5 @@
--- What it means that the types of a statement's columns are right, NULL included: a column whose type is not nullable never
--- gives NULL (PostgreSQL, Constraints, Not-Null Constraints; diesel, `Nullable`).
+-- The meaning of the promise that the types of a statement's columns are right, NULL included: a column whose type is not nullable
+-- never gives NULL (PostgreSQL, Constraints, Not-Null Constraints; diesel, `Nullable`).
 use Rattle.std.specs.Prelude.{◌≡◌, true, false, ◌||◌, List, [], map, IsTrue}
 use Rattle.std.specs.List.{AllZip}
 use Rattle.sql_schema.specs.Declarations.{Declarations}

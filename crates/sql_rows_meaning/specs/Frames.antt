@@ -37,7 +37,7 @@ value_of o c f = value_in c o.table.columns (row_of o f)
 abbrev pub nulls : List Leaf → Frame
 nulls ls = map (λ l. (l.origin, map (λ c. V.Null) l.origin.table.columns)) ls
 
--- What WHERE sees, as `widest` says it of names: its row, and what the clause around the statement sees. A boxed statement
+-- The frame that WHERE sees, as `widest` says it of names: its row, and what the clause around the statement sees. A boxed statement
 -- and one without a source see their own alone.
 abbrev pub where_sees : Form → From → Frame → Frame → Frame
 where_sees (unboxed l) no_source row outer = []

@@ -1,4 +1,4 @@
--- What a statement answers in which nothing is grouped or counted: each row that is taken gives a line.
+-- The answers of a statement in which nothing is grouped or counted: each row that is taken gives a line.
 use Rattle.std.specs.Prelude.{◌≡◌, false, List, map}
 use Rattle.std.specs.List.{AllZip}
 use Rattle.sql_node.specs.Tree.{Statement, select, combination}

@@ -1,7 +1,24 @@
-//! What a statement may answer over a database, and that the types of its columns are right, NULL included.
+//! The answers that a statement may give over a database, and the law that the types of its columns are right, NULL included.
 //!
 //! The definitions are in `specs/`, in words in `docs/MEANING.md`. Each function here carries laws about them. None does anything
 //! when it runs.
+//!
+//! The meaning needs the definitions of the rules and not the checker, so its laws are proved beside `sql_rules_check`; `sql_rows` joins the
+//! two.
+//!
+//! A database is a function of a table's declaration, and a value in a row is found by its column's whole declaration. So no table is looked
+//! up by name, and no premise says that names differ.
+//!
+//! Where NULL comes in an order is a choice for each direction (`NullPlaces`), the same in all orders of a statement and its subselects:
+//! servers differ, and the laws hold for all four choices. Texts compare byte by byte. A server's collation is another order, and the types
+//! fit all the same.
+//!
+//! The columns of a group are read in one row of it, any, for all of them: one row for each column could pair values that no row has. An
+//! aggregate in ON, which the rule Grouping lets pass, counts one row.
+//!
+//! DISTINCT keeps the first of each key of rows in any order. The definition is a line, and that it is any one row of each key is a law
+//! (`first_is_any`). DISTINCT ON sorts all lines first and then leaves the first of each key, as PostgreSQL does. That this is the least by
+//! the order is a law (`first_by_the_order_is_left`), so the definition asks nothing of the order of values.
 #![tactic(auto)]
 
 ghost use Rattle.std.specs.Prelude.{◌≡◌, ◌↔◌, List, [], Some, map};
@@ -47,8 +64,8 @@ pub fn needs_nullable_is_needed()
     ensures { RuleIsNeeded }
 {}
 
-/// What counts beside its columns has to be left out: here is a boxed statement that breaks no rule and counts in its order alone,
-/// `SELECT "users"."id" FROM "users" ORDER BY COUNT(*)`, and over empty tables it answers a NULL that does not fit.
+/// Proves that statements that count beside their columns have to be left out: here is a boxed one that breaks no rule and counts in
+/// its order alone, `SELECT "users"."id" FROM "users" ORDER BY COUNT(*)`, and over empty tables it answers a NULL that does not fit.
 pub fn counting_beside_is_no_promise()
     ensures { ExceptionIsNeeded }
 {}
@@ -58,7 +75,7 @@ pub fn last_writer_is_an_answer()
     ensures { HasLastWriter }
 {}
 
-/// What operators give on NULL, and what orders, cuts and combinations give on small lists.
+/// Proves what operators give on NULL, and what orders, cuts and combinations give on small lists.
 pub fn operators_work()
     ensures { AreWorked }
 {}

@@ -1,4 +1,4 @@
--- What each clause of a statement sees, and every place in a statement where something stands (PostgreSQL, SELECT, FROM
+-- The origins that each clause of a statement sees, and every place in a statement where something stands (PostgreSQL, SELECT, FROM
 -- Clause and WHERE Clause; Value Expressions, Scalar Subqueries; diesel, `SelectableExpression`, `AppearsOnTable`).
 use Rattle.std.specs.Prelude.{List, [], ◌∷◌, ◌++◌, map, Option}
 use Rattle.sql_dialect.specs.declared.combination.Combinator.{Combinator}

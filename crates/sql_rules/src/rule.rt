@@ -28,7 +28,7 @@ pub enum Rule {
     Grouping,
     /// An order that does not begin as `DISTINCT ON`.
     InvalidDistinctOrder,
-    /// What the dialect lacks.
+    /// A form that the dialect lacks.
     Unsupported,
     /// More values than PostgreSQL has numbers for placeholders.
     TooManyBinds,

@@ -1,4 +1,4 @@
--- What `judge` answers.
+-- The answer of `judge`.
 pub mod First
 -- Devices of proofs alone: the rules are defined in `sql_rules` (`Rules`).
 pub mod inside

@@ -1,4 +1,4 @@
-//! What a statement needs and its dialect lacks, by a test of one node after the other.
+//! The features that a statement needs and its dialect lacks, found by a test of one node after the other.
 #![tactic(auto)]
 
 ghost use Rattle.std.specs.Prelude.{◌≡◌};

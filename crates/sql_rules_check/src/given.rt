@@ -1,4 +1,4 @@
-//! What the loop over types knows of one node: its type, or the types of a list's elements.
+//! The results of the loop over types for one node: its type, or the types of a list's elements.
 #![tactic(auto)]
 
 ghost use Rattle.std.specs.Prelude.{◌≡◌, ◌++◌, None, Some, false, not, IfOk, OnOk, map};
@@ -20,7 +20,7 @@ pub(crate) enum Given {
     Many(Vec<Option<SqlType>>),
 }
 
-/// What a node has, and whether it is ill-typed or a list without elements.
+/// The type or the types of a node, and whether it is ill-typed or a list without elements.
 #[derive(Debug, Drop)]
 pub(crate) struct Judged {
     pub(crate) given: Given,

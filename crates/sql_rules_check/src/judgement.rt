@@ -28,7 +28,7 @@ use sql_rules::{RULES, Rule};
 use sql_schema::{NoMemory, Schema, SqlType};
 use std::alloc::Global;
 
-/// What `judge` answers.
+/// The answer of `judge`.
 #[derive(Debug, Drop)]
 pub struct Judgement {
     /// The first rule that the statement breaks, of all but the last.

@@ -2,7 +2,7 @@
 //!
 //! Both clauses are read as lists of words, a word for each node of an element, with its standing: over elements, under so
 //! many nullables, or within one, at so many nodes from its top. Nullables, lists and items of an order are no words, and
-//! neither are the values of a list. Of `DISTINCT ON ("a", "b" = 1) .. ORDER BY "a", "b" = 2`:
+//! neither are the values of a list: they are silent. `nest` is the stack of the nodes that are open, the innermost last. Of `DISTINCT ON ("a", "b" = 1) .. ORDER BY "a", "b" = 2`:
 //!
 //! ```text
 //! DISTINCT ON   a over 0, = over 0, b within 1, value within 1

@@ -219,7 +219,7 @@ fn from<'s>(alloc: Global, parts: &mut Vec<Finished<Held<'s>>>, end: usize) -> H
     Held { leaves, bare }
 }
 
-/// What a node of that kind holds, over those on the stack that begin before its end.
+/// Returns what a node of that kind holds, over its children on the stack, which begin before its end.
 fn held_at<'s>(
     alloc: Global,
     kind: &'s FlatKind,

@@ -1,4 +1,5 @@
-//! What clauses see, by one loop from the first node to the last.
+//! The origins that clauses see, found by one loop from the first node to the last (`names`, where an example is). `nest` is the stack
+//! of the nodes that are open, the innermost last (`sql_flat_law`).
 #![tactic(auto, using(crate::proofs::Opening::opening))]
 
 ghost use Rattle.std.specs.Prelude.{◌≡◌, ◌<◌, ◌+◌, ◌++◌, IfOk, OnOk, map, option_map};
@@ -14,7 +15,7 @@ use sql_origin::Origin;
 use sql_schema::NoMemory;
 use std::alloc::Global;
 
-/// What is known within a node: what its clauses see, and the condition of the innermost select statement.
+/// The origins that the clauses within a node see, and those that the condition of the innermost select statement sees.
 #[derive(Drop)]
 pub(crate) struct Known<'s> {
     pub(crate) clause: Vec<Origin<'s>>,
@@ -82,7 +83,7 @@ fn copied<'s>(alloc: Global, view: &[Origin<'s>]) -> Result<Vec<Origin<'s>>, NoM
     Ok(all)
 }
 
-/// What the condition of a select statement sees.
+/// Returns the origins that the condition of a select statement sees.
 fn widened<'s>(
     alloc: Global,
     form: Form,
@@ -131,7 +132,7 @@ fn twice<'s>(alloc: Global, view: &[Origin<'s>]) -> Result<Known<'s>, NoMemory>
     Ok(Known { clause, condition })
 }
 
-/// What is known within the node at that index.
+/// Returns what is known within the node at that index, from what is known around it.
 fn known_within<'s>(
     alloc: Global,
     nodes: &'s [FlatNode],
@@ -180,7 +181,7 @@ pub(crate) fn close(nest: &mut Vec<Opened<Known<'_>>>, index: usize)
     sql_flat_law::close(nest, index);
 }
 
-/// What is known within the node at that index, where these nodes are open.
+/// Returns what is known within the node at that index, where these nodes are open.
 fn known_at<'s>(
     alloc: Global,
     nodes: &'s [FlatNode],

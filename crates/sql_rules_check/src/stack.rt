@@ -93,7 +93,7 @@ pub(crate) fn values_type(
     all
 }
 
-/// What the selection of a select statement has, which comes after DISTINCT ON.
+/// Takes the type or types of a select statement's selection, which comes after DISTINCT ON.
 pub(crate) fn selection(unique: Uniqueness, done: &mut Vec<Finished<Given>>, end: usize) -> Given
     ensures given { given_of result ≡ selected unique (split end done.old.items).0 }
     ensures left { (split end done.new.items).1 ≡ (split end done.old.items).1 }

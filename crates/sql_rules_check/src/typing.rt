@@ -45,7 +45,7 @@ pub(crate) struct Typed {
     pub empty: bool,
 }
 
-/// What the loop knows of the nodes after it.
+/// The results for the nodes that the loop has passed.
 #[derive(Debug, Drop)]
 struct Found {
     done: Vec<Finished<Given>>,
@@ -78,7 +78,7 @@ fn put(alloc: Global, index: usize, node: &FlatNode, found: &mut Found) -> Resul
     Ok(())
 }
 
-/// What the nodes have, from the first on.
+/// Returns the results for the nodes from the first on.
 fn judge_each(alloc: Global, nodes: &[FlatNode]) -> Result<Found, NoMemory>
     ensures done { IfOk result (λ f. stack f.done.items ≡ typed_from 0 nodes.now) }
     ensures mismatched { IfOk result (λ f. f.mismatched ≡ any_ill_from 0 nodes.now) }

@@ -1,6 +1,16 @@
 //! Laws on statements that break none of the rules.
 //!
 //! Each function carries laws about the definitions in `specs/` of the crates below. None does anything when it runs.
+//!
+//! That an accepted statement has a text, and which tree that is, are laws over definitions, so they are proved beside the checker. `compile`
+//! cites them.
+//!
+//! A position in an order has four bytes, so its number is small enough to be read back. The laws have that as a premise (`PlacesAreCounted`),
+//! and the checker's loop over the flat list gives it.
+//!
+//! Only in statements that are safe to prepare may lists be exchanged for lists of other lengths, also in what is said of rules. Everywhere
+//! but on PostgreSQL a list is written value by value, so its length shows in the text; and on Bracket each value takes a number, so a longer
+//! list may break TooManyBinds.
 #![tactic(auto)]
 
 ghost use Rattle.std.specs.Prelude.{◌≡◌, ◌≢◌, ◌↔◌, Bool, None, IsTrue, length, map, pos};
@@ -37,8 +47,8 @@ ghost use Rattle.sql_rules_law.specs.Fitting.{ValuesFit, values_fit};
 ghost use Rattle.sql_rules_law.specs.Lengths.{shape_without_lengths};
 ghost use Rattle.sql_rules_law.specs.Paths.{names_in};
 
-/// What rules keep a statement from having no text: lists without an element, joins without a condition, lists and other
-/// things without a type as operands, and what the dialect lacks. One more keeps placeholders from having no number.
+/// Proves that a statement has a text unless a rule refuses it: for lists without an element, joins without a condition, lists and
+/// other things without a type as operands, or what the dialect lacks. One more rule keeps placeholders from having no number.
 pub fn accepted_have_text()
     ensures text { (schema : Declarations) (d : Dialect) (s : Statement) → PlacesAreCounted s →
         ¬ Broken EmptyList schema d s → ¬ Broken NoRelation schema d s →

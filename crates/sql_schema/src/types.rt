@@ -1,4 +1,4 @@
-/// What kind of value a column or an expression has.
+/// The kind of value that a column or an expression has.
 #[derive(Debug, Clone, Copy, PartialEq, Eq, PartialOrd, Ord, Hash)]
 pub enum Base {
     SmallInt,

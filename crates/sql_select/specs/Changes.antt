@@ -1,4 +1,4 @@
--- What each call makes of a statement (diesel, `QueryDsl` and the traits of `query_dsl::methods`).
+-- The change that each call makes to a statement (diesel, `QueryDsl` and the traits of `query_dsl::methods`).
 use Rattle.std.specs.Prelude.{ℤ, pos, Bool, true, false, Option, Some, None, List}
 use Rattle.sql_dialect.specs.declared.backend.Dialect.{Dialect}
 use Rattle.sql_dialect.specs.declared.combination.Combinator.{Combinator}

@@ -1,4 +1,4 @@
--- What a join makes of a statement (diesel, `JoinWithImplicitOnClause`, `InternalJoinDsl`).
+-- The change that a join makes to a statement (diesel, `JoinWithImplicitOnClause`, `InternalJoinDsl`).
 use Rattle.std.specs.Prelude.{Bool, true, false}
 use Rattle.sql_schema.specs.Declarations.{Declarations}
 use Rattle.sql_leaf.specs.declared.marks.Marks.{Marks}

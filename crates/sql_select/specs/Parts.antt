@@ -1,4 +1,4 @@
--- What each accessor of a statement shows (diesel, `SelectStatementAccessor`). A combination has none of these clauses.
+-- The clause that each accessor of a statement shows (diesel, `SelectStatementAccessor`). A combination has none of these clauses.
 use Rattle.std.specs.Prelude.{Bool, Option, Some, None}
 use Rattle.sql_leaf.specs.declared.limit_offset.LimitOffsetClause.{LimitOffsetClause}
 use Rattle.sql_leaf.specs.declared.locking.LockingClause.{LockingClause}

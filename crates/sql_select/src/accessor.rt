@@ -11,7 +11,7 @@ use sql_expr::{
 
 /// The clauses of a statement, to read.
 pub trait SelectStatementAccessor: Query {
-    /// What is selected: by default or as given.
+    /// Returns the selection, by default or as given.
     fn select_clause(&self) -> &SelectClause
         ensures { Some (select_clause_tree result.now)
             ≡ option_map (λ c. c.selection) (clauses_of (Self.statement self.now)) };
@@ -41,7 +41,7 @@ pub trait SelectStatementAccessor: Query {
         ensures { Some result.now
             ≡ option_map (λ c. c.rows) (clauses_of (Self.statement self.now)) };
 
-    /// What groups are made by, where there are groups.
+    /// Returns the expressions by which rows are grouped, where they are.
     fn group_by_clause(&self) -> &GroupByClause
         ensures { Some (group_by_clause_tree result.now)
             ≡ option_map (λ c. c.group_by) (clauses_of (Self.statement self.now)) };

@@ -46,7 +46,7 @@ pub trait SimpleSelect: Sized {
         ensures { IfOk result (λ s. made s ≡ simple_select (source_tree source)) };
 }
 
-/// What a statement can select from.
+/// A value from which a statement can select.
 pub trait AsQuery: Sized {
     /// It as a source.
     ghost source: { Self → tree.Source };

@@ -144,7 +144,7 @@ impl PositionalOrderDsl for CombinationClause {
     }
 }
 
-/// What a combination can be ordered by.
+/// A value by which a combination can be ordered.
 pub trait IntoPositionalOrderExpr {
     ghost item: { Self → PositionalItem };
 

@@ -18,7 +18,7 @@ pub trait HasQuery {
     fn base_query(&self, alloc: Global) -> Result<SelectStatement, NoMemory>
         ensures { IfOk result (λ s. select_statement_tree s ≡ base self.now) };
 
-    /// What is selected from them.
+    /// Returns the selection from these rows.
     fn as_select(&self, alloc: Global) -> Result<Expr, NoMemory>
         ensures { IfOk result (λ e. expr_tree e ≡ wanted self.now) };
 

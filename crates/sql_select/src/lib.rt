@@ -1,6 +1,11 @@
 //! The calls on statements. Each changes one clause of its statement, or leaves a mark on it, and keeps all else.
 //!
 //! `QueryDsl` has all of them; `methods` has a trait for each.
+//!
+//! Bodies are in the traits of `methods`. `QueryDsl` passes each call on where the statement has it, so a call that a kind of statement lacks
+//! does not compile, and its own bodies are final.
+//!
+//! `Query` gives a statement of a kind as one of any kind (`into_statement`), as combinations and subselects take it.
 #![tactic(auto)]
 
 mod accessor;

@@ -14,7 +14,7 @@ pub trait LockingDsl: Query {
         ensures { Self.statement result ≡ locked mode (Self.statement self) };
 }
 
-/// What is done where a row is locked already.
+/// The call that says what is done where a row is locked already.
 pub trait ModifyLockDsl: Query {
     /// ` SKIP LOCKED` or ` NOWAIT` after the lock, in place of an earlier one. Without a lock it leaves a mark, and the
     /// statement is refused once it is checked.

@@ -14,7 +14,7 @@ use sql_schema::NoMemory;
 use std::alloc::Global;
 use std::mem;
 
-/// What is selected.
+/// The call that sets the selection.
 pub trait SelectDsl: Query {
     /// `SELECT a`, in place of an earlier selection.
     fn select(self, selection: Expr) -> Self

@@ -1,4 +1,4 @@
--- What a source selects by default: the columns of each leaf in order (PostgreSQL, SELECT, SELECT List; diesel,
+-- The default selection of a source: the columns of each leaf in order (PostgreSQL, SELECT, SELECT List; diesel,
 -- `QuerySource::default_selection`).
 use Rattle.std.specs.Prelude.{List, [], ◌∷◌, ◌++◌, map, flat_map}
 use Rattle.sql_schema.specs.Columns.{columns_in}

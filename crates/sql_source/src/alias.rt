@@ -19,7 +19,7 @@ pub trait NewAlias {
         ensures { result ≡ record { name = string_bytes name; table = table } };
 }
 
-/// What an alias is made of.
+/// The name and the table of which an alias is made.
 pub trait AliasSource {
     ghost alias_name: { Self → List ℕ };
 

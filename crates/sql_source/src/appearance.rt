@@ -13,7 +13,7 @@ use sql_node::Source;
 use sql_origin::Origin;
 use sql_schema::Column;
 
-/// What can appear in a source: tables and aliases, and what belongs to one of them.
+/// A table or an alias, or something that belongs to one, which can appear in a source.
 pub trait AppearsInFromClause {
     /// The table or the alias that is looked for.
     ghost wanted: { Self → Wanted };

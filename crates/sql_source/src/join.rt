@@ -68,9 +68,9 @@ pub trait JoinDsl: Sized {
     }
 }
 
-/// What is joined on a condition that the caller knows.
+/// A value that can be joined on a condition that the caller knows.
 pub trait InternalJoinDsl: Sized {
-    /// What a join with a source, of a kind and on a condition, makes of it.
+    /// The relation between a value and the result of its join with a source, of a kind and on a condition.
     ghost joins_as: { Self → tree.Source → Kind → Option tree.Expr → Self → Type 0 };
 
     /// Joined with the source, on the condition where there is one.

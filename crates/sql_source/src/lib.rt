@@ -1,5 +1,11 @@
 //! Sources as lists of leaves: how often a table or an alias appears in one, what it selects by default, and joins with the
 //! condition that a declared relation gives.
+//!
+//! Calls that make a lower crate's types are methods of traits (`NewAlias`, `NewTableSource`, `NewOnClauseWrapper`): nodes have crates of
+//! their own, and the calls that users know are in the crate that defines what they mean.
+//!
+//! `fields` makes the new expression beside the old one, and copies a subselect as it is. A walk that takes lists apart as it goes has no
+//! measure that the checker finds.
 #![tactic(auto)]
 
 mod alias;

@@ -12,7 +12,7 @@ use sql_origin::Origin;
 use sql_schema::{NoMemory, SqlList};
 use std::alloc::Global;
 
-/// What can stand after `FROM`.
+/// A source that can stand after `FROM`.
 pub trait QuerySource {
     /// The source.
     ghost source: { Self → tree.Source };

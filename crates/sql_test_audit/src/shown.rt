@@ -59,7 +59,7 @@ fn refused(alloc: Global, error: AuditError) -> Result<String, NoMemory> {
     format!(in alloc; "{error}")
 }
 
-/// What the audit of a text answers, on one line.
+/// Returns the answer of the audit of a text, on one line.
 pub fn audited(alloc: Global, schema: &Schema, text: &str) -> Result<String, NoMemory> {
     match audit(alloc, Dialect::Pg, schema, text) {
         Ok(report) => shown(alloc, &report),

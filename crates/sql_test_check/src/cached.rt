@@ -126,7 +126,7 @@ fn one_entry(rt: HostRuntime) -> Result<(), Fail> {
     Ok(())
 }
 
-/// What is kept for a name serves for no NULL, which does not fit.
+/// Checks that an entry that is kept for a name serves for no NULL, which does not fit.
 #[test]
 fn a_value_that_does_not_fit(rt: HostRuntime) -> Result<(), Fail> {
     let alloc = rt.alloc();
@@ -159,7 +159,7 @@ fn two_entries(rt: HostRuntime) -> Result<(), Fail> {
     Ok(())
 }
 
-/// What is kept serves for no table of another schema that has the same names.
+/// Checks that an entry serves for no table of another schema that has the same names.
 #[test]
 fn a_table_of_another_schema(rt: HostRuntime) -> Result<(), Fail> {
     let alloc = rt.alloc();

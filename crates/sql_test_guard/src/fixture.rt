@@ -53,7 +53,7 @@ pub(crate) fn inner_joined(alloc: Global, schema: &Schema) -> Result<Statement, 
     Ok(joined.into_statement())
 }
 
-/// What `restrict` answers of the statement, for posts and this predicate.
+/// Returns the answer of `restrict` for the statement, with posts and this predicate.
 pub(crate) fn restricted_by(
     alloc: Global,
     statement: Statement,

@@ -1,4 +1,4 @@
-//! What tests of the libraries share: a schema of two related tables, parts over it, and what is asked of an answer.
+//! The fixtures that tests of the libraries share: a schema of two related tables, parts over it, and checks of answers.
 //!
 //! Where a part is alive at a `?`, a check takes each enum in it apart there, and with each other part that is alive. Functions over any
 //! part drop it by one call, so the tests hand parts and answers to these.

@@ -1,4 +1,4 @@
-//! What a command answers over bytes in memory.
+//! Tests of a command's answers over bytes in memory.
 
 ghost use Rattle.std.specs.Prelude.{◌≡◌, true};
 ghost use Rattle.sql_tool_run.specs.Command.{reads_source};

@@ -18,11 +18,11 @@ const DOCUMENT: &str =
 const LINE: &str =
     "{\"binds\":[],\"columns\":[\"Integer\"],\"id\":1,\"safe\":true,\"sql\":\"SELECT \\\"foo\\\".\\\"id\\\" FROM \\\"foo\\\"\"}\n";
 
-/// What becomes of the first generated request.
+/// The summary of the first generated request.
 const SUM: &str =
     "{\"accepted\":1,\"binds\":1,\"bytes\":74,\"ids\":1,\"refused\":{},\"requests\":1}\n";
 
-/// What is told of `SELECT ?`.
+/// The line for `SELECT ?`.
 const TOLD: &str = "{\"placeholders\":1,\"sql\":\"SELECT ?\"}\n";
 
 fn source(alloc: Global) -> Result<SureSource, Fail> {

@@ -85,7 +85,7 @@ const SUFFIX: &str = r#"{"schema":{"tables":[
 
 const SUFFIX_WRITTEN: &str = "{\"refused\":\"NameClash\"}\n";
 
-/// What is before and after the condition in a document of one filter.
+/// The text before the condition in a document of one filter. `AFTER` is the text after it.
 const BEFORE: &str =
     r#"{"schema":{"tables":[{"name":"users","columns":[{"name":"id","type":"Integer"},{"name":"name","type":"Text"}]}]},
 "requests":[{"dialect":"Pg","query":{"from":{"table":"users"},"calls":[["filter","#;

@@ -11,7 +11,7 @@ const INPUT: &str =
 const OUTPUT: &str =
     "{\"binds\":[[\"Integer\",1]],\"columns\":[\"Integer\",\"Integer\",\"Integer\"],\"id\":1,\"safe\":true,\"sql\":\"SELECT \\\"foo\\\".\\\"id\\\", \\\"foo\\\".\\\"type\\\", \\\"foo\\\".\\\"bleh\\\" FROM \\\"foo\\\" WHERE (\\\"foo\\\".\\\"type\\\" = $1)\"}\n";
 
-/// What becomes of three generated requests.
+/// The summary of three generated requests.
 const GENERATED: &str =
     "{\"accepted\":3,\"binds\":3,\"bytes\":220,\"ids\":3,\"refused\":{},\"requests\":3}\n";
 

@@ -1,3 +1,3 @@
--- What is written for an audited text.
+-- The output for an audited text.
 pub mod Line
 pub mod Output

@@ -1,4 +1,4 @@
--- What is written for audited texts: a line for each, in order.
+-- The output for audited texts: a line for each, in order.
 use Rattle.std.specs.Prelude.{◌≡◌, ℕ, List, [], ◌∷◌, ◌++◌}
 use Rattle.sql_dialect.specs.declared.backend.Dialect.{Dialect}
 use Rattle.sql_schema.specs.declared.declaration.TableDecl.{TableDecl}

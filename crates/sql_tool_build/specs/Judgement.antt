@@ -1,4 +1,4 @@
--- What becomes of a request.
+-- The results of requests.
 use Rattle.std.specs.Prelude.{◌≡◌, ℕ, List, map, Option, Some, None}
 use Rattle.sql_schema.specs.Declarations.{Declarations}
 use Rattle.sql_schema.specs.declared.types.SqlType.{SqlType}
@@ -11,7 +11,7 @@ use Rattle.sql_rules.specs.declared.rule.Rule.{Rule}
 use Rattle.sql_rules.specs.declared.rule.Rule.TheVariants.{UnknownName}
 use Rattle.sql_check.specs.Compiled.{IsLeast, IsRead, sql_of, binds_of}
 
--- What is made of a request: a statement, or none, and the name of the refusal.
+-- The result of a request: a statement, or none, and the name of the refusal.
 pub data Made : Type 0 where
   unmade : List ℕ → Made
   made : Statement → Made

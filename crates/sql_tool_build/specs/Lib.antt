@@ -1,4 +1,4 @@
--- What is written for a document.
+-- The output for a document.
 pub mod Output
 pub mod Judgement
 pub mod Objects

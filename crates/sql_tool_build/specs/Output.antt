@@ -1,4 +1,4 @@
--- What is written: a line of JSON for each request.
+-- The output: a line of JSON for each request.
 use Rattle.std.specs.Prelude.{◌≡◌, ℕ, List, [], ◌∷◌, ◌++◌, map, Option}
 use Rattle.serde_json.specs.Written.{compact_text}
 use Rattle.sql_schema.specs.Declarations.{Declarations}

@@ -1,4 +1,4 @@
--- What a cache may rely on: lines of one id are of one statement but for its values.
+-- The promise on which a cache may rely: lines of one id are of one statement but for its values.
 use Rattle.std.specs.Prelude.{◌≡◌, ℕ, List, map, Option, Some}
 use Rattle.sql_schema.specs.declared.types.SqlType.{SqlType}
 use Rattle.sql_dialect.specs.declared.backend.Dialect.{Dialect}
@@ -11,7 +11,7 @@ use Rattle.sql_check.specs.Compiled.{sql_of, binds_of, is_safe_in}
 use Rattle.sql_tool_build.specs.Judgement.{accepts}
 use Rattle.sql_tool_build.specs.Output.{Line}
 
--- What was prepared for the one statement in its dialect serves for the other in its own: the dialect, the shape and the text are
+-- A text that was prepared for the one statement in its dialect serves for the other in its own: the dialect, the shape and the text are
 -- one, the flag too, values of the same types stand in the same order, and the columns have the same types.
 pub record Serves (d : Dialect) (s : Statement) (e : Dialect) (t : Statement) : Type 0 where
   pub dialect : d ≡ e

@@ -1,4 +1,7 @@
 //! The lines that are written for a document: what becomes of each request, as JSON, with ids of shapes.
+//!
+//! A line is of what is made of a request (`Made`), a statement or the name of a refusal. So `build`, `guard` and `tenant` have the same
+//! lines, ids and laws, and differ in what is made.
 #![tactic(auto)]
 
 mod known;

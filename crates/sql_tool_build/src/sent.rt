@@ -12,9 +12,9 @@ use sql_schema::SqlType;
 use sql_tool_document::type_name;
 use std::alloc::Global;
 
-/// What is sent to a `Serializer`, a part of a line.
+/// A part of a line, which can be sent to a `Serializer`.
 pub(crate) trait Sent {
-    /// What is sent, as JSON.
+    /// The JSON that is sent.
     ghost sent: { Self → Data };
 
     fn send<S: Serializer>(&self, alloc: Global, out: &mut S) -> Result<(), S::Error>

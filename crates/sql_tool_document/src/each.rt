@@ -11,7 +11,7 @@ use json::Value;
 use sql_schema::SqlText;
 use std::alloc::Global;
 
-/// What a JSON value may stand for.
+/// A value that a JSON value may stand for.
 pub(crate) trait Decode {
     /// Which JSON has the form, and the value that it stands for.
     ghost form: { Data → Option Self };

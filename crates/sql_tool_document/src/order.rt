@@ -18,7 +18,7 @@ use sql_build_syntax::OrderItem;
 use sql_leaf::{Direction, OrderColumn, PositionalItem};
 use std::alloc::Global;
 
-/// What follows a name that says the direction: `{"asc":X}`.
+/// Returns the direction that a name says, and what follows the name: `{"asc":X}`.
 fn after_direction<'v, 'a>(value: &'v Value<'a>) -> Option<(Direction, &'v Value<'a>)>
     ensures { option_map (λ p. (p.0, seen p.1.now)) result
         ≡ option_and_then directed (only_member (seen value.now)) }

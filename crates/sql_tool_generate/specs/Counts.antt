@@ -1,4 +1,4 @@
--- What is counted of lines.
+-- The counts of lines.
 use Rattle.std.specs.Prelude.{ℕ, ◌+◌, List, [], ◌∷◌, length, Bool, true, false, Option, None, Some, nat_eq}
 use Rattle.std.specs.Str.{bytes_eq}
 use Rattle.sql_check.specs.Compiled.{sql_of, binds_of}

@@ -6,7 +6,7 @@ use sql_rules::Rule;
 use std::alloc::{AllocError, Global};
 use std::collections::BTreeMap;
 
-/// What is counted of the requests so far. A number stays at the last of 64 bits where it would pass it.
+/// The counts of the requests so far. A number stays at the last of 64 bits where it would pass it.
 #[derive(Drop)]
 pub(crate) struct Counts {
     pub(crate) accepted: u64,

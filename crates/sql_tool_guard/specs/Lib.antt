@@ -1,4 +1,4 @@
--- What is written for requests of a tenant.
+-- The output for requests of a tenant.
 pub mod Tenants
 pub mod Trees
 pub mod Output

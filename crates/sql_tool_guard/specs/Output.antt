@@ -1,4 +1,4 @@
--- What is written for requests of a tenant: a line for each, in order, of its statement restricted to the tenant's rows.
+-- The output for requests of a tenant: a line for each, in order, of its statement restricted to the tenant's rows.
 use Rattle.std.specs.Prelude.{◌≡◌, ◌≢◌, ◌⊎◌, ℕ, List, [], ◌∷◌, ◌++◌, codes, Option, None, Some}
 use Rattle.sql_schema.specs.Declarations.{Declarations}
 use Rattle.sql_dialect.specs.declared.backend.Dialect.{Dialect}
@@ -37,7 +37,7 @@ abbrev pub MayLimit : Tenant → Statement → Type 0
 MayLimit (of_table t p) s = MayRestrict t p s
 MayLimit (by_policies qs) s = MayGuard qs s
 
--- What is made of a statement that may be there: without one UnknownName; else the first refusal that holds; else the restricted
+-- The result for a statement that may be there: without one UnknownName; else the first refusal that holds; else the restricted
 -- statement, which is judged by the rules.
 abbrev pub IsRestricted : Tenant → Option Statement → Made → Type 0
 IsRestricted t None m = m ≡ made_of None

@@ -1,3 +1,3 @@
--- What is written for a text.
+-- The output for a text.
 pub mod Input
 pub mod Line

@@ -1,4 +1,4 @@
--- What the program can be told to do. Each command has a line in each definition here that takes one.
+-- The commands of the program. Each command has a line in each definition here that takes one.
 use Rattle.std.specs.Prelude.{◌≡◌, ◌≤◌, ℕ, List, [], ◌∷◌, ◌++◌, codes, Bool, true, false, ◌&&◌, Option, Some, None, option_map, nat_le, if◌then◌else◌}
 use Rattle.std.specs.Fmt.{decimal}
 use Rattle.std.specs.Str.{bytes_eq}
@@ -98,7 +98,7 @@ IsOutputPrefixOf Guard given written =
 IsOutputPrefixOf Tenant given written =
     (x : TenantDocument) × (policed_document given ≡ Some x) × IsGuardedOutputPrefix x.document x.tenant written
 
--- What a command that is done has read and written, where its source had these bytes, AtEnd says that it is at the end now, and
+-- The bytes that a command that is done has read and written, where its source had these bytes, AtEnd says that it is at the end now, and
 -- Written which bytes the sink has taken.
 abbrev pub IsDone : Command → List ℕ → Type 0 → (List ℕ → Type 0) → Type 0
 IsDone c input AtEnd Written =

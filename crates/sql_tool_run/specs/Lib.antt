@@ -1,4 +1,4 @@
--- What a run of the program does.
+-- The effects of a run of the program.
 pub mod Command
 pub mod Limits
 pub mod Run

@@ -1,4 +1,4 @@
--- What a run of the program does.
+-- The effects of a run of the program.
 use Rattle.std.specs.Prelude.{◌≡◌, ◌≤◌, ◌<◌, ◌⊎◌, ℕ, List, [], length, Bool, true, false, ◌&&◌, Option, Some, None, nat_lt, if◌then◌else◌}
 use Rattle.std.specs.Io.KnownBytes.{Consumes}
 use Rattle.sql_tool_stream.specs.Reading.{Gives}
@@ -17,7 +17,7 @@ use Rattle.sql_tool_run.specs.declared.status.Status.TheVariants.{Done, Usage, B
 abbrev pub Took : Status → Option (List ℕ) → Option (List ℕ) → List ℕ → Type 0
 Took status old new given = Gives old new given × ((status ≡ ReadFault → ⊥) → Consumes old new given)
 
--- What was read by a command that reads its source, or doesn't, where AtEnd says that the source is at the end: all of an input
+-- The bytes that were read by a command that reads its source, or doesn't, where AtEnd says that the source is at the end: all of an input
 -- within the limit, or nothing.
 abbrev pub HasRead : Bool → List ℕ → Type 0 → Type 0
 HasRead true given AtEnd = AtEnd × (length given ≤ greatest_input)
@@ -28,7 +28,7 @@ abbrev pub HasReadSome : Bool → List ℕ → Type 0
 HasReadSome true given = length given ≤ greatest_input
 HasReadSome false given = given ≡ []
 
--- What a command that ends so has read and written, where AtEnd says that its source is at the end.
+-- The bytes that a command that ends so has read and written, where AtEnd says that its source is at the end.
 abbrev pub Ends : Status → Command → List ℕ → List ℕ → Type 0 → Type 0
 Ends Done c given written AtEnd = HasRead (reads_source c) given AtEnd × IsOutputOf c given written
 Ends Usage c given written AtEnd = ⊥

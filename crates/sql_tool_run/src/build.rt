@@ -21,7 +21,7 @@ use std::num::NonZeroUsize;
 /// How many answers are kept for requests of the same dialect and shape.
 const ENTRIES: usize = 256;
 
-/// What is known after some requests: their keys, and what was compiled for them.
+/// The state after some requests: their keys, and what was compiled for them.
 #[derive(Drop)]
 pub(crate) struct Known {
     pub(crate) cache: StatementCache,
@@ -29,7 +29,7 @@ pub(crate) struct Known {
 }
 
 impl Known {
-    /// What is known of a schema before the first request.
+    /// Returns the state over a schema before the first request.
     pub(crate) fn new(alloc: Global, schema: Schema) -> Result<Known, AllocError>
         ensures schema { IfOk result (λ k. k.cache.schema ≡ schema) }
         ensures nothing { IfOk result (λ k. Tells (seen_at k.seen) []) }

@@ -7,7 +7,7 @@ use sql_tool_document::dialect;
 /// How many requests `generate` makes at most.
 pub const MAX_REQUESTS: u32 = 100000;
 
-/// What the program can be told to do.
+/// A command of the program.
 #[derive(Debug, Clone, Copy, PartialEq, Eq)]
 pub enum Command {
     /// `build`: reads a document, and writes a line for each of its requests.

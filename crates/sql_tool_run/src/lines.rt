@@ -34,7 +34,7 @@ impl From<Failed> for WriteError {
 
 /// Makes the lines of items, one after the other.
 pub(crate) trait Lines {
-    /// What a line is of.
+    /// The type of the items that have lines.
     type Item;
 
     /// Between these states, the lines of these items are this text.

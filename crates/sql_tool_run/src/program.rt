@@ -179,7 +179,7 @@ pub fn run<S: Source, K: Sink>(
         (c : Command) × (command_of (map string_bytes words.now) ≡ Some c)
         × IsDone c input (IsAtEnd (S.left source.new))
         (λ text. Appends (K.held sink.old) (K.held sink.new) text)) }
-    // What a command writes for bytes is one text.
+    // The output of a command for given bytes is one text.
     ensures one_answer { (c : Command) (given a b : List ℕ) → IsOutputOf c given a
         → IsOutputOf c given b → a ≡ b }
     // A document has at most one output, and the output of its first requests is a prefix of it.
@@ -197,7 +197,7 @@ pub fn run<S: Source, K: Sink>(
     // Two lines of one dialect and of statements of one shape have one id, or both have none.
     ensures one_shape { (schema : Declarations) (rs : List StatementRequest) (ls : List Line)
         → AreLines schema [] rs ls → OneShapeOneId ls }
-    // What each status says of the bytes that were given and written in this call.
+    // The status says this of the bytes that were given and written in this call.
     ensures outcome { (given written : List ℕ)
         × Took result (S.left source.old) (S.left source.new) given
         × Appends (K.held sink.old) (K.held sink.new) written

@@ -3,7 +3,7 @@ ghost use Rattle.sql_tool_series.specs.Generated.{dialect_of as dialect_numbered
 
 use sql_dialect::Dialect;
 
-/// What a generated request asks for.
+/// The query that a generated request asks for.
 #[derive(Debug, Clone, Copy, PartialEq, Eq)]
 pub enum Form {
     /// The user of a number.

@@ -1,4 +1,4 @@
--- What a session has answered.
+-- The answers of a session.
 pub mod Session
 -- Which of the requests of a call are answered.
 pub mod Within

@@ -1,4 +1,4 @@
--- What a session has answered: the output of one document, which has the requests of all calls.
+-- The answers of a session: the output of one document, which has the requests of all calls.
 use Rattle.std.specs.Prelude.{◌≡◌, ℕ, List, [], ◌++◌, length}
 use Rattle.sql_schema.specs.Declarations.{Declarations}
 use Rattle.sql_tool_document.specs.Documents.{Document, Request}

@@ -21,7 +21,7 @@ impl Buffer {
         }
     }
 
-    /// What it has taken.
+    /// Returns the bytes that it has taken.
     pub(crate) fn into_bytes(self) -> Vec<u8>
         ensures { result.items ≡ self.bytes.items }
     {

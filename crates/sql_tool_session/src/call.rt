@@ -62,8 +62,8 @@ fn words_of(alloc: Global, command: Command) -> Result<Vec<String>, AllocError>
     }
 }
 
-/// What the program writes for a command with these bytes on its input, and the status with which it ends, `NoMemory` where memory runs
-/// out. On `NoMemory` these are the lines that were written before that, and on any other status but Done there are none.
+/// Returns the lines that the program writes for a command with these bytes on its input, and the status with which it ends, `NoMemory`
+/// where memory runs out. On `NoMemory` these are the lines that were written before that, and on any other status but Done there are none.
 #[tactic(auto, using(crate::proofs::Calls::done_output))]
 pub fn answer(alloc: Global, command: Command, input: &[u8]) -> Reply
     requires { reads_source command ≡ true }

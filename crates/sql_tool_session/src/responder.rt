@@ -129,7 +129,7 @@ impl Responder {
     pub fn next(&mut self, alloc: Global, document: &[u8]) -> Status
         // Usage exactly where there is no session.
         ensures usage { (result ≡ Status.Usage) ↔ (self.old.session ≡ None) }
-        // What the session answered before, and this answer, are the output of one document, with the requests before, and these.
+        // The session's answers before, and this answer, are the output of one document, with the requests before, and these.
         ensures done { result ≡ Status.Done → (before : SessionTree) × (after : SessionTree)
             × (more : Document) × (self.old.session ≡ Some before)
             × (self.new.session ≡ Some after) × (document_in document.now ≡ Some more)

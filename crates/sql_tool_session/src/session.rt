@@ -84,7 +84,7 @@ impl Session {
         alloc: Global,
         requests: &[Request],
     ) -> Result<(Session, Vec<u8>), AllocError>
-        // What was answered before, and these lines, are the output of a document with the requests before, and these.
+        // The text that was answered before, and these lines, are the output of a document with the requests before, and these.
         ensures answered { IfOk result (λ more. (d : DocumentTree) (text : List ℕ)
             → HasAnswered d text self
             → HasAnswered (followed_by d (map request_tree requests.now))

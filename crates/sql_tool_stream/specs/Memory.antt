@@ -1,4 +1,4 @@
--- What a source or a sink in memory is.
+-- Sources and sinks in memory.
 use Rattle.std.specs.Prelude.{ℕ, ◌+◌, ◌-◌, ◌^◌, List, min}
 
 -- bytes to give, at most `piece` in a call, and the calls, from 1, that fail

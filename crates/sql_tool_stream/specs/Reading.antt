@@ -1,4 +1,4 @@
--- What reading does to the bytes that a source has left, where they are known.
+-- The change that reading makes to the bytes that a source has left, where they are known.
 use Rattle.std.specs.Prelude.{◌≡◌, ◌<◌, ℕ, List, ◌++◌, length, take, Option, None, Some, Result, MatchResult, ⊤}
 use Rattle.std.specs.Io.KnownBytes.{Consumes, IsAtEnd, Keeps}
 

@@ -2,6 +2,9 @@
 //!
 //! A contract can say which bytes a memory object gives and holds. Of standard input and output it says only that each
 //! failure was counted.
+//!
+//! `read_all` takes its limit as an argument, so that this crate knows nothing of documents. A source that loses bytes in a failed read
+//! reports no bytes from then on: else a caller would know of bytes left that a second try can't give.
 #![tactic(auto)]
 
 mod memory;

@@ -154,7 +154,7 @@ impl MemorySink {
         })
     }
 
-    /// What the sink has taken.
+    /// Returns the bytes that the sink has taken.
     pub fn bytes(&self) -> &[u8]
         ensures { result.now ≡ self.now.held }
     {

@@ -41,8 +41,8 @@ pub fn read_all<S: Source>(
 ) -> Result<Vec<u8>, ReadError>
     ensures all { IfOk result (λ bytes. Consumes (S.left source.old) (S.left source.new) bytes.items
         × IsAtEnd (S.left source.new) × (length bytes.items ≤ limit)) }
-    // What it had given before an error: more than the limit exactly where that is the error. The bytes after that are
-    // left, but for those that a failed read may lose.
+    // The bytes that the source had given before an error are more than the limit exactly where that is the error. The bytes
+    // after them are left, but for those that a failed read may lose.
     ensures given { IfErr result (λ e. (given : List ℕ)
         × Gives (S.left source.old) (S.left source.new) given
         × ((e ≡ Fault → ⊥) → Consumes (S.left source.old) (S.left source.new) given)

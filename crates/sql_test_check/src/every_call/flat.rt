@@ -49,7 +49,7 @@ fn of_list(alloc: Global, schema: &Schema, flat: &Flat) -> Result<(), Fail> {
     counted::<Brand>(alloc, flat, blank)
 }
 
-/// What is told where the caller counts the steps.
+/// Checks what is written and told where the caller counts the steps.
 fn counted<L: Ledger>(alloc: Global, flat: &Flat, blank: Blank) -> Result<(), Fail>
     requires name { blank.name ≡ L.name }
     requires parts { (blank.parts ≡ L.parts) × (0 < L.parts) }

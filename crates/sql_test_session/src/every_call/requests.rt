@@ -1,4 +1,4 @@
-//! What becomes of requests, generated ones among them.
+//! Tests of the answers to requests, generated ones among them.
 
 use crate::examples::{FILTER, FILTERED};
 use sql_dialect::Dialect;
