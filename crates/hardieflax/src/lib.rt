@@ -36,13 +36,13 @@ pub use sql_pass::{
 
 // Expressions, sources, clauses and statements.
 pub use sql_expr::{
-    Alias, AliasedField, BoxedLimitOffset, BoxedSelectStatement, CombinationClause, Comparison,
-    Direction, DistinctClause, Expr, ExpressionMethods, FromClause, GroupByClause, HavingClause,
-    InValues, Join, JoinKind, JoinOn, JoinRhs, LimitOffsetClause, LockMode, LockingClause, Logic,
-    Marks, Modifier, OnClauseWrapper, OrderClause, OrderColumn, OrderDecorator, OrderItem,
-    PositionalItem, SelectClause, SelectStatement, Source, Statement, TableSource, Tablesample,
-    TablesampleMethod, Unary, WhereAnd, WhereClause, WhereOr, count, count_star, exists, not,
-    value,
+    Alias, AliasedField, AsExpression, AsInExpression, BoxedLimitOffset, BoxedSelectStatement,
+    CombinationClause, Comparison, Direction, DistinctClause, Expr, ExpressionMethods, FromClause,
+    GroupByClause, HavingClause, InValues, IntoExpressions, IntoJoinRhs, IntoOrder, IntoOrderItem,
+    Join, JoinKind, JoinOn, JoinRhs, LimitOffsetClause, LockMode, LockingClause, Logic, Marks,
+    Modifier, OnClauseWrapper, OrderClause, OrderColumn, OrderDecorator, OrderItem, PositionalItem,
+    SelectClause, SelectStatement, Source, Statement, TableSource, Tablesample, TablesampleMethod,
+    Unary, WhereAnd, WhereClause, WhereOr, count, count_star, exists, list, not, order_by, value,
 };
 
 // Aliases, joins and default selections.
