@@ -134,6 +134,11 @@ pub mod tree {
 pub use sql_audit::{AuditError, AuditReport, ColumnUse, audit};
 pub use sql_audit_law::{accepted_are_reported, one_answer as one_audit_answer};
 
+/// The schema of a document of the program, so that both share one declaration of their tables.
+pub mod documents {
+    pub use sql_tool_document::{Refusal, read_schema};
+}
+
 /// Queries as documents write them, and the statements that they stand for over a schema.
 pub mod syntax {
     pub use sql_build::{expression, statement, statement_to_restrict};
