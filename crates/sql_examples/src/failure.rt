@@ -15,8 +15,8 @@ pub enum Failure {
     Refused(#[from] CompileError),
     #[error("no line for debugging")]
     Shown(PassError),
-    #[error("no schema in the document")]
-    Document(Refusal),
+    #[error(transparent)]
+    Document(#[from] Refusal),
     #[error(transparent)]
     Restricted(#[from] RestrictError),
     #[error(transparent)]

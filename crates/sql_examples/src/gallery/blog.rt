@@ -24,7 +24,7 @@ pub struct Blog {
 
 impl Blog {
     pub fn new(alloc: Global) -> Result<Blog, Failure> {
-        let schema = read_schema(alloc, DOCUMENT.as_bytes()).map_err(Failure::Document)?;
+        let schema = read_schema(alloc, DOCUMENT.as_bytes())?;
         Ok(Blog { schema })
     }
 
