@@ -13,7 +13,7 @@ import pathlib, re, sys
 
 page, goal = map(pathlib.Path, sys.argv[1:])
 section = page.read_text().split("## A first program of your own\n")[1].split("\n## ")[0]
-goal.write_text("#![tactic(auto)]\n\n" + re.search(r"^```rust\n(.*?)^```", section, re.S | re.M)[1])
+goal.write_text(re.search(r"^```rust\n(.*?)^```", section, re.S | re.M)[1])
 END
 cd crates/first || exit 1
 wanted='SELECT "users"."id", "users"."name" FROM "users" WHERE ("users"."name" = $1) LIMIT $2'
