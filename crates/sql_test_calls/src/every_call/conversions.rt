@@ -2,8 +2,9 @@
 
 use crate::fixture::{id, ids, one};
 use sql_expr::{
-    Alias, AliasedField, AsExpression, ExpressionMethods, IntoJoinRhs, JoinRhs, OrderClause,
-    OrderItem, count, list, not, order_by,
+    Alias, AliasedField, AsExpression, AsInExpression, ExpressionMethods, IntoExpressions,
+    IntoJoinRhs, IntoOrder, IntoOrderItem, JoinRhs, OrderClause, OrderItem, count, list, not,
+    order_by,
 };
 use sql_schema::{NoMemory, SqlList};
 use sql_source::{AliasFields, NewAlias};
@@ -17,6 +18,7 @@ pub fn every_call(alloc: Global) -> Result<(), Fail> {
     memberships(alloc)?;
     lists(alloc)?;
     orders(alloc)?;
+    parts(alloc)?;
     sides(alloc)
 }
 
@@ -89,6 +91,25 @@ fn memberships(alloc: Global) -> Result<(), Fail> {
         alloc,
         id(alloc)?.eq_any(alloc, ids(alloc)?),
         "(\"users\".\"id\" = ANY(SELECT \"users\".\"id\" FROM \"users\"))",
+    )
+}
+
+/// What the calls above make by themselves.
+fn parts(alloc: Global) -> Result<(), Fail> {
+    let sought = id(alloc)?;
+    let among = [1i32].as_slice().as_in_expression(alloc)?;
+    gives(
+        alloc,
+        sought.eq_any(alloc, among),
+        "(\"users\".\"id\" = ANY($1))",
+    )?;
+    let exprs = (id(alloc)?, 1i32).into_expressions(alloc)?;
+    gives(alloc, list(alloc, exprs), "\"users\".\"id\", $1")?;
+    gives(alloc, id(alloc)?.into_order_item(alloc), "\"users\".\"id\"")?;
+    orders_by(
+        alloc,
+        id(alloc)?.into_order(alloc),
+        " ORDER BY \"users\".\"id\"",
     )
 }
 
