@@ -31,7 +31,7 @@ use std::marker::Brand;
 use std::sync::ledger::{Blank, Ledger};
 
 /// The answer of `compile` for a statement that breaks no rule.
-#[derive(Drop)]
+#[derive(Debug, Drop, PartialEq, Eq)]
 pub struct Built {
     /// The text: `SELECT "users"."id" FROM "users" WHERE ("users"."id" = $1)`.
     pub sql: SqlText,

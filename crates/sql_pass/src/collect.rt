@@ -11,6 +11,7 @@ use sql_dialect::{Backend, NoMemory};
 use sql_schema::SqlType;
 use std::alloc::{AllocError, Global};
 use std::marker::Model;
+use thiserror::Error;
 
 /// The type of what was bound: of a value, or of each value of a list.
 #[derive(Debug, Clone, Copy, PartialEq, Eq)]
@@ -20,10 +21,12 @@ pub enum BindType {
 }
 
 /// Why a collector takes no further value. It then holds what it held.
-#[derive(Debug, Clone, Copy, PartialEq, Eq)]
+#[derive(Debug, Clone, Copy, PartialEq, Eq, Error)]
 pub enum CollectError {
     /// The list, or an element of it, is longer than 2147483647: its length has four bytes.
+    #[error("TooLong")]
     TooLong,
+    #[error("NoMemory")]
     NoMemory,
 }
 

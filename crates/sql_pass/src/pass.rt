@@ -10,14 +10,18 @@ use crate::collect::{BindCollector, CollectError, RawBytesBindCollector};
 use crate::value::{Bound, BoundRef};
 use sql_dialect::{Backend, BindError, QueryBuilder};
 use std::alloc::{AllocError, Global};
+use thiserror::Error;
 
 /// Why a push was refused. The pass then holds what the pushes before it gave.
-#[derive(Debug, Clone, Copy, PartialEq, Eq)]
+#[derive(Debug, Clone, Copy, PartialEq, Eq, Error)]
 pub enum PassError {
+    #[error("NoMemory")]
     NoMemory,
     /// The builder's dialect numbers its placeholders, and the last number is taken.
+    #[error("TooManyBinds")]
     TooManyBinds,
     /// A list, or an element of one, is longer than the collector's form of a list can say: than 2147483647.
+    #[error("TooLong")]
     TooLong,
 }
 
