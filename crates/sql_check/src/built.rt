@@ -45,6 +45,40 @@ pub struct Built {
     pub id: Option<QueryKey>,
 }
 
+fn clone_binds(alloc: Global, binds: &[Bound]) -> Result<SqlList<Bound>, NoMemory>
+    ensures { IfOk result (λ l. l ≡ binds.now) }
+{
+    let mut all = Vec::new(alloc);
+    for bound in binds {
+        all.push(bound.try_clone(alloc)?)?;
+    }
+    Ok(SqlList::from(all))
+}
+
+fn clone_id(alloc: Global, id: &Option<QueryKey>) -> Result<Option<QueryKey>, NoMemory>
+    ensures { IfOk result (λ i. i ≡ id.now) }
+{
+    match id {
+        None => Ok(None),
+        Some(key) => Ok(Some(key.try_clone(alloc)?)),
+    }
+}
+
+impl Built {
+    /// Returns an equal answer.
+    pub fn try_clone(&self, alloc: Global) -> Result<Built, NoMemory>
+        ensures { IfOk result (λ b. b ≡ self.now) }
+    {
+        Ok(Built {
+            sql: self.sql.try_clone(alloc)?,
+            binds: clone_binds(alloc, self.binds.as_slice())?,
+            sql_types: SqlList::from(Vec::from_slice(alloc, self.sql_types.as_slice())?),
+            safe: self.safe,
+            id: clone_id(alloc, &self.id)?,
+        })
+    }
+}
+
 /// The types that there are.
 fn known_types(alloc: Global, types: &[Option<SqlType>]) -> Result<Vec<SqlType>, NoMemory>
     ensures { IfOk result (λ v. v.items ≡ known types.now) }

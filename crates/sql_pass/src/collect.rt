@@ -10,6 +10,7 @@ use crate::value::BoundRef;
 use sql_dialect::{Backend, NoMemory};
 use sql_schema::SqlType;
 use std::alloc::{AllocError, Global};
+use std::fmt;
 use std::marker::Model;
 use thiserror::Error;
 
@@ -127,6 +128,12 @@ impl<DB: Backend> RawBytesBindCollector<DB> {
         self.binds.push(bytes)?;
         self.metadata.push(ty).unwrap();
         Ok(())
+    }
+}
+
+impl<DB: Backend> fmt::Debug for RawBytesBindCollector<DB> {
+    fn fmt<W: fmt::Write>(&self, f: &mut fmt::Formatter<W>) -> fmt::Result {
+        f.write_str("RawBytesBindCollector { .. }")
     }
 }
 
