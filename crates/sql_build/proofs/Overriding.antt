@@ -268,16 +268,9 @@ module _ (schema : Declarations) (d : Dialect) where
   begun-alike cs (Some r) false h = refl
   begun-alike cs (Some r) true h = sym (calls-blind t.count_star schema d cs h (simple r))
 
-  started-alike : (start : Start) (cs : Calls)
-      → (started_in (is_replaced cs) schema d start >>= λ made. calls_in schema d cs made)
-      ≡ statement_in schema d (query start cs)
-  started-alike (from r) cs = begun-alike cs (source_in schema d r) (is_replaced cs) refl
-  started-alike (select x) cs = refl
-
-  -- the statement of a query, from what it begins with
-  pub query_alike : (start : Start) (cs : Calls) (replaced : Bool) (made : Option t.Statement)
-      → replaced ≡ is_replaced cs → made ≡ started_in replaced schema d start
-      → (made >>= λ first. calls_in schema d cs first) ≡ statement_in schema d (query start cs)
-  query_alike start cs replaced made is begins =
-      ap (λ o. o >>= λ first. calls_in schema d cs first) (begins ∙ ap (λ b. started_in b schema d start) is)
-      ∙ started-alike start cs
+  -- the statement of a query, from what it begins with where its first selection is not made in vain
+  pub query_alike : (start : Start) (cs : Calls)
+      → statement_in schema d (query start cs)
+      ≡ (started_in (is_replaced cs) schema d start >>= λ made. calls_in schema d cs made)
+  query_alike (from r) cs = sym (begun-alike cs (source_in schema d r) (is_replaced cs) refl)
+  query_alike (select x) cs = refl
