@@ -1,14 +1,17 @@
 -- A session that has answered one more request, and what its text is.
 use Rattle.std.proofs.Common.{◌≡◌, ◌∙◌, ℕ, ◌+◌, suc, List, [], ◌∷◌, ◌++◌, map, length, Option, None, Some, ap, refl, subst, sym, append_assoc, arith}
 use Rattle.std.proofs.lemmas.List.{map-append}
+use Rattle.std.specs.BTreeMap.{BTreeMap, IsEmpty, is_at}
+use Rattle.std.specs.Map.{lookup}
 use Rattle.sql_schema.specs.Declarations.{Declarations}
 use Rattle.sql_tool_document.specs.Documents.{Document, Request}
 use Rattle.sql_tool_build.proofs.Lines.{written-more}
 use Rattle.sql_tool_build.specs.Output.{IsOutput, AreLines, Line, StatementRequest, line_text, lines_text, statement_request}
-use Rattle.sql_tool_build.specs.inside.Keys.{AreWritten, HasLine}
+use Rattle.sql_tool_build.specs.inside.Keys.{AreWritten, HasLine, seen_at}
 use Rattle.sql_tool_guard.specs.Output.{AreGuarded, IsGuardedOutput}
 use Rattle.sql_tool_guard.specs.Tenants.{Tenant}
 use Rattle.sql_rows.specs.declared.cache.RequestKey.{RequestKey}
+use Rattle.sql_rows.specs.contracts.cache.NamedRequestOrd.TheImpl as key_ord
 use Rattle.sql_tool_session.specs.Session.{Asked, AreMade, HasAnswered, IsMade, asked_for}
 use Rattle.sql_tool_session.specs.declared.session.Session.{Session}
 
@@ -25,6 +28,11 @@ made-length schema [] [] all = refl
 made-length schema [] (r ∷ rs) all = absurd all
 made-length schema (a ∷ more) [] all = absurd all
 made-length schema (a ∷ more) (r ∷ rs) all = ap suc (made-length schema more rs all.1)
+
+-- an empty map has the lines of no requests
+pub nothing_written : (schema : Declarations) (m : BTreeMap RequestKey ℕ) → IsEmpty m → AreWritten schema (seen_at m) [] []
+nothing_written schema m empty =
+    ([], tt, λ q. ap (lookup (is_at ((key_ord.ghosts).cmp q))) empty, refl)
 
 -- the lines so far, and one more
 pub written_next : (schema here : Declarations) (asked : List Asked) (f g : RequestKey → Option ℕ) (a : Asked) (n : ℕ)

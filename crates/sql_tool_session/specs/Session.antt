@@ -109,7 +109,7 @@ AreMade schema (a ∷ more) (r ∷ rs) = IsMade schema a.tenant a.request r × A
 -- Over the schema the session has answered these requests, by this text, and knows how many they are. The text is the lines of what is
 -- made of them, with ids counted over all (`answers_are_outputs`); `AreWritten` also says that the session
 -- finds their ids.
-pub record HasAnswered (schema : Declarations) (asked : List Asked) (text : List ℕ) (s : Session) : Type 0 where
-  pub schema : s.cache.schema ≡ schema
+pub record HasAnswered (declared : Declarations) (asked : List Asked) (text : List ℕ) (s : Session) : Type 0 where
+  pub schema : s.cache.schema ≡ declared
   pub count : s.count ≡ length asked
-  pub written : (rs : List StatementRequest) × AreMade schema asked rs × AreWritten schema (seen_at s.seen) rs text
+  pub written : (rs : List StatementRequest) × AreMade declared asked rs × AreWritten declared (seen_at s.seen) rs text
