@@ -267,7 +267,7 @@ while read -r word by most call; do
     run "$word" <"$work/deep"
     check "one call $call too many for a $word" beyond
     deep "$most" "$call" | "$by" >"$work/deep"
-    # `tenant` copies a statement, which takes 5 KB for each combination: 6 MB at the most, where systems give 8.
+    # `tenant` copies a statement, which takes 3 KB for each combination: 4 MB at the most, where systems give 8.
     case $word$call in
         tenant*union*) run "$word" <"$work/deep" ;;
         *) small "$word" <"$work/deep" ;;

@@ -25,7 +25,8 @@
  * Memory. The library calls malloc, realloc and free. Where memory runs out a call returns HARDIEFLAX_NO_MEMORY, and the handle may be
  * used on. A request that nests deeper than 2,500 levels, or a text whose brackets nest deeper than 2,700, ends a call so too
  * (docs/DOCUMENT.md). The answer then has the lines before it: where it has n lines, it was the request or the text after the first n of
- * the input. Any call takes less than 1.5 MB of stack (bench/README.md), so a thread of 2 MB may make it.
+ * the input. Any call takes less than 1.5 MB of stack (bench/README.md), so a thread of 2 MB may make it; but in a session with policies
+ * a statement of more than 400 combinations takes more, up to 4 MB.
  *
  * Signals. Call nothing here from a signal handler, nor in the forked child of a process with threads.
  */
