@@ -25,7 +25,7 @@ def expect(page, what, holds):
 
 
 def texts_of(crate):
-    return "\n".join(path.read_text() for path in sorted((top / "crates" / crate / "src").glob("*.rt")))
+    return "\n".join(path.read_text() for path in sorted((top / "crates" / crate / "src").rglob("*.rt")))
 
 
 def fences(page, language):
