@@ -10,6 +10,7 @@ mod texts;
 use crate::failure::Failure;
 use blog::Blog;
 
+/// Prints the statements of the gallery, kind by kind.
 pub fn gallery(rt: &HostRuntime) -> Result<(), Failure> {
     let blog = Blog::new(rt.alloc())?;
     joins::joins(rt, &blog)?;
