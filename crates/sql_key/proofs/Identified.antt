@@ -10,7 +10,7 @@ use Rattle.sql_flat.specs.declared.kind.FlatKind.TheVariants as K
 use Rattle.sql_flat.specs.declared.kind.FlatNode.{FlatNode}
 use Rattle.sql_shape.specs.Nodes.{is_unboxed as is_plain_form, all_expr, all_exprs, all_items, all_maybe, all_source, all_from, all_distinct, all_order}
 use Rattle.sql_shape.specs.Ids.{lacks_sample, lacks_places, id_tests, has_id}
-use Rattle.sql_key.specs.Keys.{id_of}
+use Rattle.sql_key.specs.Keys.{id_of, key}
 use Rattle.sql_key.specs.Blank.{blank_node}
 use Rattle.sql_key.specs.inside.Kept.{is_unboxed, keeps_id, node_keeps_id}
 use Rattle.sql_key.proofs.Mapping.{key-blank}
@@ -125,15 +125,18 @@ mutual
 pub all-kept : (s : Statement) → list_all node_keeps_id (flat_of s) ≡ has_id s
 all-kept s = all-flat 0 (rose s) [] ∙ and-true (rose_all keeps_id (rose s)) ∙ statement-kept s
 
-pub found-id : (l : List FlatNode) (k : List FlatNode) → list_all node_keeps_id l ≡ true → k ≡ map blank_node l
-    → (s : Statement) → l ≡ flat_of s → Some k ≡ id_of s
-found-id l k h e s is =
-    let b : has_id s ≡ true = sym (all-kept s) ∙ ap (list_all node_keeps_id) (sym is) ∙ h in
-    rw (b) (ap Some (e ∙ ap (map blank_node) is ∙ sym (key-blank s)))
+pub kept-id : (l : List FlatNode) (s : Statement) → l ≡ flat_of s → list_all node_keeps_id l ≡ has_id s
+kept-id l s is = ap (list_all node_keeps_id) is ∙ all-kept s
 
-pub no-id : (l : List FlatNode) → list_all node_keeps_id l ≡ false → (s : Statement) → l ≡ flat_of s
-    → None ≡ id_of s
-no-id l h s is =
-    let b : has_id s ≡ false = sym (all-kept s) ∙ ap (list_all node_keeps_id) (sym is) ∙ h in rw (b) refl
+pub keyed : (l k : List FlatNode) → k ≡ map blank_node l → (s : Statement) → l ≡ flat_of s → k ≡ key s
+keyed l k e s is = e ∙ ap (map blank_node) is ∙ sym (key-blank s)
 
-pub ruleset identified = (found-id, no-id)
+-- ---- the id
+
+pub found-id : (s : Statement) (k : List FlatNode) → has_id s ≡ true → k ≡ key s → Some k ≡ id_of s
+found-id s k h e = rw h (ap Some e)
+
+pub no-id : (s : Statement) → has_id s ≡ false → None ≡ id_of s
+no-id s h = rw h refl
+
+pub ruleset identified = (kept-id, keyed, found-id, no-id)

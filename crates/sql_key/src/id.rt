@@ -5,7 +5,7 @@ ghost use Rattle.std.specs.List.{list_all};
 ghost use Rattle.sql_node.specs.Tree as t;
 ghost use Rattle.sql_node.specs.View.{statement_tree};
 ghost use Rattle.sql_flat.specs.Flat.{flat_of};
-ghost use Rattle.sql_key.specs.Keys.{id_of};
+ghost use Rattle.sql_key.specs.Keys.{id_of, key};
 ghost use Rattle.sql_shape.specs.Ids.{has_id, lacks_sample};
 ghost use Rattle.sql_key.specs.inside.Kept.{is_unboxed, keeps_id, node_keeps_id};
 
@@ -57,15 +57,29 @@ fn each_leaves_id(nodes: &[FlatNode]) -> bool
     nodes.iter().all(|node| leaves_id(&node.kind))
 }
 
+/// Whether the statement of a flat list has an id: it holds no boxed part, no `OrderColumn`, no `Tablesample` and no list of values.
+#[tactic(auto, using(crate::proofs::Identified::identified))]
+pub fn flat_has_id(flat: &Flat) -> bool
+    ensures { (s : t.Statement) → flat.now ≡ flat_of s → result ≡ has_id s }
+{
+    each_leaves_id(flat.nodes())
+}
+
+/// The key of the statement of a flat list, whether it has an id or not: of a list of three values the key has three of NULL.
+pub fn flat_key(alloc: Global, flat: &Flat) -> Result<QueryKey, NoMemory>
+    ensures { IfOk result (λ k. (s : t.Statement) → flat.now ≡ flat_of s → k ≡ key s) }
+{
+    Ok(QueryKey::from(erased_nodes(alloc, flat.nodes())?))
+}
+
 /// The key of the statement of a flat list, or None where it has no id: where it holds a boxed part, an `OrderColumn`, a
 /// `Tablesample` or a list of values.
 #[tactic(auto, using(crate::proofs::Identified::identified))]
 pub fn flat_query_id(alloc: Global, flat: &Flat) -> Result<Option<QueryKey>, NoMemory>
     ensures { IfOk result (λ id. (s : t.Statement) → flat.now ≡ flat_of s → id ≡ id_of s) }
 {
-    let nodes = flat.nodes();
-    if each_leaves_id(nodes) {
-        Ok(Some(QueryKey::from(erased_nodes(alloc, nodes)?)))
+    if flat_has_id(flat) {
+        Ok(Some(flat_key(alloc, flat)?))
     } else {
         Ok(None)
     }

@@ -13,6 +13,6 @@ mod key;
 mod laws;
 
 pub use erased::erased_kind;
-pub use id::{QueryId, flat_query_id};
+pub use id::{QueryId, flat_has_id, flat_key, flat_query_id};
 pub use key::QueryKey;
 pub use laws::{compared_keys_are_equal_keys, equal_keys_are_equal_shapes, equal_keys_hash_alike};

@@ -23,7 +23,7 @@ use Rattle.sql_flat.specs.declared.kind.FlatKind.{FlatKind}
 use Rattle.sql_flat.specs.declared.kind.FlatKind.TheVariants as K
 use Rattle.sql_flat.specs.declared.kind.FlatNode.{FlatNode}
 use Rattle.sql_key.specs.Blank.{blank_kind, blank_node}
-use Rattle.sql_key.specs.Keys.{id_of}
+use Rattle.sql_key.specs.Keys.{id_of, key}
 use Rattle.sql_key.proofs.Mapping.{key-blank}
 use Rattle.sql_key_names.specs.inside.Named.{column_by, named, named_node, table_by}
 use Rattle.sql_key_names.specs.contracts.compared.NamedKeyPartialEq.TheImpl as named_eq
@@ -34,10 +34,10 @@ use Rattle.sql_rules.specs.Rules.{Broken}
 use Rattle.sql_rules.specs.declared.rule.Rule.TheVariants.{UnknownName}
 use Rattle.sql_rules_check.proofs.NamesTell.{all-known}
 use Rattle.sql_rules_check.specs.inside.Sites.{is_declared, is_unknown}
-use Rattle.sql_rows.specs.declared.cache.Kept.{Kept}
 use Rattle.sql_rows.specs.declared.cache.RequestKey.{RequestKey}
 use Rattle.sql_rows.specs.contracts.cache.NamedRequestPartialEq.TheImpl as pair_eq
 use Rattle.sql_rows.specs.inside.Known.{AllKnown, AreKnown, IsKnown}
+use Rattle.sql_rows.specs.inside.Shaped.{IsShaped}
 use Rattle.sql_rows.specs.Entries.{IsLookedUp}
 use Rattle.sql_rows.specs.contracts.cache.NamedRequestEq.TheImpl.Laws.{laws-law}
 use Rattle.sql_rows.proofs.EqualIds.{own-key}
@@ -157,7 +157,7 @@ module _ (schema : Declarations) (sound : least_refusal schema ≡ None) where
       λ i. record { dialect = dialect i; key = key i }
 
   -- a pair that is found is the one
-  pub all-exact : (es : List (RequestKey × Kept)) → AllKnown schema es → (q : RequestKey) → IsKnown schema q
+  pub all-exact : {V : Type 0} (es : List (RequestKey × V)) → AllKnown schema es → (q : RequestKey) → IsKnown schema q
       → Finds (same_pair q) q es
   all-exact es all q h e there t = exact-pair q e.0 h (all e there) t
 
@@ -177,13 +177,22 @@ blank-unknowns : (schema : Declarations) (ns : List FlatNode)
 blank-unknowns schema [] = refl
 blank-unknowns schema (n ∷ ns) = λ i. blank-unknown schema n.kind i || blank-unknowns schema ns i
 
+shape-unknown : (schema : Declarations) (s : Statement) (k : List FlatNode) → key s ≡ k
+    → list_any (λ x. is_unknown schema x.kind) k ≡ list_any (λ x. is_unknown schema x.kind) (flat_of s)
+shape-unknown schema s k h =
+    ap (list_any (λ x. is_unknown schema x.kind)) (sym h ∙ key-blank s) ∙ blank-unknowns schema (flat_of s)
+
 pub key-unknown : (schema : Declarations) (s : Statement) (k : List FlatNode) → id_of s ≡ Some k
     → list_any (λ x. is_unknown schema x.kind) k ≡ list_any (λ x. is_unknown schema x.kind) (flat_of s)
-key-unknown schema s k h =
-    ap (list_any (λ x. is_unknown schema x.kind)) (sym (own-key s k h).1 ∙ key-blank s) ∙ blank-unknowns schema (flat_of s)
+key-unknown schema s k h = shape-unknown schema s k (own-key s k h).1
 
 -- the pair of a statement whose names are the schema's
 pub known-pair : (schema : Declarations) (d : Dialect) (s : Statement) (pair : RequestKey)
     → ¬ Broken UnknownName schema d s → IsLookedUp d s pair → IsKnown schema pair
 known-pair schema d s pair h own =
     key-unknown schema s pair.key own.id ∙ all-known s (flat_of s) schema d refl h
+
+pub known-shaped : (schema : Declarations) (d : Dialect) (s : Statement) (pair : RequestKey)
+    → ¬ Broken UnknownName schema d s → IsShaped d s pair → IsKnown schema pair
+known-shaped schema d s pair h own =
+    shape-unknown schema s pair.key own.key ∙ all-known s (flat_of s) schema d refl h

@@ -1,6 +1,5 @@
 pub mod EqualIds
 pub mod Alone
-pub mod Counted
 pub mod Exact
 pub mod Keys
 pub mod Known

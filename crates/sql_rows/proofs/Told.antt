@@ -1,66 +1,117 @@
 -- What is kept of an answer serves for each statement of its key.
-use Rattle.std.proofs.Common.{◌≡◌, ◌⊎◌, true, None, List, Contains, inl, inr, sym, ◌∙◌, subst}
+use Rattle.std.proofs.Common.{◌≡◌, ◌⊎◌, true, List, [], ◌∷◌, None, Contains, inl, inr, sym, ◌∙◌, subst}
 use Rattle.sql_schema.specs.Declarations.{Declarations}
 use Rattle.sql_schema.specs.Refusals.{least_refusal}
 use Rattle.sql_dialect.specs.declared.backend.Dialect.{Dialect}
 use Rattle.sql_node.specs.Tree.{Statement}
-use Rattle.sql_check.specs.Compiled.{IsBuilt}
+use Rattle.sql_key.proofs.Shapes.{same-shape}
+use Rattle.sql_shape.specs.Shape.{shape}
+use Rattle.sql_rules.specs.Lists.{Each}
+use Rattle.sql_rules.specs.Rules.{Broken}
+use Rattle.sql_rules.specs.declared.rule.Rule.{Rule}
+use Rattle.sql_rules_law.proofs.Exchange as exchange
+use Rattle.sql_rules_law.proofs.OneText as texts
+use Rattle.sql_rules_law.proofs.SafeLaws.{safe_alike}
+use Rattle.sql_check.specs.Compiled.{IsBuilt, IsLeast}
 use Rattle.sql_check.specs.declared.built.Built.{Built}
-use Rattle.sql_rows.proofs.EqualIds as ids
 use Rattle.lru.specs.LruCache.{LruCache}
 use Rattle.lru.proofs.CallerLemmas.{IsPut}
-use Rattle.sql_rows.specs.declared.cache.Kept.{Kept}
+use Rattle.sql_rows.specs.declared.answers.Answer.TheVariants as answer
 use Rattle.sql_rows.specs.declared.cache.RequestKey.{RequestKey}
 use Rattle.sql_rows.specs.Entries.{IsLookedUp}
-use Rattle.sql_rows.specs.inside.Served.{AllServe, Serves, Tells, kept_of}
+use Rattle.sql_rows.specs.inside.Served.{Serves, Tells, kept_of}
+use Rattle.sql_rows.specs.inside.Shaped.{IsShaped, Says}
 use Rattle.sql_rows.specs.inside.Known.{AllKnown, IsKnown}
+use Rattle.sql_rows.proofs.EqualIds.{own-key}
 use Rattle.sql_rows.proofs.Keys.{Finds}
 use Rattle.sql_rows.proofs.Known.{same_pair}
+
+-- ## What one statement of a key is told
+
+one-shape : (d e : Dialect) (s t : Statement) (pair : RequestKey) → IsShaped d s pair → IsShaped e t pair
+    → shape s ≡ shape t
+one-shape d e s t pair own other = (same-shape s t).0 (own.key ∙ sym other.key)
+
+pub kept-says : (schema : Declarations) (d : Dialect) (s : Statement) (pair : RequestKey) (b : Built)
+    → IsShaped d s pair → IsBuilt schema d s b → Says schema (pair, answer.Built (kept_of b))
+kept-says schema d s pair b own built = λ e t other.
+    let same = one-shape d e s t pair own other in
+    let told : Tells schema d t (kept_of b) =
+    record {
+      accepted = λ r broken. built.accepted r ((exchange.rules schema d s t same own.fit other.fit r).1 broken);
+      sql = built.sql ∙ texts.text d s t same;
+      sql_types = built.sql_types ∙ exchange.types s t (exchange.loosely s t same) own.fit other.fit;
+      safe = built.safe ∙ safe_alike d s t same;
+    } in
+    subst (λ x. Tells schema x t (kept_of b)) (sym own.dialect ∙ other.dialect) told
+
+none-of : (P Q : Rule → Type 0) → ((r : Rule) → Q r → P r) → (rs : List Rule) → Each (λ r. ¬ P r) rs
+    → Each (λ r. ¬ Q r) rs
+none-of P Q h [] n = tt
+none-of P Q h (r ∷ rs) n = ((λ q. n.0 (h r q)), none-of P Q h rs n.1)
+
+pub least-says : (schema : Declarations) (d : Dialect) (s : Statement) (pair : RequestKey) (r : Rule)
+    → IsShaped d s pair → IsLeast r schema d s → Says schema (pair, answer.Refused r)
+least-says schema d s pair r own least = λ e t other.
+    let same = one-shape d e s t pair own other in
+    let rules = exchange.rules schema d s t same own.fit other.fit in
+    let (front, rest, cut, none) = least.before in
+    let told : IsLeast r schema d t =
+    record {
+      broken = (rules r).0 least.broken;
+      before = (
+        front,
+        rest,
+        cut,
+        none-of (λ q. Broken q schema d s) (λ q. Broken q schema d t) (λ q. (rules q).1) front none,
+      );
+    } in
+    subst (λ x. IsLeast r schema x t) (sym own.dialect ∙ other.dialect) told
+
+-- a statement with an id is one of its key
+pub shaped : (d : Dialect) (s : Statement) (pair : RequestKey) → IsLookedUp d s pair → IsShaped d s pair
+shaped d s pair at = record { fit = at.fit; key = (own-key s pair.key at.id).1; dialect = at.dialect }
 
 pub kept-serves : (schema : Declarations) (d : Dialect) (s : Statement) (pair : RequestKey) (b : Built)
     → IsLookedUp d s pair → IsBuilt schema d s b
     → Serves schema (pair, kept_of b)
 kept-serves schema d s pair b own built = λ e t other.
-    let told : Tells schema d t (kept_of b) =
-    record {
-      accepted = ids.accepted schema d s t pair.key own.id other.id other.fit built.accepted;
-      sql = built.sql ∙ ids.text d s t pair.key own.id other.id;
-      sql_types = built.sql_types ∙ ids.column_types s t pair.key own.id other.id;
-      safe = built.safe ∙ ids.safe d s t pair.key own.id other.id;
-    } in
-    subst (λ x. Tells schema x t (kept_of b))
-    (sym own.dialect ∙ other.dialect) told
+    kept-says schema d s pair b (shaped d s pair own) built e t (shaped e t pair other)
 
--- what holds of the entries of a cache over the schema
-abbrev pub Holds : Declarations → List (RequestKey × Kept) → Type 0
-Holds schema es = AllServe schema es × (AllKnown schema es × (least_refusal schema ≡ None))
+-- ## The entries of a cache
 
--- it holds of fewer
-pub fewer : (schema : Declarations) (es fs : List (RequestKey × Kept))
-    → ((e : RequestKey × Kept) → Contains fs e → Contains es e) → Holds schema es → Holds schema fs
-fewer schema es fs was (serve, (known, sound)) =
-    (λ e there. serve e (was e there), ((λ e there. known e (was e there)), sound))
+module _ {V : Type 0} (Good : Declarations → RequestKey × V → Type 0) where
+  -- what holds of the entries of a cache over the schema
+  abbrev pub Holds : Declarations → List (RequestKey × V) → Type 0
+  Holds schema es =
+      ((e : RequestKey × V) → Contains es e → Good schema e) × (AllKnown schema es × (least_refusal schema ≡ None))
 
-module _ (schema : Declarations) (c : LruCache RequestKey Kept) (q : RequestKey) (v : Kept) (finds : Finds (same_pair q) q c.entries) where
-  put-key : (e : RequestKey × Kept) → IsPut same_pair c q v e → q ≡ e.0
-  put-key e put = key put.1
-    where
-      key : (e.0 ≡ q) ⊎ ((w : Kept) × Contains c.entries (e.0, w) × (same_pair q e.0 ≡ true)) → q ≡ e.0
-      key (inl p) = sym p
-      key (inr (w, there, t)) = finds (e.0, w) there t
+  -- it holds of fewer
+  pub fewer : (schema : Declarations) (es fs : List (RequestKey × V))
+      → ((e : RequestKey × V) → Contains fs e → Contains es e) → Holds schema es → Holds schema fs
+  fewer schema es fs was (good, (known, sound)) =
+      (λ e there. good e (was e there), ((λ e there. known e (was e there)), sound))
 
-  -- an entry after a put serves where what was put does
-  put-serves : (e : RequestKey × Kept) → IsPut same_pair c q v e → Serves schema (q, v) → Serves schema e
-  put-serves e put h = subst (Serves schema) (λ i. (put-key e put i, sym put.0 i)) h
+  module _ (schema : Declarations) (c : LruCache RequestKey V) (q : RequestKey) (v : V) (finds : Finds (same_pair q) q c.entries) where
+    put-key : (e : RequestKey × V) → IsPut same_pair c q v e → q ≡ e.0
+    put-key e put = key put.1
+      where
+        key : (e.0 ≡ q) ⊎ ((w : V) × Contains c.entries (e.0, w) × (same_pair q e.0 ≡ true)) → q ≡ e.0
+        key (inl p) = sym p
+        key (inr (w, there, t)) = finds (e.0, w) there t
 
-  -- and its names are known where those are
-  put-known : (e : RequestKey × Kept) → IsPut same_pair c q v e → IsKnown schema q → IsKnown schema e.0
-  put-known e put h = subst (IsKnown schema) (put-key e put) h
+    -- an entry after a put is good where what was put is
+    put-good : (e : RequestKey × V) → IsPut same_pair c q v e → Good schema (q, v) → Good schema e
+    put-good e put h = subst (Good schema) (λ i. (put-key e put i, sym put.0 i)) h
 
-  -- what holds of the entries holds behind a put
-  pub put-holds : Holds schema c.entries → IsKnown schema q → Serves schema (q, v) → (fs : List (RequestKey × Kept))
-      → ((e : RequestKey × Kept) → Contains fs e → Contains c.entries e ⊎ IsPut same_pair c q v e) → Holds schema fs
-  put-holds (serve, (known, sound)) own serves fs was = (
-    (λ e there. elim (was e there) [ inl old ↦ serve e old | inr put ↦ put-serves e put serves ]),
-    ((λ e there. elim (was e there) [ inl old ↦ known e old | inr put ↦ put-known e put own ]), sound),
-  )
+    -- and its names are known where those are
+    put-known : (e : RequestKey × V) → IsPut same_pair c q v e → IsKnown schema q → IsKnown schema e.0
+    put-known e put h = subst (IsKnown schema) (put-key e put) h
+
+    -- what holds of the entries holds behind a put
+    pub put-holds : Holds schema c.entries → IsKnown schema q → Good schema (q, v) → (fs : List (RequestKey × V))
+        → ((e : RequestKey × V) → Contains fs e → Contains c.entries e ⊎ IsPut same_pair c q v e) → Holds schema fs
+    put-holds (good, (known, sound)) own new fs was = (
+      (λ e there. elim (was e there) [ inl old ↦ good e old | inr put ↦ put-good e put new ]),
+      ((λ e there. elim (was e there) [ inl old ↦ known e old | inr put ↦ put-known e put own ]), sound),
+    )

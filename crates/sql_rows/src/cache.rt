@@ -1,42 +1,47 @@
-ghost use Rattle.std.specs.Prelude.{◌≡◌, ◌≢◌, ◌↔◌, ◌≤◌, [], length, false, slice_get, Contains, AllPairs, IfOk, IfErr, OnOk, OnErr, IsTrue, Some};
+ghost use Rattle.std.specs.Prelude.{◌≡◌, ◌≢◌, ◌↔◌, ◌≤◌, ◌×◌, [], length, false, slice_get, Contains, AllPairs, IfOk, IfErr, OnOk, OnErr, IsTrue, None, Some};
 ghost use Rattle.std.specs.List.{list_any};
 ghost use Rattle.std.specs.NonZero.{non_zero_usize_get};
-ghost use Rattle.sql_schema.specs.Declarations.{Declarations};
 ghost use Rattle.sql_node.specs.Tree.{Statement as Tree};
 ghost use Rattle.sql_node.specs.View.{statement_tree};
 ghost use Rattle.sql_flat.specs.Flat.{flat_of};
-ghost use Rattle.sql_key.specs.Keys.{id_of};
+ghost use Rattle.sql_key.specs.Keys.{id_of, key};
 ghost use Rattle.sql_rules_check.specs.declared.names.Names.TheVariants as name;
 ghost use Rattle.sql_rules_check.specs.inside.Sites.{is_unknown};
 ghost use Rattle.sql_rules.specs.Rules.{Broken};
-ghost use Rattle.sql_rules.specs.declared.rule.Rule.{Rule};
+ghost use Rattle.sql_rules.specs.declared.rule.Rule.{Rule as TheRule};
 ghost use Rattle.sql_rules.specs.declared.rule.Rule.TheVariants as rule;
 ghost use Rattle.sql_check.specs.Compiled.{IsBuilt, IsLeast, IsRead};
 ghost use Rattle.sql_check.specs.Errors.{rule_of};
-ghost use Rattle.sql_check.specs.declared.error.CompileError.TheVariants as error;
 ghost use Rattle.sql_rows_meaning.specs.Fitting.{AnswersFit};
 ghost use Rattle.sql_rows.specs.Entries.{IsHit, IsLookedUp, IsNext, put};
 ghost use Rattle.sql_rows.specs.Sound.{CompilesSoundly};
+ghost use Rattle.sql_rows.specs.declared.answers.Answer.TheVariants as answer;
+ghost use Rattle.sql_rows.specs.declared.cache.Place.TheVariants as place;
 ghost use Rattle.sql_rows.specs.declared.cache.RequestKey.{RequestKey as Pair};
 ghost use Rattle.sql_rows.specs.inside.Known.{AreKnown, IsKnown};
-ghost use Rattle.sql_rows.specs.inside.Served.{Serves, Tells, kept_of};
+ghost use Rattle.sql_rows.specs.inside.Placed.{identified};
+ghost use Rattle.sql_rows.specs.inside.Served.{Serves, kept_of};
+ghost use Rattle.sql_rows.specs.inside.Shaped.{IsShaped, Says};
 
+use crate::answers::{Answer, AnswerCache};
 use crate::sound::compile_sound_flat_by;
+use crate::told::{Asked, Kept, tell};
 use lru::LruCache;
 use sql_check::{Built, CompileError, Names, values_fit};
 use sql_dialect::{Backend, Dialect};
 use sql_flat::{Flat, FlatNode, flatten};
-use sql_key::{QueryKey, flat_query_id};
+use sql_key::{QueryKey, flat_has_id, flat_key};
 use sql_key_names::NamedKey;
 use sql_node::Statement;
-use sql_pass::debug_binds;
-use sql_rows_meaning::types_are_sound;
+use sql_rules::Rule;
 use sql_rules_check::any_unknown_name;
-use sql_rules_law::{accepted_are_read, names_one_leaf};
-use sql_schema::{NoMemory, Schema, SqlList, SqlText, SqlType};
+use sql_schema::{NoMemory, Schema};
 use std::alloc::{AllocError, Global};
 use std::marker::Model;
 use std::num::NonZeroUsize;
+
+/// The most nodes of a statement without an id whose answer is kept: a list may have many values, and its key has as many.
+const LONGEST: usize = 1024;
 
 /// By what a cache knows a request: its dialect, and the key of its statement.
 #[derive(Debug, Drop, PartialEq, Eq, PartialOrd, Ord, Hash)]
@@ -82,19 +87,14 @@ impl From<RequestKey> for NamedRequest {
     }
 }
 
-/// The part of an answer that is the same for all statements of one key.
-#[derive(Drop)]
-struct Kept {
-    sql: SqlText,
-    sql_types: SqlList<SqlType>,
-    safe: bool,
-}
-
 /// Compiled statements of one schema, the one that was used last first. A full cache loses the one that was used least recently.
+///
+/// Statements without an id, and those that are refused, have places of their own, as many: no entry goes for them, and none of their hits
+/// counts.
 #[derive(Drop)]
 pub struct StatementCache {
-    schema: Schema,
     kept: LruCache<NamedRequest, Kept>,
+    others: AnswerCache,
     hits: u64,
 }
 
@@ -109,61 +109,60 @@ impl Model for StatementCache {
     ghost Value = { Entries };
 
     ghost view = { λ c. record {
-      schema = c.schema;
+      schema = c.others;
       keys = keys_of c.kept.entries;
       capacity = c.kept.cap;
       hits = c.hits;
     } };
 
-    ghost invariant = { λ c. AllServe c.schema c.kept.entries
-        × (AllKnown c.schema c.kept.entries × (least_refusal c.schema ≡ None)) };
+    ghost invariant = { λ c. AllServe c.others c.kept.entries
+        × (AllKnown c.others c.kept.entries × (least_refusal c.others ≡ None)) };
 }
 
-/// Text, types and flag in memory of their own.
-fn copied(
-    alloc: Global,
-    sql: &SqlText,
-    sql_types: &SqlList<SqlType>,
-    safe: bool,
-) -> Result<Kept, NoMemory>
-    ensures { IfOk result (λ k. k
-        ≡ record { sql = sql.now; sql_types = sql_types.now; safe = safe }) }
+/// Where the answer for a statement is kept.
+#[derive(Drop)]
+enum Place {
+    /// Among those of statements with ids, by this pair.
+    Identified(NamedRequest),
+    /// Among the others, by this pair.
+    Shaped(NamedRequest),
+    /// Nowhere: a value does not fit, or there are too many nodes.
+    Nowhere,
+}
+
+/// The dialect, and the key of the statement.
+fn pair_of<DB: Backend>(alloc: Global, backend: &DB, flat: &Flat) -> Result<NamedRequest, NoMemory>
+    ensures { IfOk result (λ pair. (s : Tree) → flat.now ≡ flat_of s
+        → pair ≡ record { dialect = DB.speaks; key = key s }) }
 {
-    let sql = sql.try_clone(alloc)?;
-    let sql_types = Vec::from_slice(alloc, sql_types.as_slice())?;
-    Ok(Kept {
-        sql,
-        sql_types: SqlList::from(sql_types),
-        safe,
-    })
+    let dialect = backend.dialect();
+    let key = flat_key(alloc, flat)?;
+    Ok(NamedRequest::from(RequestKey { dialect, key }))
 }
 
-/// A statement that is asked for, and its flat list.
-#[derive(Clone, Copy)]
-struct Asked<'s> {
-    statement: &'s Statement,
-    flat: &'s Flat,
-}
-
-/// The pair that is looked up for a statement.
-fn pair_of<DB: Backend>(
+fn place_of<DB: Backend>(
     alloc: Global,
     backend: &DB,
     asked: Asked<'_>,
-) -> Result<Option<NamedRequest>, NoMemory>
+) -> Result<Place, NoMemory>
     requires { asked.flat.now ≡ flat_of (statement_tree asked.statement.now) }
-    ensures { IfOk result (λ found. (pair : RequestKey) → (found ≡ Some pair)
+    ensures identified { IfOk result (λ found. (pair : Pair) → (identified found ≡ Some pair)
         ↔ IsLookedUp DB.speaks (statement_tree asked.entry.statement.now) pair) }
+    ensures shaped { IfOk result (λ found. (pair : Pair) → found ≡ place.Shaped pair
+        → IsShaped DB.speaks (statement_tree asked.entry.statement.now) pair
+        × (id_of (statement_tree asked.entry.statement.now) ≡ None)) }
 {
     let fit = values_fit(asked.statement);
     if !fit {
-        return Ok(None);
+        return Ok(Place::Nowhere);
     }
-    let dialect = backend.dialect();
-    match flat_query_id(alloc, asked.flat)? {
-        Some(key) => Ok(Some(NamedRequest::from(RequestKey { dialect, key }))),
-        None => Ok(None),
+    if flat_has_id(asked.flat) {
+        return Ok(Place::Identified(pair_of(alloc, backend, asked.flat)?));
     }
+    if asked.flat.nodes().len() > LONGEST {
+        return Ok(Place::Nowhere);
+    }
+    Ok(Place::Shaped(pair_of(alloc, backend, asked.flat)?))
 }
 
 /// Whether a name of the statement of these nodes is not the schema's.
@@ -175,44 +174,6 @@ fn lacks_name(schema: &Schema, names: Names, nodes: &[FlatNode]) -> bool
         Names::Asked => any_unknown_name(schema, nodes),
         Names::Known => false,
     }
-}
-
-/// Returns the answer for the statement whose key this is: what was kept with its pair, and its own values.
-fn tell<DB: Backend>(
-    alloc: Global,
-    backend: &DB,
-    statement: &Statement,
-    key: QueryKey,
-    kept: Kept,
-) -> Result<Built, CompileError>
-    requires id { id_of (statement_tree statement.now) ≡ Some key }
-    ensures built { IfOk result (λ b. (schema : Declarations)
-        → Tells schema DB.speaks (statement_tree statement.now) kept
-        → IsBuilt schema DB.speaks (statement_tree statement.now) b) }
-    ensures read { IfOk result (λ b. (schema : Declarations)
-        → Tells schema DB.speaks (statement_tree statement.now) kept
-        → IsRead DB.speaks (statement_tree statement.now) b.sql b.binds) }
-    ensures sound { IfOk result (λ b. (schema : Declarations)
-        → Tells schema DB.speaks (statement_tree statement.now) kept
-        → AnswersFit schema (statement_tree statement.now) b.sql_types) }
-    ensures refused { IfErr result (λ e. e ≡ error.NoMemory) }
-{
-    let binds = debug_binds(alloc, backend, statement)?;
-    accepted_are_read();
-    names_one_leaf();
-    types_are_sound();
-    let Kept {
-        sql,
-        sql_types,
-        safe,
-    } = kept;
-    Ok(Built {
-        sql,
-        binds: SqlList::from(binds),
-        sql_types,
-        safe,
-        id: Some(key),
-    })
 }
 
 impl StatementCache {
@@ -227,9 +188,10 @@ impl StatementCache {
     {
         let kept = LruCache::new(alloc, capacity)?;
         let _sound = schema.tables();
+        let others = AnswerCache::new(alloc, schema, capacity)?;
         Ok(StatementCache {
-            schema,
             kept,
+            others,
             hits: 0,
         })
     }
@@ -238,7 +200,7 @@ impl StatementCache {
     pub fn schema(&self) -> &Schema
         ensures { result.now ≡ self.now.schema }
     {
-        &self.schema
+        self.others.schema()
     }
 
     /// How many calls found what they looked up.
@@ -280,12 +242,12 @@ impl StatementCache {
     /// Returns what is kept with the first pair, in memory of its own.
     fn recall(&self, alloc: Global) -> Result<Kept, NoMemory>
         requires { self.now.keys ≢ [] }
-        ensures { IfOk result (λ kept. (pair : RequestKey)
+        ensures { IfOk result (λ kept. (pair : Pair)
             → slice_get self.now.keys 0 ≡ Some pair → Serves self.now.schema (pair, kept)) }
     {
         match self.kept.peek_mru() {
             None => unreachable!(),
-            Some((_, kept)) => copied(alloc, &kept.sql, &kept.sql_types, kept.safe),
+            Some((_, kept)) => kept.try_clone(alloc),
         }
     }
 
@@ -296,27 +258,72 @@ impl StatementCache {
         ensures kept { OnOk result (self.new ≡ put self.old pair) }
         ensures unchanged { OnErr result (self.new ≡ self.old) }
     {
-        let kept = copied(alloc, &built.sql, &built.sql_types, built.safe)?;
+        let kept = Kept::of(alloc, built)?;
         match self.kept.put(pair, kept) {
             Ok(_) => Ok(()),
             Err(_) => Err(AllocError),
         }
     }
 
-    /// The answer for the statement of a flat list that nothing kept is used for.
+    /// Returns the rule that refuses each statement of this pair, where one is kept.
+    fn recall_refusal(
+        &mut self,
+        alloc: Global,
+        pair: &NamedRequest,
+    ) -> Result<Option<Rule>, NoMemory>
+        requires { IsKnown self.old.schema pair.now }
+        ensures says { IfOk result (λ found. (r : TheRule) → found ≡ Some r
+            → Says self.old.schema (pair.now, answer.Refused r)) }
+        ensures unchanged { self.new ≡ self.old }
+    {
+        match self.others.recall(alloc, pair)? {
+            Some(Answer::Refused(rule)) => Ok(Some(rule)),
+            _ => Ok(None),
+        }
+    }
+
+    /// Keeps the rule that this error names, if it is one, with the pair.
+    fn keep_refusal(&mut self, pair: NamedRequest, error: CompileError) -> Result<(), NoMemory>
+        requires known { IsKnown self.old.schema pair }
+        requires says { (r : TheRule) → rule_of error ≡ Some r
+            → Says self.old.schema (pair, answer.Refused r) }
+        ensures { self.new ≡ self.old }
+    {
+        self.others.keep_refusal(pair, error)
+    }
+
+    /// The answer for the statement of a flat list whose names are the schema's, by nothing kept.
     fn compile_alone<DB: Backend>(
         &self,
         alloc: Global,
-        names: Names,
         backend: &DB,
         flat: &Flat,
     ) -> Result<Built, CompileError>
-        requires { names ≡ name.Known → (s : Tree) → flat.now ≡ flat_of s
+        requires { (s : Tree) → flat.now ≡ flat_of s
             → ¬ Broken rule.UnknownName self.now.schema DB.speaks s }
         ensures { (s : Tree) → flat.now ≡ flat_of s
             → CompilesSoundly self.now.schema DB.speaks s result }
     {
-        compile_sound_flat_by(alloc, names, backend, self.schema(), flat)
+        compile_sound_flat_by(alloc, Names::Known, backend, self.schema(), flat)
+    }
+
+    /// The answer for a statement without an id, by what is kept where its pair is there.
+    fn compile_shaped<DB: Backend>(
+        &mut self,
+        alloc: Global,
+        backend: &DB,
+        asked: Asked<'_>,
+        pair: NamedRequest,
+    ) -> Result<Built, CompileError>
+        requires known { ¬ Broken rule.UnknownName self.old.schema DB.speaks (statement_tree asked.statement.now) }
+        requires flat { asked.flat.now ≡ flat_of (statement_tree asked.statement.now) }
+        requires shaped { IsShaped DB.speaks (statement_tree asked.statement.now) pair }
+        requires id { id_of (statement_tree asked.statement.now) ≡ None }
+        ensures compiled { CompilesSoundly self.old.schema DB.speaks
+            (statement_tree asked.entry.statement.now) result }
+        ensures unchanged { self.new ≡ self.old }
+    {
+        self.others.compile(alloc, backend, asked, pair)
     }
 
     /// The answer by what is kept with the first pair, which is the statement's.
@@ -324,15 +331,17 @@ impl StatementCache {
         &self,
         alloc: Global,
         backend: &DB,
-        statement: &Statement,
+        asked: Asked<'_>,
         pair: NamedRequest,
     ) -> Result<Built, CompileError>
-        requires looked_up { IsLookedUp DB.speaks (statement_tree statement.now) pair }
+        requires flat { asked.flat.now ≡ flat_of (statement_tree asked.statement.now) }
+        requires looked_up { IsLookedUp DB.speaks (statement_tree asked.statement.now) pair }
         requires first { slice_get self.now.keys 0 ≡ Some pair }
-        ensures { CompilesSoundly self.now.schema DB.speaks (statement_tree statement.now) result }
+        ensures { CompilesSoundly self.now.schema DB.speaks
+            (statement_tree asked.entry.statement.now) result }
     {
         let kept = self.recall(alloc)?;
-        tell(alloc, backend, statement, pair.into_key(), kept)
+        tell(alloc, backend, asked, Some(pair.into_key()), kept)
     }
 
     /// The answer for a pair that is not there, which is put first.
@@ -352,12 +361,18 @@ impl StatementCache {
         ensures put { OnOk result (self.new ≡ put self.old pair) }
         ensures unchanged { OnErr result (self.new ≡ self.old) }
     {
-        match self.compile_alone(alloc, Names::Known, backend, asked.flat) {
+        if let Some(rule) = self.recall_refusal(alloc, &pair)? {
+            return Err(CompileError::from(rule));
+        }
+        match self.compile_alone(alloc, backend, asked.flat) {
             Ok(built) => {
                 self.keep(alloc, pair, &built)?;
                 Ok(built)
             }
-            Err(error) => Err(error),
+            Err(error) => {
+                self.keep_refusal(pair, error)?;
+                Err(error)
+            }
         }
     }
 
@@ -368,22 +383,18 @@ impl StatementCache {
         let _len = self.kept.len();
     }
 
-    /// The refusal of a statement of which a name is not the schema's. None of its pair is kept.
+    /// The refusal of a statement of which a name is not the schema's, the first of the rules. None of its pair is kept.
     fn refuse<DB: Backend>(
         &self,
-        alloc: Global,
-        backend: &DB,
-        asked: Asked<'_>,
+        _backend: &DB,
+        statement: &Statement,
     ) -> Result<Built, CompileError>
-        requires unknown { Broken rule.UnknownName self.now.schema DB.speaks (statement_tree asked.statement.now) }
-        requires flat { asked.flat.now ≡ flat_of (statement_tree asked.statement.now) }
-        ensures compiled { CompilesSoundly self.now.schema DB.speaks
-            (statement_tree asked.entry.statement.now) result }
-        ensures entries { IsNext DB.speaks (statement_tree asked.entry.statement.now)
-            self.now result self.now }
+        requires { Broken rule.UnknownName self.now.schema DB.speaks (statement_tree statement.now) }
+        ensures compiled { CompilesSoundly self.now.schema DB.speaks (statement_tree statement.now) result }
+        ensures entries { IsNext DB.speaks (statement_tree statement.now) self.now result self.now }
     {
         self.keeps_known_names();
-        self.compile_alone(alloc, Names::Asked, backend, asked.flat)
+        Err(CompileError::UnknownName)
     }
 
     /// The answer for a statement whose names are the schema's, by what is kept where its pair is there.
@@ -401,11 +412,12 @@ impl StatementCache {
         ensures entries { IsNext DB.speaks (statement_tree asked.entry.statement.now)
             self.old result self.new }
     {
-        match pair_of(alloc, backend, asked)? {
-            None => self.compile_alone(alloc, Names::Known, backend, asked.flat),
-            Some(pair) => {
+        match place_of(alloc, backend, asked)? {
+            Place::Nowhere => self.compile_alone(alloc, backend, asked.flat),
+            Place::Shaped(pair) => self.compile_shaped(alloc, backend, asked, pair),
+            Place::Identified(pair) => {
                 if self.look_up(&pair) {
-                    self.answer_kept(alloc, backend, asked.statement, pair)
+                    self.answer_kept(alloc, backend, asked, pair)
                 } else {
                     self.answer_new(alloc, backend, asked, pair)
                 }
@@ -438,7 +450,7 @@ impl StatementCache {
             flat: &flat,
         };
         if lacks_name(self.schema(), names, flat.nodes()) {
-            self.refuse(alloc, backend, asked)
+            self.refuse(backend, statement)
         } else {
             self.compile_known(alloc, backend, asked)
         }
@@ -458,7 +470,7 @@ impl StatementCache {
             IsRead DB.speaks (statement_tree statement.now) b.sql b.binds) }
         ensures sound { IfOk result (λ b.
             AnswersFit self.old.schema (statement_tree statement.now) b.sql_types) }
-        ensures refused { IfErr result (λ e. (r : Rule) → rule_of e ≡ Some r
+        ensures refused { IfErr result (λ e. (r : TheRule) → rule_of e ≡ Some r
             → IsLeast r self.old.schema DB.speaks (statement_tree statement.now)) }
         ensures schema { self.new.schema ≡ self.old.schema }
         ensures entries { IsNext DB.speaks (statement_tree statement.now)

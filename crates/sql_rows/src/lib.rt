@@ -5,13 +5,19 @@
 //! The cache keeps the text, the types of the columns and the flag. The values are each statement's own, and a walk takes them. If memory runs
 //! out after a hit, the entry stays at the front: to undo the look-up would gain nothing.
 //!
+//! What it is told of statements without an id, and which rule refuses a statement, it keeps beside its entries (`answers`), by the same keys:
+//! where the values of two statements of one shape fit, they have one answer but for the values. Its contract says nothing of that, since no
+//! answer shows it. A statement whose values do not fit is compiled each time.
+//!
 //! Keys are hashed with a fixed seed, as the default of `lru` is. Whoever picks statements may make keys that hash alike, and a look-up then
 //! compares as many keys as there are entries. The program keeps 256.
 #![tactic(auto)]
 
+mod answers;
 mod cache;
 mod laws;
 mod sound;
+mod told;
 
 pub use cache::{NamedRequest, RequestKey, StatementCache};
 pub use laws::{answered_pairs_come_first, calls_are_answered_alone, equal_ids, one_answer};

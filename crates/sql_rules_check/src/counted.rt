@@ -32,9 +32,9 @@ fn nodes_are_counted(nodes: &[FlatNode])
     }
 }
 
-/// A number of a column has four bytes, so each position of each combination's order is counted with four:
-/// `SELECT .. UNION SELECT .. ORDER BY 2`.
-pub(crate) fn flat_positions_are_counted(flat: &Flat)
+/// Proves that each position of each combination's order is counted with four bytes, as the number of a column is:
+/// `SELECT .. UNION SELECT .. ORDER BY 2`. Does nothing when it runs.
+pub fn flat_positions_are_counted(flat: &Flat)
     ensures { (s : Statement) → flat.now ≡ flat_of s → PlacesAreCounted s }
 {
     nodes_are_counted(flat.nodes());

@@ -30,6 +30,7 @@ mod types;
 mod typing;
 mod walk;
 
+pub use counted::flat_positions_are_counted;
 pub use judgement::{Judgement, broken_but_the_last, judge};
 pub use kinds::{any_lacks_on, any_unknown_name};
 pub use names::Names;

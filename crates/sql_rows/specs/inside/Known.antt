@@ -4,7 +4,6 @@ use Rattle.std.specs.List.{list_any}
 use Rattle.sql_schema.specs.Declarations.{Declarations}
 use Rattle.sql_flat.specs.declared.kind.FlatNode.{FlatNode}
 use Rattle.sql_rules_check.specs.inside.Sites.{is_unknown}
-use Rattle.sql_rows.specs.declared.cache.Kept.{Kept}
 use Rattle.sql_rows.specs.declared.cache.RequestKey.{RequestKey}
 
 abbrev pub AreKnown : Declarations → List FlatNode → Type 0
@@ -13,5 +12,5 @@ AreKnown schema nodes = list_any (λ x. is_unknown schema x.kind) nodes ≡ fals
 abbrev pub IsKnown : Declarations → RequestKey → Type 0
 IsKnown schema pair = AreKnown schema pair.key
 
-abbrev pub AllKnown : Declarations → List (RequestKey × Kept) → Type 0
-AllKnown schema es = (e : RequestKey × Kept) → Contains es e → IsKnown schema e.0
+abbrev pub AllKnown : {V : Type 0} → Declarations → List (RequestKey × V) → Type 0
+AllKnown {V} schema es = (e : RequestKey × V) → Contains es e → IsKnown schema e.0

@@ -6,6 +6,7 @@ use Rattle.lru.proofs.Splits.{Contains-middle}
 use Rattle.sql_rows.specs.Entries.{Entries, one_more}
 use Rattle.sql_rows.specs.contracts.cache.NamedRequestEq.TheImpl.Laws.{laws-law}
 use Rattle.sql_rows.specs.inside.Known.{IsKnown}
+use Rattle.sql_rows.specs.inside.Served.{Serves}
 use Rattle.sql_rows.proofs.Keys.{found, is-there, not-found}
 use Rattle.sql_rows.proofs.Known.{all-exact, same_pair}
 use Rattle.sql_rows.proofs.Told.{fewer}
@@ -13,14 +14,14 @@ use Rattle.sql_rows.proofs.cache.StatementCache.look_up.Goals as goal
 
 pub invariant_of-self : goal.invariant_of-self
 invariant_of-self c =
-    fewer c.self.inside.schema c.self.inside.kept.entries _
+    fewer Serves c.self.inside.others c.self.inside.kept.entries _
     (λ e h. Contains-promoted (same_pair c.args.pair.now) c.self.inside.kept.entries e
     (subst (λ l. Contains l e) (ap (λ x. x.entries) c.promote.ensures.entries) h))
     c.self.invariant
 
 pub invariant_of-self-else-promote : goal.invariant_of-self-else-promote
 invariant_of-self-else-promote c =
-    fewer c.self.inside.schema c.self.inside.kept.entries _
+    fewer Serves c.self.inside.others c.self.inside.kept.entries _
     (λ e h. Contains-promoted (same_pair c.args.pair.now) c.self.inside.kept.entries e
     (subst (λ l. Contains l e) (ap (λ x. x.entries) c.promote.ensures.entries) h))
     c.self.invariant
@@ -28,7 +29,7 @@ invariant_of-self-else-promote c =
 pub returns-then-promote-clause-found : goal.returns-then-promote-clause-found
 returns-then-promote-clause-found c =
     let pair = c.args.pair.now in
-    let is = found (same_pair pair) pair c.self.inside.kept.entries (all-exact c.self.inside.schema c.self.invariant.1.1 c.self.inside.kept.entries c.self.invariant.1.0 pair
+    let is = found (same_pair pair) pair c.self.inside.kept.entries (all-exact c.self.inside.others c.self.invariant.1.1 c.self.inside.kept.entries c.self.invariant.1.0 pair
     (subst (λ (w : Entries). IsKnown w.schema pair) (sym c.self.view_is) c.requires)) (sym c.if-promote.ensures.value) in (
       (λ t. subst (λ (w : Entries). Contains w.keys pair) c.self.view_is
           (subst (λ ks. Contains ks pair) (sym is.2) (Contains-middle is.0 pair is.1))),
@@ -38,7 +39,7 @@ returns-then-promote-clause-found c =
 pub returns-then-promote-clause-hit : goal.returns-then-promote-clause-hit
 returns-then-promote-clause-hit c = λ t.
     let pair = c.args.pair.now in
-    let is = found (same_pair pair) pair c.self.inside.kept.entries (all-exact c.self.inside.schema c.self.invariant.1.1 c.self.inside.kept.entries c.self.invariant.1.0 pair
+    let is = found (same_pair pair) pair c.self.inside.kept.entries (all-exact c.self.inside.others c.self.invariant.1.1 c.self.inside.kept.entries c.self.invariant.1.0 pair
     (subst (λ (w : Entries). IsKnown w.schema pair) (sym c.self.view_is) c.requires)) (sym c.if-promote.ensures.value) in
     let keys = ap (λ x. keys_of x.entries) c.promote.ensures.entries ∙ is.3 in
     record {
@@ -47,7 +48,7 @@ returns-then-promote-clause-hit c = λ t.
       was = ap (λ (w : Entries). w.keys) (sym c.self.view_is) ∙ is.2;
       is =
           (λ i. record {
-            schema = c.self.inside.schema;
+            schema = c.self.inside.others;
             keys = keys i;
             capacity = (c.promote.ensures.entries i).cap;
             hits = c.saturating_add-self-inside.ensures i;
@@ -71,7 +72,7 @@ returns-clause-unchanged c = λ f.
     let es = c.self.inside.kept.entries in
     let same = ap (λ x. x.entries) c.promote.ensures.entries ∙ not-found (same_pair pair) pair es (sym c.if-promote.ensures.value) in
     (λ i. record {
-      schema = c.self.inside.schema;
+      schema = c.self.inside.others;
       keys = keys_of (same i);
       capacity = (c.promote.ensures.entries i).cap;
       hits = c.self.inside.hits;
