@@ -5,4 +5,5 @@ pub mod Keys
 pub mod Known
 pub mod Next
 pub mod Once
+pub mod Recalled
 pub mod Told

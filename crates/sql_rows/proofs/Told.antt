@@ -1,5 +1,6 @@
 -- What is kept of an answer serves for each statement of its key.
-use Rattle.std.proofs.Common.{◌≡◌, ◌⊎◌, true, List, [], ◌∷◌, None, Contains, inl, inr, sym, ◌∙◌, subst}
+use Rattle.std.proofs.Common.{◌≡◌, ◌⊎◌, true, List, [], ◌∷◌, None, Some, Contains, drop, inl, inr, refl, sym, ◌∙◌, subst}
+use Rattle.std.specs.Prelude.{Result, Ok, Err, IfOk, IfErr}
 use Rattle.sql_schema.specs.Declarations.{Declarations}
 use Rattle.sql_schema.specs.Refusals.{least_refusal}
 use Rattle.sql_dialect.specs.declared.backend.Dialect.{Dialect}
@@ -7,18 +8,25 @@ use Rattle.sql_node.specs.Tree.{Statement}
 use Rattle.sql_key.proofs.Shapes.{same-shape}
 use Rattle.sql_shape.specs.Shape.{shape}
 use Rattle.sql_rules.specs.Lists.{Each}
-use Rattle.sql_rules.specs.Rules.{Broken}
+use Rattle.sql_rules.specs.Rules.{Broken, all_rules}
 use Rattle.sql_rules.specs.declared.rule.Rule.{Rule}
+use Rattle.sql_rules.specs.declared.rule.Rule.TheVariants.{UnknownName}
 use Rattle.sql_rules_law.proofs.Exchange as exchange
 use Rattle.sql_rules_law.proofs.OneText as texts
 use Rattle.sql_rules_law.proofs.SafeLaws.{safe_alike}
-use Rattle.sql_check.specs.Compiled.{IsBuilt, IsLeast}
+use Rattle.sql_check.specs.Compiled.{IsBuilt, IsLeast, IsRead}
+use Rattle.sql_check.specs.Errors.{rule_of}
 use Rattle.sql_check.specs.declared.built.Built.{Built}
+use Rattle.sql_check.specs.declared.error.CompileError.{CompileError}
+use Rattle.sql_check.specs.declared.error.CompileError.TheVariants as error
+use Rattle.sql_rows_meaning.specs.Fitting.{AnswersFit}
 use Rattle.lru.specs.LruCache.{LruCache}
 use Rattle.lru.proofs.CallerLemmas.{IsPut}
 use Rattle.sql_rows.specs.declared.answers.Answer.TheVariants as answer
 use Rattle.sql_rows.specs.declared.cache.RequestKey.{RequestKey}
+use Rattle.sql_rows.specs.declared.told.Kept.{Kept}
 use Rattle.sql_rows.specs.Entries.{IsLookedUp}
+use Rattle.sql_rows.specs.Sound.{CompilesSoundly}
 use Rattle.sql_rows.specs.inside.Served.{Serves, Tells, kept_of}
 use Rattle.sql_rows.specs.inside.Shaped.{IsShaped, Says}
 use Rattle.sql_rows.specs.inside.Known.{AllKnown, IsKnown}
@@ -77,6 +85,48 @@ pub kept-serves : (schema : Declarations) (d : Dialect) (s : Statement) (pair : 
     → Serves schema (pair, kept_of b)
 kept-serves schema d s pair b own built = λ e t other.
     kept-says schema d s pair b (shaped d s pair own) built e t (shaped e t pair other)
+
+-- ## What a call answers by it
+
+pub told-soundly : (d : Dialect) (s : Statement) (kept : Kept) (r : Result Built CompileError)
+    → IfOk r (λ b. (schema : Declarations) → Tells schema d s kept → IsBuilt schema d s b)
+    → IfOk r (λ b. (schema : Declarations) → Tells schema d s kept → IsRead d s b.sql b.binds)
+    → IfOk r (λ b. (schema : Declarations) → Tells schema d s kept → AnswersFit schema s b.sql_types)
+    → IfErr r (λ e. e ≡ error.NoMemory)
+    → (schema : Declarations) → Tells schema d s kept → CompilesSoundly schema d s r
+told-soundly d s kept (Ok b) built read sound refused schema told = record {
+  compiles = record { built = built schema told; read = read schema told; refused = tt };
+  sound = sound schema told;
+}
+told-soundly d s kept (Err e) built read sound refused schema told = record {
+  compiles = record {
+    built = tt;
+    read = tt;
+    refused = λ r of. let h : None ≡ Some r = subst (λ x. rule_of x ≡ Some r) refused of in absurd (cc);
+  };
+  sound = tt;
+}
+
+pub refused-soundly : (schema : Declarations) (d : Dialect) (s : Statement) (r : Rule) (e : CompileError)
+    → IsLeast r schema d s → rule_of e ≡ Some r → CompilesSoundly schema d s (Err e)
+refused-soundly schema d s r e least names = record {
+  compiles = record {
+    built = tt;
+    read = tt;
+    refused = λ q of.
+        let both : Some r ≡ Some q = sym names ∙ of in
+        let same : r ≡ q = cc in
+        subst (λ x. IsLeast x schema d s) same least;
+  };
+  sound = tt;
+}
+
+-- UnknownName is the first of the rules
+pub unknown-soundly : (schema : Declarations) (d : Dialect) (s : Statement) → Broken UnknownName schema d s
+    → CompilesSoundly schema d s (Err error.UnknownName)
+unknown-soundly schema d s broken =
+    refused-soundly schema d s UnknownName error.UnknownName
+    (record { broken = broken; before = ([], drop 1 all_rules, refl, tt) }) refl
 
 -- ## The entries of a cache
 

@@ -1,6 +1,9 @@
 //! The answers to statements that have no id, and to those that are refused.
 
-ghost use Rattle.std.specs.Prelude.{◌≡◌, IfOk, Some, None};
+ghost use Rattle.std.specs.Prelude.{◌≡◌, Contains, IfOk, Some, None, slice_get};
+ghost use Rattle.std.specs.Map.{keys_of};
+ghost use Rattle.sql_schema.specs.Declarations.{Declarations};
+ghost use Rattle.sql_node.specs.Tree.{Statement as Tree};
 ghost use Rattle.sql_node.specs.View.{statement_tree};
 ghost use Rattle.sql_flat.specs.Flat.{flat_of};
 ghost use Rattle.sql_key.specs.Keys.{id_of};
@@ -10,9 +13,10 @@ ghost use Rattle.sql_rules.specs.declared.rule.Rule.TheVariants as rule;
 ghost use Rattle.sql_check.specs.Errors.{rule_of};
 ghost use Rattle.sql_rows.specs.Sound.{CompilesSoundly};
 ghost use Rattle.sql_rows.specs.inside.Known.{IsKnown};
-ghost use Rattle.sql_rows.specs.inside.Shaped.{Says, IsShaped};
+ghost use Rattle.sql_rows.specs.inside.Shaped.{IsShaped, IsTold, Says};
 ghost use Rattle.sql_rows.specs.declared.answers.Answer.{Answer as TheAnswer};
 ghost use Rattle.sql_rows.specs.declared.answers.Answer.TheVariants as answer;
+ghost use Rattle.sql_rows.specs.declared.cache.RequestKey.{RequestKey};
 
 use crate::cache::NamedRequest;
 use crate::sound::compile_sound_flat_by;
@@ -20,6 +24,7 @@ use crate::told::{Asked, Kept, tell};
 use lru::LruCache;
 use sql_check::{Built, CompileError, Names};
 use sql_dialect::Backend;
+use sql_flat::Flat;
 use sql_rules::Rule;
 use sql_schema::{NoMemory, Schema};
 use std::alloc::{AllocError, Global};
@@ -42,6 +47,38 @@ impl Answer {
             Answer::Built(kept) => Ok(Answer::Built(kept.try_clone(alloc)?)),
             Answer::Refused(rule) => Ok(Answer::Refused(*rule)),
         }
+    }
+}
+
+/// Returns this answer for the statement, which has no id.
+fn tell_answer<DB: Backend>(
+    alloc: Global,
+    backend: &DB,
+    asked: Asked<'_>,
+    answer: Answer,
+) -> Result<Built, CompileError>
+    requires flat { asked.flat.now ≡ flat_of (statement_tree asked.statement.now) }
+    requires id { None ≡ id_of (statement_tree asked.statement.now) }
+    ensures { (schema : Declarations) → IsTold schema DB.speaks (statement_tree asked.entry.statement.now) answer
+        → CompilesSoundly schema DB.speaks (statement_tree asked.entry.statement.now) result }
+{
+    match answer {
+        Answer::Built(kept) => tell(alloc, backend, asked, None, kept),
+        Answer::Refused(rule) => Err(CompileError::from(rule)),
+    }
+}
+
+/// Returns the first answer, in memory of its own.
+fn first_answer(
+    alloc: Global,
+    answers: &LruCache<NamedRequest, Answer>,
+) -> Result<Option<Answer>, NoMemory>
+    ensures { IfOk result (λ found. (a : TheAnswer) (pair : RequestKey) → found ≡ Some a
+        → slice_get (keys_of answers.now.entries) 0 ≡ Some pair → Contains answers.now.entries (pair, a)) }
+{
+    match answers.peek_mru() {
+        None => Ok(None),
+        Some((_, answer)) => Ok(Some(answer.try_clone(alloc)?)),
     }
 }
 
@@ -98,12 +135,10 @@ impl AnswerCache {
         ensures says { IfOk result (λ found. (a : TheAnswer) → found ≡ Some a → Says self.old (pair.now, a)) }
         ensures schema { self.new ≡ self.old }
     {
-        if !self.answers.promote(pair) {
-            return Ok(None);
-        }
-        match self.answers.peek_mru() {
-            None => Ok(None),
-            Some((_, answer)) => Ok(Some(answer.try_clone(alloc)?)),
+        if self.answers.promote(pair) {
+            first_answer(alloc, &self.answers)
+        } else {
+            Ok(None)
         }
     }
 
@@ -135,6 +170,19 @@ impl AnswerCache {
         }
     }
 
+    /// The answer for the statement of a flat list whose names are the schema's, by nothing kept.
+    pub(crate) fn compile_alone<DB: Backend>(
+        &self,
+        alloc: Global,
+        backend: &DB,
+        flat: &Flat,
+    ) -> Result<Built, CompileError>
+        requires { (s : Tree) → flat.now ≡ flat_of s → ¬ Broken rule.UnknownName self.now DB.speaks s }
+        ensures { (s : Tree) → flat.now ≡ flat_of s → CompilesSoundly self.now DB.speaks s result }
+    {
+        compile_sound_flat_by(alloc, Names::Known, backend, self.schema(), flat)
+    }
+
     /// The answer for a pair that is not there, which is put first.
     fn answer_new<DB: Backend>(
         &mut self,
@@ -149,7 +197,7 @@ impl AnswerCache {
         ensures compiled { CompilesSoundly self.old DB.speaks (statement_tree asked.entry.statement.now) result }
         ensures schema { self.new ≡ self.old }
     {
-        match compile_sound_flat_by(alloc, Names::Known, backend, &self.schema, asked.flat) {
+        match self.compile_alone(alloc, backend, asked.flat) {
             Ok(built) => {
                 let kept = Kept::of(alloc, &built)?;
                 self.keep(pair, Answer::Built(kept))?;
@@ -173,13 +221,12 @@ impl AnswerCache {
         requires known { ¬ Broken rule.UnknownName self.old DB.speaks (statement_tree asked.statement.now) }
         requires flat { asked.flat.now ≡ flat_of (statement_tree asked.statement.now) }
         requires shaped { IsShaped DB.speaks (statement_tree asked.statement.now) pair }
-        requires id { id_of (statement_tree asked.statement.now) ≡ None }
+        requires id { None ≡ id_of (statement_tree asked.statement.now) }
         ensures compiled { CompilesSoundly self.old DB.speaks (statement_tree asked.entry.statement.now) result }
         ensures schema { self.new ≡ self.old }
     {
         match self.recall(alloc, &pair)? {
-            Some(Answer::Built(kept)) => tell(alloc, backend, asked, None, kept),
-            Some(Answer::Refused(rule)) => Err(CompileError::from(rule)),
+            Some(answer) => tell_answer(alloc, backend, asked, answer),
             None => self.answer_new(alloc, backend, asked, pair),
         }
     }

@@ -1,4 +1,4 @@
-ghost use Rattle.std.specs.Prelude.{◌≡◌, ◌≢◌, ◌↔◌, ◌≤◌, ◌×◌, [], length, false, slice_get, Contains, AllPairs, IfOk, IfErr, OnOk, OnErr, IsTrue, None, Some};
+ghost use Rattle.std.specs.Prelude.{◌≡◌, ◌≢◌, ◌↔◌, ◌≤◌, [], length, false, slice_get, Contains, AllPairs, IfOk, IfErr, OnOk, OnErr, IsTrue, None, Some};
 ghost use Rattle.std.specs.List.{list_any};
 ghost use Rattle.std.specs.NonZero.{non_zero_usize_get};
 ghost use Rattle.sql_node.specs.Tree.{Statement as Tree};
@@ -24,7 +24,6 @@ ghost use Rattle.sql_rows.specs.inside.Served.{Serves, kept_of};
 ghost use Rattle.sql_rows.specs.inside.Shaped.{IsShaped, Says};
 
 use crate::answers::{Answer, AnswerCache};
-use crate::sound::compile_sound_flat_by;
 use crate::told::{Asked, Kept, tell};
 use lru::LruCache;
 use sql_check::{Built, CompileError, Names, values_fit};
@@ -150,7 +149,7 @@ fn place_of<DB: Backend>(
         ↔ IsLookedUp DB.speaks (statement_tree asked.entry.statement.now) pair) }
     ensures shaped { IfOk result (λ found. (pair : Pair) → found ≡ place.Shaped pair
         → IsShaped DB.speaks (statement_tree asked.entry.statement.now) pair
-        × (id_of (statement_tree asked.entry.statement.now) ≡ None)) }
+        × (None ≡ id_of (statement_tree asked.entry.statement.now))) }
 {
     let fit = values_fit(asked.statement);
     if !fit {
@@ -304,7 +303,7 @@ impl StatementCache {
         ensures { (s : Tree) → flat.now ≡ flat_of s
             → CompilesSoundly self.now.schema DB.speaks s result }
     {
-        compile_sound_flat_by(alloc, Names::Known, backend, self.schema(), flat)
+        self.others.compile_alone(alloc, backend, flat)
     }
 
     /// The answer for a statement without an id, by what is kept where its pair is there.
@@ -318,7 +317,7 @@ impl StatementCache {
         requires known { ¬ Broken rule.UnknownName self.old.schema DB.speaks (statement_tree asked.statement.now) }
         requires flat { asked.flat.now ≡ flat_of (statement_tree asked.statement.now) }
         requires shaped { IsShaped DB.speaks (statement_tree asked.statement.now) pair }
-        requires id { id_of (statement_tree asked.statement.now) ≡ None }
+        requires id { None ≡ id_of (statement_tree asked.statement.now) }
         ensures compiled { CompilesSoundly self.old.schema DB.speaks
             (statement_tree asked.entry.statement.now) result }
         ensures unchanged { self.new ≡ self.old }
@@ -344,7 +343,36 @@ impl StatementCache {
         tell(alloc, backend, asked, Some(pair.into_key()), kept)
     }
 
-    /// The answer for a pair that is not there, which is put first.
+    /// The answer for a pair that is not there, by nothing kept. The pair is put first.
+    fn compile_new<DB: Backend>(
+        &mut self,
+        alloc: Global,
+        backend: &DB,
+        asked: Asked<'_>,
+        pair: NamedRequest,
+    ) -> Result<Built, CompileError>
+        requires known { ¬ Broken rule.UnknownName self.old.schema DB.speaks (statement_tree asked.statement.now) }
+        requires flat { asked.flat.now ≡ flat_of (statement_tree asked.statement.now) }
+        requires looked_up { IsLookedUp DB.speaks (statement_tree asked.statement.now) pair }
+        requires new { ¬ Contains self.old.keys pair }
+        ensures compiled { CompilesSoundly self.old.schema DB.speaks
+            (statement_tree asked.entry.statement.now) result }
+        ensures put { OnOk result (self.new ≡ put self.old pair) }
+        ensures unchanged { OnErr result (self.new ≡ self.old) }
+    {
+        match self.compile_alone(alloc, backend, asked.flat) {
+            Ok(built) => {
+                self.keep(alloc, pair, &built)?;
+                Ok(built)
+            }
+            Err(error) => {
+                self.keep_refusal(pair, error)?;
+                Err(error)
+            }
+        }
+    }
+
+    /// The answer for a pair that is not there, by the rule that refuses it where one is kept; else it is put first.
     fn answer_new<DB: Backend>(
         &mut self,
         alloc: Global,
@@ -361,18 +389,9 @@ impl StatementCache {
         ensures put { OnOk result (self.new ≡ put self.old pair) }
         ensures unchanged { OnErr result (self.new ≡ self.old) }
     {
-        if let Some(rule) = self.recall_refusal(alloc, &pair)? {
-            return Err(CompileError::from(rule));
-        }
-        match self.compile_alone(alloc, backend, asked.flat) {
-            Ok(built) => {
-                self.keep(alloc, pair, &built)?;
-                Ok(built)
-            }
-            Err(error) => {
-                self.keep_refusal(pair, error)?;
-                Err(error)
-            }
+        match self.recall_refusal(alloc, &pair)? {
+            Some(rule) => Err(CompileError::from(rule)),
+            None => self.compile_new(alloc, backend, asked, pair),
         }
     }
 

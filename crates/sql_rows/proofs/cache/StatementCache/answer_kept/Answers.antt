@@ -1,9 +1,8 @@
-use Rattle.std.proofs.Common.{◌≡◌, List, [], None, Some, subst}
+use Rattle.std.proofs.Common.{◌≡◌, List, [], Some, subst}
 use Rattle.std.specs.List.{slice_get}
-use Rattle.std.proofs.lemmas.Result.{IfErr-weaker, IfOk-weaker}
 use Rattle.sql_node.specs.View.{statement_tree}
-use Rattle.sql_check.specs.Errors.{rule_of}
 use Rattle.sql_rows.specs.declared.cache.RequestKey.{RequestKey}
+use Rattle.sql_rows.proofs.Told.{told-soundly}
 use Rattle.sql_rows.proofs.cache.StatementCache.answer_kept.Goals as goal
 
 pub recall-requires : goal.recall-requires
@@ -14,17 +13,8 @@ recall-requires g c = λ e.
 
 pub returns : goal.returns
 returns g c =
-    let told = c.in_ok-kept.ensures c.args.pair c.requires.first g.DB.Backend.speaks
-    (statement_tree c.args.statement.now) c.requires.looked_up in
-    let schema = c.args.self.now.schema in
-    record {
-      compiles = record {
-        built = IfOk-weaker c.tell.result _ _ (λ b gives. gives schema told) c.tell.ensures.built;
-        read = IfOk-weaker c.tell.result _ _ (λ b gives. gives schema told) c.tell.ensures.read;
-        refused =
-            IfErr-weaker c.tell.result _ _
-            (λ e is r of. let h : None ≡ Some r = subst (λ x. rule_of x ≡ Some r) is of in absurd (cc))
-            c.tell.ensures.refused;
-      };
-      sound = IfOk-weaker c.tell.result _ _ (λ b gives. gives schema told) c.tell.ensures.sound;
-    }
+    let d = g.DB.Backend.speaks in
+    let s = statement_tree c.args.asked.statement.now in
+    told-soundly d s c.in_ok-kept.kept c.tell.result c.tell.ensures.built c.tell.ensures.read c.tell.ensures.sound
+    c.tell.ensures.refused c.args.self.now.schema
+    (c.in_ok-kept.ensures c.args.pair c.requires.first d s c.requires.looked_up)

@@ -16,8 +16,8 @@ lacks_name-requires g c = λ known.
     (all-known s c.nodes.result.now c.args.self.now.schema g.DB.Backend.speaks
     (c.nodes.ensures.nodes ∙ c.in_ok-flat.ensures) (c.requires known))
 
-pub refuse-requires-clause-unknown : goal.refuse-requires-clause-unknown
-refuse-requires-clause-unknown g c =
+pub refuse-requires : goal.refuse-requires
+refuse-requires g c =
     let s = statement_tree c.args.statement.now in
     (unknown s c.nodes.result.now true c.args.self.now.schema (c.nodes.ensures.nodes ∙ c.in_ok-flat.ensures)
     (c.if-lacks_name.ensures

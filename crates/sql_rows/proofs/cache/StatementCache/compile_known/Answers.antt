@@ -7,6 +7,7 @@ use Rattle.sql_rules.specs.Rules.{Broken}
 use Rattle.sql_rules.specs.declared.rule.Rule.TheVariants.{UnknownName}
 use Rattle.sql_rows.specs.Entries.{Entries, put}
 use Rattle.sql_rows.specs.Sound.{CompilesSoundly}
+use Rattle.sql_rows.specs.inside.Placed.{identified}
 use Rattle.sql_rows.proofs.Known.{known-pair}
 use Rattle.sql_rows.proofs.Next.{hit-next, new-next, new-schema, none-next}
 use Rattle.sql_rows.proofs.cache.StatementCache.compile_known.Goals as goal
@@ -18,26 +19,28 @@ compile_alone-requires g c = λ known s is.
     subst (λ q. ¬ Broken UnknownName c.args.self.now.schema g.DB.Backend.speaks q)
     (one-statement (statement_tree c.args.asked.statement.now) s (sym c.requires.flat ∙ is)) c.requires.known
 
-pub returns-in-None-clause-compiled : goal.returns-in-None-clause-compiled
-returns-in-None-clause-compiled g c =
+pub returns-in-Nowhere-clause-compiled : goal.returns-in-Nowhere-clause-compiled
+returns-in-Nowhere-clause-compiled g c =
     c.compile_alone.ensures (statement_tree c.args.asked.statement.now) c.requires.flat
 
-pub returns-in-None-clause-entries : goal.returns-in-None-clause-entries
-returns-in-None-clause-entries g c =
+pub returns-in-Nowhere-clause-entries : goal.returns-in-Nowhere-clause-entries
+returns-in-Nowhere-clause-entries g c =
     none-next g.DB.Backend.speaks (statement_tree c.args.asked.statement.now) c.args.self.now c.compile_alone.result
-    (λ pair at. let e : None ≡ Some pair = sym c.in-None.is ∙ (c.in_ok-pair_of.ensures pair).1 at in absurd (cc))
+    (λ pair at.
+    let e : None ≡ Some pair = ap identified (sym c.in-Nowhere.is) ∙ (c.in_ok-place_of.ensures.identified pair).1 at in
+    absurd (cc))
 
 -- ## A pair is looked up
 
 pub look_up-requires : goal.look_up-requires
 look_up-requires g c =
-    known-pair c.args.self.now.schema g.DB.Backend.speaks (statement_tree c.args.asked.statement.now) c.in-Some.pair
-    c.requires.known ((c.in_ok-pair_of.ensures c.in-Some.pair).0 c.in-Some.is)
+    known-pair c.args.self.now.schema g.DB.Backend.speaks (statement_tree c.args.asked.statement.now) c.in-Identified.pair
+    c.requires.known ((c.in_ok-place_of.ensures.identified c.in-Identified.pair).0 (ap identified c.in-Identified.is))
 
 -- ## The pair is there
 
 pub answer_kept-requires-clause-looked_up : goal.answer_kept-requires-clause-looked_up
-answer_kept-requires-clause-looked_up g c = (c.in_ok-pair_of.ensures c.in-Some.pair).0 c.in-Some.is
+answer_kept-requires-clause-looked_up g c = (c.in_ok-place_of.ensures.identified c.in-Identified.pair).0 (ap identified c.in-Identified.is)
 
 pub answer_kept-requires-clause-first : goal.answer_kept-requires-clause-first
 answer_kept-requires-clause-first g c =
@@ -56,8 +59,8 @@ returns-then-look_up-clause-schema g c =
 
 pub returns-then-look_up-clause-entries : goal.returns-then-look_up-clause-entries
 returns-then-look_up-clause-entries g c =
-    hit-next g.DB.Backend.speaks (statement_tree c.args.asked.statement.now) c.args.self.now c.answer_kept.result c.in-Some.pair
-    c.look_up.new.self ((c.in_ok-pair_of.ensures c.in-Some.pair).0 c.in-Some.is)
+    hit-next g.DB.Backend.speaks (statement_tree c.args.asked.statement.now) c.args.self.now c.answer_kept.result c.in-Identified.pair
+    c.look_up.new.self ((c.in_ok-place_of.ensures.identified c.in-Identified.pair).0 (ap identified c.in-Identified.is))
     (c.if-look_up.ensures.found.0 refl) (c.if-look_up.ensures.hit refl)
 
 -- ## The pair is new
@@ -68,13 +71,13 @@ answer_new-requires-clause-known g c =
     (sym (c.if-look_up.ensures.unchanged refl)) c.requires.known
 
 pub answer_new-requires-clause-looked_up : goal.answer_new-requires-clause-looked_up
-answer_new-requires-clause-looked_up g c = (c.in_ok-pair_of.ensures c.in-Some.pair).0 c.in-Some.is
+answer_new-requires-clause-looked_up g c = (c.in_ok-place_of.ensures.identified c.in-Identified.pair).0 (ap identified c.in-Identified.is)
 
 pub answer_new-requires-clause-new : goal.answer_new-requires-clause-new
 answer_new-requires-clause-new g c = λ h.
     true≢false
     (sym (c.if-look_up.ensures.found.1
-    (subst (λ (w : Entries). Contains w.keys c.in-Some.pair) (c.if-look_up.ensures.unchanged refl) h)))
+    (subst (λ (w : Entries). Contains w.keys c.in-Identified.pair) (c.if-look_up.ensures.unchanged refl) h)))
 
 pub returns-else-look_up-clause-compiled : goal.returns-else-look_up-clause-compiled
 returns-else-look_up-clause-compiled g c =
@@ -85,19 +88,19 @@ returns-else-look_up-clause-compiled g c =
 
 pub returns-else-look_up-clause-schema : goal.returns-else-look_up-clause-schema
 returns-else-look_up-clause-schema g c =
-    new-schema g.DB.Backend.speaks (statement_tree c.args.asked.statement.now) c.args.self.now c.answer_new.result c.in-Some.pair
+    new-schema g.DB.Backend.speaks (statement_tree c.args.asked.statement.now) c.args.self.now c.answer_new.result c.in-Identified.pair
     c.answer_new.new.self
-    (subst (λ (w : Entries). OnOk c.answer_new.result (c.answer_new.new.self ≡ put w c.in-Some.pair))
+    (subst (λ (w : Entries). OnOk c.answer_new.result (c.answer_new.new.self ≡ put w c.in-Identified.pair))
     (c.if-look_up.ensures.unchanged refl) c.answer_new.ensures.put)
     (subst (λ (w : Entries). OnErr c.answer_new.result (c.answer_new.new.self ≡ w)) (c.if-look_up.ensures.unchanged refl)
     c.answer_new.ensures.unchanged)
 
 pub returns-else-look_up-clause-entries : goal.returns-else-look_up-clause-entries
 returns-else-look_up-clause-entries g c =
-    new-next g.DB.Backend.speaks (statement_tree c.args.asked.statement.now) c.args.self.now c.answer_new.result c.in-Some.pair
-    c.answer_new.new.self ((c.in_ok-pair_of.ensures c.in-Some.pair).0 c.in-Some.is)
+    new-next g.DB.Backend.speaks (statement_tree c.args.asked.statement.now) c.args.self.now c.answer_new.result c.in-Identified.pair
+    c.answer_new.new.self ((c.in_ok-place_of.ensures.identified c.in-Identified.pair).0 (ap identified c.in-Identified.is))
     (λ h. true≢false (sym (c.if-look_up.ensures.found.1 h)))
-    (subst (λ (w : Entries). OnOk c.answer_new.result (c.answer_new.new.self ≡ put w c.in-Some.pair))
+    (subst (λ (w : Entries). OnOk c.answer_new.result (c.answer_new.new.self ≡ put w c.in-Identified.pair))
     (c.if-look_up.ensures.unchanged refl) c.answer_new.ensures.put)
     (subst (λ (w : Entries). OnErr c.answer_new.result (c.answer_new.new.self ≡ w)) (c.if-look_up.ensures.unchanged refl)
     c.answer_new.ensures.unchanged)

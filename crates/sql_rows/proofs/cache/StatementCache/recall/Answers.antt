@@ -12,11 +12,11 @@ unreachable-requires c =
 
 pub returns : goal.returns
 returns c =
-    IfOk-weaker c.copied.result _ _
+    IfOk-weaker c.try_clone.result _ _
     (λ kept is pair at.
     subst (λ (w : Entries). Serves w.schema (pair, kept)) c.self.view_is
     (subst (λ v. Serves c.self.inside.others (pair, v)) (sym is)
     (c.self.invariant.0 (pair, c.in-Some.kept.now)
     (first-there c.self.inside.kept.entries _ pair c.in-Some.ensures
     (ap (λ (w : Entries). slice_get w.keys 0) c.self.view_is ∙ at)))))
-    c.copied.ensures
+    c.try_clone.ensures

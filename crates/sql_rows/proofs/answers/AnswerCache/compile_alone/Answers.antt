@@ -1,7 +1,7 @@
 use Rattle.std.proofs.Common.{subst}
 use Rattle.sql_schema.specs.Declarations.{Declarations}
 use Rattle.sql_rows.specs.Sound.{CompilesSoundly}
-use Rattle.sql_rows.proofs.cache.StatementCache.compile_alone.Goals as goal
+use Rattle.sql_rows.proofs.answers.AnswerCache.compile_alone.Goals as goal
 
 pub returns : goal.returns
 returns g c = λ s flat.
