@@ -1,14 +1,16 @@
 -- What a call makes of the entries, where its pair is there, or new, or there is none.
-use Rattle.std.proofs.Common.{◌≡◌, ◌↔◌, true, false, true≢false, List, None, Some, Contains, inr, refl, sym, ap, ◌∙◌, subst}
+use Rattle.std.proofs.Common.{◌≡◌, ◌↔◌, true, false, true≢false, cond, List, None, Some, Contains, inr, refl, sym, ap, ◌∙◌, subst}
 use Rattle.std.specs.Prelude.{Result, Ok, Err, IfOk, OnOk, OnErr}
 use Rattle.std.proofs.lemmas.Bool.{false≢true}
 use Rattle.sql_dialect.specs.declared.backend.Dialect.{Dialect}
 use Rattle.sql_node.specs.Tree.{Statement}
+use Rattle.sql_shape.specs.Ids.{has_id}
 use Rattle.sql_flat.specs.Flat.{flat_of}
-use Rattle.sql_key.specs.Keys.{id_of}
+use Rattle.sql_key.specs.Keys.{id_of, key}
 use Rattle.sql_flat.specs.declared.kind.FlatNode.{FlatNode}
 use Rattle.sql_rules_law.proofs.FitLaws.{test as fit-test}
 use Rattle.sql_rules_law.specs.Fitting.{values_fit}
+use Rattle.sql_rows.specs.declared.cache.Place.TheVariants as place
 use Rattle.sql_rows.specs.declared.cache.RequestKey.{RequestKey}
 use Rattle.sql_rules.specs.Rules.{Broken}
 use Rattle.sql_rules.specs.declared.rule.Rule.TheVariants.{UnknownName}
@@ -17,6 +19,7 @@ use Rattle.sql_check.specs.Compiled.{IsBuilt}
 use Rattle.sql_check.specs.declared.built.Built.{Built}
 use Rattle.sql_rows.specs.Entries.{Entries, IsLookedUp, IsHit, IsNext, put}
 use Rattle.sql_rows.specs.inside.Known.{AreKnown, IsKnown}
+use Rattle.sql_rows.specs.inside.Shaped.{IsShaped}
 use Rattle.sql_rows.proofs.Known.{key-unknown}
 
 on-ok : {A E P : Type 0} (r : Result A E) → P → OnOk r P
@@ -57,6 +60,26 @@ module _ (d : Dialect) (s : Statement) where
   pub looked-up : true ≡ values_fit s → (k : List FlatNode) (e : Dialect) → id_of s ≡ Some k → e ≡ d
       → IsLookedUp d s (record { dialect = e; key = k })
   looked-up h k e id speaks = record { fit = (fit-test s).0 (sym h); id = id; dialect = speaks }
+
+  -- by whether it has an id
+  idless : has_id s ≡ false → id_of s ≡ None
+  idless h = ap (λ b. cond b (Some (key s)) None) h
+
+  pub its-pair : true ≡ values_fit s → has_id s ≡ true → (own : RequestKey)
+      → own ≡ record { dialect = d; key = key s } → (pair : RequestKey) → (Some own ≡ Some pair) ↔ IsLookedUp d s pair
+  its-pair h has own is =
+      own-pair own
+      (subst (IsLookedUp d s) (sym is)
+      (looked-up h (key s) d (ap (λ b. cond b (Some (key s)) None) has) refl))
+
+  pub its-shape : true ≡ values_fit s → has_id s ≡ false → (own : RequestKey)
+      → own ≡ record { dialect = d; key = key s } → (pair : RequestKey) → place.Shaped own ≡ place.Shaped pair
+      → IsShaped d s pair × (None ≡ id_of s)
+  its-shape h has own is pair e =
+      let same : own ≡ pair = cc in (
+        subst (IsShaped d s) (sym is ∙ same) (record { fit = (fit-test s).0 (sym h); key = refl; dialect = refl }),
+        sym (idless has),
+      )
 
 -- ## The entries
 

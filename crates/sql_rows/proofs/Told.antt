@@ -24,7 +24,7 @@ use Rattle.lru.specs.LruCache.{LruCache}
 use Rattle.lru.proofs.CallerLemmas.{IsPut}
 use Rattle.sql_rows.specs.declared.answers.Answer.TheVariants as answer
 use Rattle.sql_rows.specs.declared.cache.RequestKey.{RequestKey}
-use Rattle.sql_rows.specs.declared.told.Kept.{Kept}
+use Rattle.sql_rows.specs.declared.telling.Kept.{Kept}
 use Rattle.sql_rows.specs.Entries.{IsLookedUp}
 use Rattle.sql_rows.specs.Sound.{CompilesSoundly}
 use Rattle.sql_rows.specs.inside.Served.{Serves, Tells, kept_of}

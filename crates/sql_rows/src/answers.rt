@@ -1,6 +1,6 @@
 //! The answers to statements that have no id, and to those that are refused.
 
-ghost use Rattle.std.specs.Prelude.{◌≡◌, Contains, IfOk, Some, None, slice_get};
+ghost use Rattle.std.specs.Prelude.{◌≡◌, true, Contains, IfOk, Some, None, slice_get};
 ghost use Rattle.std.specs.Map.{keys_of};
 ghost use Rattle.sql_schema.specs.Declarations.{Declarations};
 ghost use Rattle.sql_node.specs.Tree.{Statement as Tree};
@@ -15,12 +15,12 @@ ghost use Rattle.sql_rows.specs.Sound.{CompilesSoundly};
 ghost use Rattle.sql_rows.specs.inside.Known.{IsKnown};
 ghost use Rattle.sql_rows.specs.inside.Shaped.{IsShaped, IsTold, Says};
 ghost use Rattle.sql_rows.specs.declared.answers.Answer.{Answer as TheAnswer};
-ghost use Rattle.sql_rows.specs.declared.answers.Answer.TheVariants as answer;
+ghost use Rattle.sql_rows.specs.declared.answers.Answer.TheVariants as answers;
 ghost use Rattle.sql_rows.specs.declared.cache.RequestKey.{RequestKey};
 
 use crate::cache::NamedRequest;
 use crate::sound::compile_sound_flat_by;
-use crate::told::{Asked, Kept, tell};
+use crate::telling::{Asked, Kept, tell};
 use lru::LruCache;
 use sql_check::{Built, CompileError, Names};
 use sql_dialect::Backend;
@@ -36,6 +36,16 @@ use std::num::NonZeroUsize;
 pub(crate) enum Answer {
     Built(Kept),
     Refused(Rule),
+}
+
+/// The rule by which this answer refuses, if it is one that does.
+pub(crate) fn refusal(answer: Option<Answer>) -> Option<Rule>
+    ensures { (r : TheRule) → result ≡ Some r → answer ≡ Some (answers.Refused r) }
+{
+    match answer {
+        Some(Answer::Refused(rule)) => Some(rule),
+        _ => None,
+    }
 }
 
 impl Answer {
@@ -68,14 +78,19 @@ fn tell_answer<DB: Backend>(
     }
 }
 
-/// Returns the first answer, in memory of its own.
+/// Returns the first answer, in memory of its own, where a look-up found its pair.
 fn first_answer(
     alloc: Global,
+    there: bool,
     answers: &LruCache<NamedRequest, Answer>,
 ) -> Result<Option<Answer>, NoMemory>
-    ensures { IfOk result (λ found. (a : TheAnswer) (pair : RequestKey) → found ≡ Some a
-        → slice_get (keys_of answers.now.entries) 0 ≡ Some pair → Contains answers.now.entries (pair, a)) }
+    ensures { IfOk result (λ found. (a : TheAnswer) → found ≡ Some a → (there ≡ true)
+        × ((pair : RequestKey) → slice_get (keys_of answers.now.entries) 0 ≡ Some pair
+        → Contains answers.now.entries (pair, a))) }
 {
+    if !there {
+        return Ok(None);
+    }
     match answers.peek_mru() {
         None => Ok(None),
         Some((_, answer)) => Ok(Some(answer.try_clone(alloc)?)),
@@ -135,11 +150,8 @@ impl AnswerCache {
         ensures says { IfOk result (λ found. (a : TheAnswer) → found ≡ Some a → Says self.old (pair.now, a)) }
         ensures schema { self.new ≡ self.old }
     {
-        if self.answers.promote(pair) {
-            first_answer(alloc, &self.answers)
-        } else {
-            Ok(None)
-        }
+        let there = self.answers.promote(pair);
+        first_answer(alloc, there, &self.answers)
     }
 
     /// Keeps this answer with its pair.
@@ -161,7 +173,7 @@ impl AnswerCache {
         error: CompileError,
     ) -> Result<(), NoMemory>
         requires known { IsKnown self.old pair }
-        requires says { (r : TheRule) → rule_of error ≡ Some r → Says self.old (pair, answer.Refused r) }
+        requires says { (r : TheRule) → rule_of error ≡ Some r → Says self.old (pair, answers.Refused r) }
         ensures { self.new ≡ self.old }
     {
         match error.rule() {

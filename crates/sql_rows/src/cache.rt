@@ -23,8 +23,8 @@ ghost use Rattle.sql_rows.specs.inside.Placed.{identified};
 ghost use Rattle.sql_rows.specs.inside.Served.{Serves, kept_of};
 ghost use Rattle.sql_rows.specs.inside.Shaped.{IsShaped, Says};
 
-use crate::answers::{Answer, AnswerCache};
-use crate::told::{Asked, Kept, tell};
+use crate::answers::{AnswerCache, refusal};
+use crate::telling::{Asked, Kept, tell};
 use lru::LruCache;
 use sql_check::{Built, CompileError, Names, values_fit};
 use sql_dialect::{Backend, Dialect};
@@ -275,10 +275,8 @@ impl StatementCache {
             → Says self.old.schema (pair.now, answer.Refused r)) }
         ensures unchanged { self.new ≡ self.old }
     {
-        match self.others.recall(alloc, pair)? {
-            Some(Answer::Refused(rule)) => Ok(Some(rule)),
-            _ => Ok(None),
-        }
+        let found = self.others.recall(alloc, pair)?;
+        Ok(refusal(found))
     }
 
     /// Keeps the rule that this error names, if it is one, with the pair.

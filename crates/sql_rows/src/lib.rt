@@ -17,7 +17,7 @@ mod answers;
 mod cache;
 mod laws;
 mod sound;
-mod told;
+mod telling;
 
 pub use cache::{NamedRequest, RequestKey, StatementCache};
 pub use laws::{answered_pairs_come_first, calls_are_answered_alone, equal_ids, one_answer};

@@ -2,7 +2,7 @@
 
 use sql_check::{Built, CompileError};
 use sql_dialect::{Mysql, Pg};
-use sql_expr::{Expr, ExpressionMethods, Statement};
+use sql_expr::{Expr, ExpressionMethods, InValues, Statement};
 use sql_pass::{Bound, Value};
 use sql_rows::StatementCache;
 use sql_schema::{Base, ColumnDecl, Schema, SchemaBuilder, SqlList, SqlType, Table, TableDecl};
@@ -183,4 +183,75 @@ fn on_mysql(alloc: Global, cache: &mut StatementCache) -> Result<(), Fail> {
             == "SELECT `users`.`id`, `users`.`name` FROM `users` WHERE (`users`.`name` = ?)",
         "the text on MySQL",
     )
+}
+
+/// `("users"."name" = ANY($1))`, and on MySQL `IN (?, ?)`, over these names.
+fn name_among(alloc: Global, names: &[&str]) -> Result<Expr, Fail> {
+    let mut values = Vec::new(alloc);
+    for one in names {
+        values.push(Value::Text(text(alloc, one)?))?;
+    }
+    let (values, name) = beside(SqlList::from(values), name(alloc))?;
+    Ok(name.eq_any(alloc, InValues::List(TEXT, values))?)
+}
+
+/// The users of these names.
+fn where_name_among(alloc: Global, names: &[&str]) -> Result<Statement, Fail> {
+    let (condition, users) = beside(name_among(alloc, names)?, users(alloc))?;
+    let (condition, all) = beside(condition, users.as_query(alloc))?;
+    Ok(all.filter(alloc, condition)?.into_statement())
+}
+
+/// `SELECT .. HAVING ("users"."name" = $1)`, which groups nothing.
+fn having_name(alloc: Global, value: &str) -> Result<Statement, Fail> {
+    let value = Value::Text(text(alloc, value)?);
+    let (condition, users) = beside(name_is(alloc, value)?, users(alloc))?;
+    let (condition, all) = beside(condition, users.as_query(alloc))?;
+    Ok(all.having(condition).into_statement())
+}
+
+/// Asks MySQL for the users of these names, and compares the end of the text and how many values there are.
+fn asks_among(
+    alloc: Global,
+    cache: &mut StatementCache,
+    names: &[&str],
+    end: &str,
+) -> Result<(), Fail> {
+    let statement = where_name_among(alloc, names)?;
+    let answer = cache.compile_cached(alloc, &Mysql, &statement);
+    drop(statement);
+    let built = answer?;
+    is(built.sql.as_str().ends_with(end), "the text")?;
+    is(built.binds.as_slice().len() == names.len(), "the values")?;
+    is(built.id.is_none(), "no id")
+}
+
+/// A list is answered by its own length, and takes no entry of statements that have an id.
+#[test]
+fn lists_of_several_lengths(rt: HostRuntime) -> Result<(), Fail> {
+    let alloc = rt.alloc();
+    let mut cache = empty(alloc, 1)?;
+    asks_for(alloc, &mut cache, "Sean")?;
+    asks_among(alloc, &mut cache, &["Sean"], " IN (?))")?;
+    asks_among(alloc, &mut cache, &["Sean", "Tess"], " IN (?, ?))")?;
+    asks_among(alloc, &mut cache, &["Tess", "Jim"], " IN (?, ?))")?;
+    asks_among(alloc, &mut cache, &["Tess"], " IN (?))")?;
+    asks_for(alloc, &mut cache, "Tess")?;
+    assert_eq!(rt; cache.hits(), 1);
+    assert_eq!(rt; cache.len(), 1);
+    Ok(())
+}
+
+/// A statement that is refused is so whenever it comes, and takes no entry.
+#[test]
+fn a_refusal_that_comes_again(rt: HostRuntime) -> Result<(), Fail> {
+    let alloc = rt.alloc();
+    let mut cache = empty(alloc, 1)?;
+    for name in ["Sean", "Tess"] {
+        let refused = ask(alloc, &mut cache, having_name(alloc, name)?);
+        assert!(rt; matches!(&refused, Err(CompileError::Incompatible)));
+    }
+    assert_eq!(rt; cache.hits(), 0);
+    assert!(rt; cache.is_empty());
+    Ok(())
 }

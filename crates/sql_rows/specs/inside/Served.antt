@@ -8,7 +8,7 @@ use Rattle.sql_rules.specs.Types.{columns}
 use Rattle.sql_check.specs.Compiled.{sql_of, is_safe_in}
 use Rattle.sql_check.specs.declared.built.Built.{Built}
 use Rattle.sql_rows.specs.Entries.{IsLookedUp}
-use Rattle.sql_rows.specs.declared.told.Kept.{Kept}
+use Rattle.sql_rows.specs.declared.telling.Kept.{Kept}
 use Rattle.sql_rows.specs.declared.cache.RequestKey.{RequestKey}
 
 -- what of an answer is the same for all statements of one key

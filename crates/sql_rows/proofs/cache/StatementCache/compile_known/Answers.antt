@@ -5,7 +5,7 @@ use Rattle.sql_node.specs.View.{statement_tree}
 use Rattle.sql_flat.proofs.Unflattening.{one-statement}
 use Rattle.sql_rules.specs.Rules.{Broken}
 use Rattle.sql_rules.specs.declared.rule.Rule.TheVariants.{UnknownName}
-use Rattle.sql_rows.specs.Entries.{Entries, put}
+use Rattle.sql_rows.specs.Entries.{Entries, IsNext, put}
 use Rattle.sql_rows.specs.Sound.{CompilesSoundly}
 use Rattle.sql_rows.specs.inside.Placed.{identified}
 use Rattle.sql_rows.proofs.Known.{known-pair}
@@ -15,7 +15,7 @@ use Rattle.sql_rows.proofs.cache.StatementCache.compile_known.Goals as goal
 -- ## No pair is looked up
 
 pub compile_alone-requires : goal.compile_alone-requires
-compile_alone-requires g c = λ known s is.
+compile_alone-requires g c = λ s is.
     subst (λ q. ¬ Broken UnknownName c.args.self.now.schema g.DB.Backend.speaks q)
     (one-statement (statement_tree c.args.asked.statement.now) s (sym c.requires.flat ∙ is)) c.requires.known
 
@@ -30,7 +30,25 @@ returns-in-Nowhere-clause-entries g c =
     let e : None ≡ Some pair = ap identified (sym c.in-Nowhere.is) ∙ (c.in_ok-place_of.ensures.identified pair).1 at in
     absurd (cc))
 
--- ## A pair is looked up
+-- ## A pair among the others is looked up
+
+pub compile_shaped-requires-clause-shaped : goal.compile_shaped-requires-clause-shaped
+compile_shaped-requires-clause-shaped g c = (c.in_ok-place_of.ensures.shaped c.in-Shaped.pair c.in-Shaped.is).0
+
+pub compile_shaped-requires-clause-id : goal.compile_shaped-requires-clause-id
+compile_shaped-requires-clause-id g c = (c.in_ok-place_of.ensures.shaped c.in-Shaped.pair c.in-Shaped.is).1
+
+pub returns-in-Shaped-clause-entries : goal.returns-in-Shaped-clause-entries
+returns-in-Shaped-clause-entries g c =
+    let d = g.DB.Backend.speaks in
+    let s = statement_tree c.args.asked.statement.now in
+    subst (λ w. IsNext d s c.args.self.now c.compile_shaped.result w) (sym c.compile_shaped.ensures.unchanged)
+    (none-next d s c.args.self.now c.compile_shaped.result
+    (λ pair at.
+    let e : None ≡ Some pair = ap identified (sym c.in-Shaped.is) ∙ (c.in_ok-place_of.ensures.identified pair).1 at in
+    absurd (cc)))
+
+-- ## A pair among those of ids is looked up
 
 pub look_up-requires : goal.look_up-requires
 look_up-requires g c =

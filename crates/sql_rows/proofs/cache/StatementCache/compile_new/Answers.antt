@@ -8,7 +8,7 @@ use Rattle.sql_rows.proofs.Told.{kept-serves, least-says, shaped}
 use Rattle.sql_rows.proofs.cache.StatementCache.compile_new.Goals as goal
 
 pub compile_alone-requires : goal.compile_alone-requires
-compile_alone-requires g c = λ known s is.
+compile_alone-requires g c = λ s is.
     subst (λ q. ¬ Broken UnknownName c.args.self.now.schema g.DB.Backend.speaks q)
     (one-statement (statement_tree c.args.asked.statement.now) s (sym c.requires.flat ∙ is)) c.requires.known
 

@@ -2,7 +2,7 @@ use Rattle.std.proofs.Common.{◌∙◌}
 use Rattle.sql_node.specs.View.{statement_tree}
 use Rattle.sql_rules.specs.declared.rule.Rule.TheVariants.{Ambiguous, NameClash, NotInScope, UnknownName}
 use Rattle.sql_check.proofs.Reading.{is_read}
-use Rattle.sql_rows.proofs.told.tell.Goals as goal
+use Rattle.sql_rows.proofs.telling.tell.Goals as goal
 
 pub returns-clause-read : goal.returns-clause-read
 returns-clause-read g c = λ schema told.
