@@ -58,7 +58,6 @@ fn each_leaves_id(nodes: &[FlatNode]) -> bool
 }
 
 /// Whether the statement of a flat list has an id: it holds no boxed part, no `OrderColumn`, no `Tablesample` and no list of values.
-#[tactic(auto, using(crate::proofs::Identified::identified))]
 pub fn flat_has_id(flat: &Flat) -> bool
     ensures { (s : t.Statement) → flat.now ≡ flat_of s → result ≡ has_id s }
 {

@@ -139,11 +139,7 @@ fn pair_of<DB: Backend>(alloc: Global, backend: &DB, flat: &Flat) -> Result<Name
     Ok(NamedRequest::from(RequestKey { dialect, key }))
 }
 
-fn place_of<DB: Backend>(
-    alloc: Global,
-    backend: &DB,
-    asked: Asked<'_>,
-) -> Result<Place, NoMemory>
+fn place_of<DB: Backend>(alloc: Global, backend: &DB, asked: Asked<'_>) -> Result<Place, NoMemory>
     requires { asked.flat.now ≡ flat_of (statement_tree asked.statement.now) }
     ensures identified { IfOk result (λ found. (pair : Pair) → (identified found ≡ Some pair)
         ↔ IsLookedUp DB.speaks (statement_tree asked.entry.statement.now) pair) }

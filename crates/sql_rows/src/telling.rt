@@ -54,10 +54,7 @@ impl Kept {
     }
 }
 
-fn copied_types(
-    alloc: Global,
-    sql_types: &SqlList<SqlType>,
-) -> Result<SqlList<SqlType>, NoMemory>
+fn copied_types(alloc: Global, sql_types: &SqlList<SqlType>) -> Result<SqlList<SqlType>, NoMemory>
     ensures { IfOk result (λ l. l ≡ sql_types.now) }
 {
     let types = Vec::from_slice(alloc, sql_types.as_slice())?;

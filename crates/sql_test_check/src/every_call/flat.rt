@@ -9,10 +9,10 @@ use sql_expr::Statement;
 use sql_flat::{Flat, FlatKind, expression_nodes, flatten};
 use sql_flat_back::Unflatten;
 use sql_flat_text::write_flat;
-use sql_key::{erased_kind, flat_query_id};
+use sql_key::{erased_kind, flat_has_id, flat_key, flat_query_id};
 use sql_pass::Value;
 use sql_rows::{StatementCache, compile_sound_by};
-use sql_rules_check::{Names, broken_but_the_last};
+use sql_rules_check::{Names, broken_but_the_last, flat_positions_are_counted};
 use sql_schema::Schema;
 use sql_select::Query;
 use sql_test_calls::fixture::{id, ids};
@@ -43,6 +43,10 @@ fn told_of(alloc: Global, statement: &Statement) -> Result<(), Fail> {
 fn of_list(alloc: Global, schema: &Schema, flat: &Flat) -> Result<(), Fail> {
     gives(alloc, flat.unflatten(alloc), IDS)?;
     is(flat_query_id(alloc, flat)?.is_some(), "an id")?;
+    is(flat_has_id(flat), "that there is one")?;
+    let key = flat_key(alloc, flat)?;
+    is(key.nodes().len() == flat.nodes().len(), "the key")?;
+    flat_positions_are_counted(flat);
     let broken = broken_but_the_last(alloc, &Pg, schema, flat)?;
     is(broken.is_empty(), "no rule broken")?;
     let blank = Blank::new(1);
