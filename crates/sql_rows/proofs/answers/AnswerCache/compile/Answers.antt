@@ -10,5 +10,5 @@ recall-requires g c =
 pub returns-in-Some-clause-compiled : goal.returns-in-Some-clause-compiled
 returns-in-Some-clause-compiled g c =
     c.tell_answer.ensures c.args.self.now
-    (c.in_ok-recall.ensures.says c.in-Some.answer c.in-Some.is g.DB.Backend.speaks
+    (c.in_ok-answer.ensures.says c.in-Some.answer c.in-Some.is g.DB.Backend.speaks
     (statement_tree c.args.asked.statement.now) c.requires.shaped)

@@ -13,5 +13,5 @@ returns-in-Some-clause-compiled g c =
     let d = g.DB.Backend.speaks in
     let s = statement_tree c.args.asked.statement.now in
     refused-soundly c.args.self.now.schema d s c.in-Some.rule c.from.result
-    (c.in_ok-recall_refusal.ensures.says c.in-Some.rule c.in-Some.is d s (shaped d s c.args.pair c.requires.looked_up))
+    (c.in_ok-rule.ensures.says c.in-Some.rule c.in-Some.is d s (shaped d s c.args.pair c.requires.looked_up))
     c.from.ensures
