@@ -2,7 +2,10 @@ pub mod Bytes
 pub mod EachItem
 pub mod Filling
 pub mod Keeping
+pub mod Loops
 pub mod Pairs
 pub mod Nesting
 pub mod Numbers
 pub mod Seen
+pub mod Streaming
+pub mod Turns

@@ -33,7 +33,7 @@ pub struct Document {
 }
 
 #[tactic(auto, unfolding(crate::specs::Documents::request_of))]
-fn one_request(alloc: Global, value: &Value<'_>) -> Result<Request, Refusal>
+pub(crate) fn one_request(alloc: Global, value: &Value<'_>) -> Result<Request, Refusal>
     ensures { Gives request_tree result (request_of (seen value.now)) }
 {
     let name = text(value, "dialect").ok_or(Refusal::NotADocument)?;

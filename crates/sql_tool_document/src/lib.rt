@@ -26,6 +26,7 @@ mod refusal;
 mod schema;
 mod session;
 mod source;
+mod stream;
 mod texts;
 mod value;
 mod whole;
