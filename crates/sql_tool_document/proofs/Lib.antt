@@ -4,6 +4,7 @@ pub mod Filling
 pub mod Keeping
 pub mod Loops
 pub mod Pairs
+pub mod Parts
 pub mod Nesting
 pub mod Numbers
 pub mod Seen
