@@ -6,6 +6,7 @@ use Rattle.json.proofs.Grammar.{value_is, value-begin_array, value-begin_object}
 use Rattle.json.specs.Find as json_find
 use Rattle.json.specs.Json as json
 use Rattle.json.specs.Json.{items, members, parse_map, value}
+use Rattle.json.specs.Lex.{tokens}
 use Rattle.json.specs.Reads.{token_of}
 use Rattle.json.specs.Token as spec
 use Rattle.json.specs.Token.{Token}
@@ -18,9 +19,10 @@ use Rattle.serde_json.specs.Written.{has_float}
 use Rattle.sql_tool_document.specs.Documents.{value_in, without_floats}
 use Rattle.sql_tool_document.specs.Scalar.{◌>>=◌}
 use Rattle.sql_tool_document.specs.inside.Seen.{data_of, data_members, is_whole, members_are_whole, num_of}
-use Rattle.sql_tool_document.specs.inside.Streaming.{tree, nothing_found, found_from, found_in, requests_name, Kept, keep_other, kept_with, kept_from, nothing_kept, StandFor}
+use Rattle.sql_tool_document.specs.inside.Streaming.{last_object, made_found as found, nothing_found, found_from, found_in, requests_name, Kept, keep_other, kept_with, kept_from, nothing_kept, StandFor}
 use Rattle.sql_tool_document.proofs.Bytes.{there, no_value, whole-value, tree-value}
-use Rattle.sql_tool_document.proofs.Streaming.{found, found-array, kept-stands, kept-whole}
+use Rattle.sql_tool_document.proofs.Turns.{first_or, rest_or}
+use Rattle.sql_tool_document.proofs.Streaming.{found-array, kept-stands, kept-whole}
 
 -- ---- the value of a member `requests`
 
@@ -83,10 +85,6 @@ other-kept k name j o r ne is = rw (is, ne) refl
 
 -- ---- the object that the tokens are
 
--- the members of the one value that was read, where that is an object
-abbrev pub last_object : Option (json.Json × List Token) → Option json.Members
-last_object o = option_and_then json_find.as_object (option_and_then (λ p. json.if_last p.0 p.1) o)
-
 array-last : (o : Option (json.Items × List Token)) → last_object (parse_map json.array o) ≡ None
 array-last None = refl
 array-last (Some (js, [])) = refl
@@ -128,16 +126,19 @@ module _ {A : Type 0} (f : json.Members → A) where
   pub object-ends : (o : Option (json.Members × List Token)) (a : A) → parse_map f o ≡ Some (a, [])
       → option_map f (last_object (parse_map json.object o)) ≡ Some a
   object-ends None a is = absurd (let wrong : None ≡ Some (a, []) = is in cc)
-  object-ends (Some (ms, [])) a is = let same : f ms ≡ a = cc in ap Some same
-  object-ends (Some (ms, t ∷ ts)) a is = absurd (let wrong : Some (f ms, t ∷ ts) ≡ Some (a, []) = is in cc)
+  object-ends (Some (ms, [])) a is = ap (λ o. Some (first_or a o)) is
+  object-ends (Some (ms, t ∷ ts)) a is = absurd (let wrong : t ∷ ts ≡ [] = ap (rest_or []) is in cc)
 
   pub object-goes_on : (o : Option (json.Members × List Token)) (a : A) (t : Token) (ts : List Token)
       → parse_map f o ≡ Some (a, t ∷ ts) → option_map f (last_object (parse_map json.object o)) ≡ None
   object-goes_on None a t ts is = absurd (let wrong : None ≡ Some (a, t ∷ ts) = is in cc)
-  object-goes_on (Some (ms, [])) a t ts is = absurd (let wrong : Some (f ms, []) ≡ Some (a, t ∷ ts) = is in cc)
+  object-goes_on (Some (ms, [])) a t ts is = absurd (let wrong : [] ≡ t ∷ ts = ap (rest_or []) is in cc)
   object-goes_on (Some (ms, u ∷ us)) a t ts is = refl
 
 -- ---- the object that the bytes are
+
+abbrev tree : List ℕ → Option json.Json
+tree text = option_and_then (λ p. json.if_last p.0 p.1) (json.value 127 (tokens text))
 
 none-mapped : {A B : Type 0} (f : A → B) (o : Option A) → option_map f o ≡ None → o ≡ None
 none-mapped f None is = refl

@@ -12,7 +12,7 @@ use Rattle.sql_tool_document.specs.Documents.{Request, request_of, Document, doc
 use Rattle.sql_tool_document.specs.Members.{each}
 use Rattle.sql_tool_document.specs.Scalar.{◌>>=◌}
 use Rattle.sql_tool_document.specs.inside.Seen.{data_of, data_items, data_members, members_seen, seen, is_whole, items_are_whole, members_are_whole}
-use Rattle.sql_tool_document.specs.inside.Streaming.{requests_of, Found, nothing_found, with_one, found_with, found_from, found_in, requests_name, Kept, keep_requests, keep_other, kept_with, kept_from, StandFor, document_from}
+use Rattle.sql_tool_document.specs.inside.Streaming.{requests_of, Found, made_found as found, nothing_found, with_one, found_with, found_from, found_in, requests_name, Kept, keep_requests, keep_other, kept_with, kept_from, StandFor, document_from}
 use Rattle.sql_tool_document.proofs.EachItem.{with_front, regroup}
 use Rattle.sql_tool_document.proofs.Seen.{put-found}
 
@@ -53,9 +53,6 @@ glued-start : (rest : Option (List Request)) → glued (Some []) rest ≡ rest
 glued-start None = refl
 glued-start (Some xs) = refl
 
-abbrev pub found : Option (List Request) → Bool → Found
-found o b = record { requests = o; is_whole = b }
-
 found_from-is : (f : Found) (js : json.Items)
     → found_from f js ≡ found (glued f.requests (each request_of (data_items js))) (f.is_whole && items_are_whole js)
 found_from-is f json.no_items = rw (glued-end f.requests, and-true f.is_whole) refl
@@ -68,6 +65,9 @@ found-array js =
     found_from-is nothing_found js ∙ ap (λ o. found o (items_are_whole js)) (glued-start (each request_of (data_items js)))
 
 -- ---- the members of a document
+
+abbrev pub no_others : Members → Kept
+no_others others = record { others = others; requests = None; is_whole = true }
 
 same-name : (name other : List ℕ) → bytes_eq name requests_name ≡ true → bytes_eq requests_name other ≡ false
     → bytes_eq name other ≡ false

@@ -4,6 +4,14 @@ use Rattle.json.specs.Token.{Token}
 use Rattle.json.specs.Json.{Json, Items, no_items, item, Members, no_members, member, Parse, parse_map, after_end_array, read_key, items, members}
 use Rattle.json.proofs.Grammar.{Takes, left, read_key-shorter, items_end, items_fail, items_more, members_end, members_no_key, members_fail, members_more}
 
+abbrev pub first_or : {B : Type 0} → B → Option (B × List Token) → B
+first_or b None = b
+first_or b (Some q) = q.0
+
+abbrev pub rest_or : {B : Type 0} → List Token → Option (B × List Token) → List Token
+rest_or r None = r
+rest_or r (Some q) = q.1
+
 none-mapped : {A B : Type 0} (f : A → B) (o : Option (A × List Token)) → parse_map f o ≡ None → o ≡ None
 none-mapped f None is = refl
 none-mapped f (Some q) is = absurd (let wrong : Some (f q.0, q.1) ≡ None = is in cc)
@@ -11,8 +19,7 @@ none-mapped f (Some q) is = absurd (let wrong : Some (f q.0, q.1) ≡ None = is 
 some-mapped : {A B : Type 0} (f : A → B) (o : Option (A × List Token)) (b : B) (r : List Token) → parse_map f o ≡ Some (b, r)
     → (a : A) × (o ≡ Some (a, r)) × (f a ≡ b)
 some-mapped f None b r is = absurd (let wrong : None ≡ Some (b, r) = is in cc)
-some-mapped f (Some q) b r is =
-    let same : (f q.0, q.1) ≡ (b, r) = cc in (q.0, ap (λ x. Some (q.0, x.1)) same, ap (λ x. x.0) same)
+some-mapped f (Some q) b r is = (q.0, ap (λ o. Some (q.0, rest_or r o)) is, ap (first_or b) is)
 
 module _ {A : Type 0} (p : Parse Json) (takes : Takes p) (fold : A → Items → A) (step : A → Json → A)
     (ends : (a : A) → fold a no_items ≡ a) (steps : (a : A) (j : Json) (js : Items) → fold a (item j js) ≡ fold (step a j) js)

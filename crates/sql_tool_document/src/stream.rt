@@ -1,8 +1,8 @@
 //! From bytes to a document's members. Each request is decoded as soon as it is read, so no JSON tree holds more than one.
 
 ghost use Rattle.std.specs.Prelude.{◌≡◌, length, IfOk, Some, Err, None, option_map, option_and_then};
-ghost use Rattle.json.specs.Find as json_find;
-ghost use Rattle.json.specs.Json.{items, members, parse_map, read_key, value};
+ghost use Rattle.json.specs.Json.{items, members, object, parse_map, read_key, value};
+ghost use Rattle.json.specs.Lex.{tokens};
 ghost use Rattle.json.specs.Value.{value_view};
 ghost use Rattle.serde_json.specs.Data as spec;
 ghost use Rattle.serde_json.specs.Find as find;
@@ -10,7 +10,7 @@ ghost use Rattle.sql_tool_document.specs.Documents.{request_of, value_in};
 ghost use Rattle.sql_tool_document.specs.Giving.{Gives};
 ghost use Rattle.sql_tool_document.specs.declared.refusal.Refusal.TheVariants.{NotADocument};
 ghost use Rattle.sql_tool_document.specs.inside.Seen.{is_whole as is_whole_in, members_are_whole, seen};
-ghost use Rattle.sql_tool_document.specs.inside.Streaming.{tree, with_one, found_with, found_from, found_in, found_view, nothing_found, kept_from, kept_view, kept_with, nothing_kept, requests_view, StandFor};
+ghost use Rattle.sql_tool_document.specs.inside.Streaming.{last_object, with_one, made_found, found_with, found_from, found_in, found_view, nothing_found, kept_from, kept_view, kept_with, nothing_kept, requests_view, StandFor};
 
 use crate::document::{Request, one_request};
 use crate::reading::{MAX_DEPTH, are_whole};
@@ -148,28 +148,41 @@ fn pass_members(alloc: Global, reader: &mut Reader<'_>) -> Result<bool, Refusal>
 {
     let mut whole = true;
     while let Some(_) = next_key(reader)? {
-        whole &= pass_value(alloc, reader)?;
+        let member = pass_value(alloc, reader)?;
+        whole &= member;
     }
     Ok(whole)
+}
+
+/// No requests, of a value that is no array.
+fn no_requests(is_whole: bool) -> Found
+    ensures { found_view result ≡ made_found None is_whole }
+{
+    Found {
+        requests: None,
+        is_whole,
+    }
 }
 
 /// The value of a member `requests`.
 fn read_requests(alloc: Global, reader: &mut Reader<'_>) -> Result<Found, Refusal>
     ensures { Gives (λ f. (found_view f, reader.new)) result (parse_map found_in (value 126 reader.old)) }
 {
-    let is_whole = match reader.next() {
-        Some(Token::BeginArray) => return read_items(alloc, reader),
-        Some(Token::BeginObject) => pass_members(alloc, reader)?,
-        Some(Token::Number(text)) => is_whole_number(text),
-        Some(Token::Null | Token::Bool(_) | Token::String(_)) => true,
-        Some(Token::EndArray | Token::EndObject | Token::Key(_) | Token::Bad) | None => {
-            return Err(Refusal::NotADocument);
-        }
+    let Some(token) = reader.next() else {
+        return Err(Refusal::NotADocument);
     };
-    Ok(Found {
-        requests: None,
-        is_whole,
-    })
+    match token {
+        Token::BeginArray => read_items(alloc, reader),
+        Token::BeginObject => Ok(no_requests(pass_members(alloc, reader)?)),
+        Token::Number(text) => Ok(no_requests(is_whole_number(text))),
+        Token::String(_) => Ok(no_requests(true)),
+        Token::Bool(_) => Ok(no_requests(true)),
+        Token::Null => Ok(no_requests(true)),
+        Token::EndArray => Err(Refusal::NotADocument),
+        Token::EndObject => Err(Refusal::NotADocument),
+        Token::Key(_) => Err(Refusal::NotADocument),
+        Token::Bad => Err(Refusal::NotADocument),
+    }
 }
 
 /// One member more, of this name.
@@ -221,6 +234,18 @@ fn read_members<'a>(alloc: Global, reader: &mut Reader<'a>) -> Result<Kept<'a>, 
     Ok(kept)
 }
 
+/// The members of a document, up to its closing brace, where that ends the text.
+fn read_whole<'a>(alloc: Global, reader: &mut Reader<'a>) -> Result<Kept<'a>, Refusal>
+    ensures { Gives kept_view result (option_map (kept_from nothing_kept)
+        (last_object (parse_map object (members (value 126) (length reader.old) reader.old)))) }
+{
+    let kept = read_members(alloc, reader)?;
+    match reader.next() {
+        Some(_) => Err(Refusal::NotADocument),
+        None => Ok(kept),
+    }
+}
+
 /// The members of the object that a text is.
 fn read_object<'a>(
     alloc: Global,
@@ -228,17 +253,15 @@ fn read_object<'a>(
     scratch: &'a mut Scratch,
 ) -> Result<Kept<'a>, Refusal>
     ensures { Gives kept_view result
-        (option_map (kept_from nothing_kept) (option_and_then json_find.as_object (tree text.now))) }
+        (option_map (kept_from nothing_kept) (last_object (value 127 (tokens text.now)))) }
 {
     let mut reader = Reader::new(text, scratch)?;
-    match reader.next() {
-        Some(Token::BeginObject) => (),
-        _ => return Err(Refusal::NotADocument),
-    }
-    let kept = read_members(alloc, &mut reader)?;
-    match reader.next() {
-        Some(_) => Err(Refusal::NotADocument),
-        None => Ok(kept),
+    let Some(token) = reader.next() else {
+        return Err(Refusal::NotADocument);
+    };
+    match token {
+        Token::BeginObject => read_whole(alloc, &mut reader),
+        _ => Err(Refusal::NotADocument),
     }
 }
 

@@ -3,10 +3,9 @@ use Rattle.std.specs.Prelude.{◌≡◌, ℕ, List, [], ◌∷◌, ◌++◌, map
 use Rattle.std.specs.Str.{bytes_eq}
 use Rattle.json.specs.Find as json_find
 use Rattle.json.specs.Json as json
-use Rattle.json.specs.Lex.{tokens}
+use Rattle.json.specs.Token.{Token}
 use Rattle.serde_json.specs.Data.{Data, Members, no_members, put}
 use Rattle.serde_json.specs.Find.{get, get_member, as_array}
-use Rattle.serde_json.specs.Read.{max_depth}
 use Rattle.sql_tool_document.specs.Documents.{Request, request_of, Document}
 use Rattle.sql_tool_document.specs.Members.{each}
 use Rattle.sql_tool_document.specs.Scalar.{◌>>=◌}
@@ -17,9 +16,9 @@ use Rattle.sql_tool_document.specs.declared.stream.Found as rust_found
 use Rattle.sql_tool_document.specs.declared.stream.Kept as rust_kept
 use Rattle.sql_tool_document.specs.inside.Seen.{data_of, members_seen, is_whole}
 
--- the tree that a text is, nested as deep as `serde_json` reads
-abbrev pub tree : List ℕ → Option json.Json
-tree text = option_and_then (λ p. json.if_last p.0 p.1) (json.value max_depth (tokens text))
+-- the members of the one value that was read, where that is an object
+abbrev pub last_object : Option (json.Json × List Token) → Option json.Members
+last_object o = option_and_then json_find.as_object (option_and_then (λ p. json.if_last p.0 p.1) o)
 
 -- the requests that a value is, where it is an array of them
 abbrev pub requests_of : Data → Option (List Request)
@@ -32,8 +31,11 @@ pub record Found : Type 0 where
   pub requests : Option (List Request)
   pub is_whole : Bool
 
+abbrev pub made_found : Option (List Request) → Bool → Found
+made_found o b = record { requests = o; is_whole = b }
+
 abbrev pub nothing_found : Found
-nothing_found = record { requests = Some []; is_whole = true }
+nothing_found = made_found (Some []) true
 
 -- the requests and one more, where it is one
 abbrev pub with_one : Option (List Request) → Option Request → Option (List Request)

@@ -1,10 +1,9 @@
-use Rattle.std.proofs.Common.{◌≡◌, ◌-◌, length, Some, None, map, sym, ap, arith}
+use Rattle.std.proofs.Common.{◌≡◌, ◌-◌, length, true, Some, None, map, sym, ap, arith}
 use Rattle.std.proofs.lemmas.Result.{err_from_is_err_and}
 use Rattle.json.specs.Json.{after_end_array, items, parse_map, value}
 use Rattle.sql_tool_document.specs.Trees.{request_tree}
-use Rattle.sql_tool_document.specs.inside.Streaming.{found_view, found_from}
+use Rattle.sql_tool_document.specs.inside.Streaming.{found_view, made_found, found_from}
 use Rattle.sql_tool_document.proofs.Loops.{refuses, items-done, items-refused, items-read}
-use Rattle.sql_tool_document.proofs.Streaming.{found}
 use Rattle.sql_tool_document.proofs.stream.read_items.Goals as goal
 
 pub loop-alloc-init : goal.loop-alloc-init
@@ -12,7 +11,7 @@ loop-alloc-init c =
     let ts = c.args.reader.now in (
       length ts,
       omega arith,
-      ap (λ vs. parse_map (found_from (found (Some (map request_tree vs)) true)) (items (value 125) (length ts) ts))
+      ap (λ vs. parse_map (found_from (made_found (Some (map request_tree vs)) true)) (items (value 125) (length ts) ts))
           (sym c.new.ensures.items),
     )
 
