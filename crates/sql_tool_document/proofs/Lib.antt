@@ -1,3 +1,4 @@
+pub mod Assembled
 pub mod Bytes
 pub mod EachItem
 pub mod Filling

@@ -1,14 +1,13 @@
 //! From bytes to a document's members. Each request is decoded as soon as it is read, so no JSON tree holds more than one.
 
-ghost use Rattle.std.specs.Prelude.{◌≡◌, length, IfOk, Some, Err, None, option_map, option_and_then};
+ghost use Rattle.std.specs.Prelude.{◌≡◌, length, MatchResult, Some, None, option_map, option_and_then};
 ghost use Rattle.json.specs.Json.{items, members, object, parse_map, read_key, value};
 ghost use Rattle.json.specs.Lex.{tokens};
 ghost use Rattle.json.specs.Value.{value_view};
 ghost use Rattle.serde_json.specs.Data as spec;
 ghost use Rattle.serde_json.specs.Find as find;
 ghost use Rattle.sql_tool_document.specs.Documents.{request_of, value_in};
-ghost use Rattle.sql_tool_document.specs.Giving.{Gives};
-ghost use Rattle.sql_tool_document.specs.declared.refusal.Refusal.TheVariants.{NotADocument};
+ghost use Rattle.sql_tool_document.specs.Giving.{Gives, Refuses};
 ghost use Rattle.sql_tool_document.specs.inside.Seen.{is_whole as is_whole_in, members_are_whole, seen};
 ghost use Rattle.sql_tool_document.specs.inside.Streaming.{last_object, with_one, made_found, found_with, found_from, found_in, found_view, nothing_found, kept_from, kept_view, kept_with, nothing_kept, requests_view, StandFor};
 
@@ -271,11 +270,10 @@ pub(crate) fn read_parts<'a>(
     bytes: &'a [u8],
     scratch: &'a mut Scratch,
 ) -> Result<Parts<'a>, Refusal>
-    ensures ok { IfOk result (λ p. (others : spec.Members) × (all : spec.Members)
-        × (seen p.others ≡ spec.object others) × (value_in bytes.now ≡ Some (spec.object all))
-        × StandFor others (requests_view p.requests) all) }
-    ensures refused { result ≡ Err NotADocument
-        → option_and_then find.as_object (value_in bytes.now) ≡ None }
+    ensures { MatchResult result
+        (λ p. (others : spec.Members) × (all : spec.Members) × (seen p.others ≡ spec.object others)
+        × (value_in bytes.now ≡ Some (spec.object all)) × StandFor others (requests_view p.requests) all)
+        (λ e. Refuses e (option_and_then find.as_object (value_in bytes.now))) }
 {
     let Ok(text) = str::from_utf8(bytes) else {
         return Err(Refusal::NotADocument);

@@ -7,7 +7,9 @@ use Rattle.json.specs.Token.{Token}
 use Rattle.serde_json.specs.Data.{Data, Members, no_members, put}
 use Rattle.serde_json.specs.Find.{get, get_member, as_array}
 use Rattle.sql_tool_document.specs.Documents.{Request, request_of, Document}
-use Rattle.sql_tool_document.specs.Members.{each}
+use Rattle.sql_tool_document.specs.Guards.{Guarded, guard_of}
+use Rattle.sql_tool_document.specs.Members.{each, items_at}
+use Rattle.sql_tool_document.specs.Policies.{Policed, policy_of}
 use Rattle.sql_tool_document.specs.Scalar.{◌>>=◌}
 use Rattle.sql_tool_document.specs.Schemas.{schema_of}
 use Rattle.sql_tool_document.specs.Trees.{request_tree}
@@ -93,6 +95,19 @@ document_from others kept = do
   schema ← get (codes "schema") others >>= schema_of
   requests ← kept
   Some (record { schema = schema; requests = requests })
+
+abbrev pub guarded_from : Data → Option (List Request) → Option Guarded
+guarded_from others kept = do
+  guard ← get (codes "guard") others >>= guard_of
+  document ← document_from others kept
+  Some (record { document = document; guard = guard })
+
+abbrev pub policed_from : Data → Option (List Request) → Option Policed
+policed_from others kept = do
+  items ← items_at (codes "tenant") others
+  policies ← each policy_of items
+  document ← document_from others kept
+  Some (record { document = document; policies = policies })
 
 -- ---- as Rust has it
 
