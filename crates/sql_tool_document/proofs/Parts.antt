@@ -137,7 +137,7 @@ module _ {A : Type 0} (f : json.Members → A) where
 
 -- ---- the object that the bytes are
 
-abbrev tree : List ℕ → Option json.Json
+abbrev pub tree : List ℕ → Option json.Json
 tree text = option_and_then (λ p. json.if_last p.0 p.1) (json.value 127 (tokens text))
 
 none-mapped : {A B : Type 0} (f : A → B) (o : Option A) → option_map f o ≡ None → o ≡ None

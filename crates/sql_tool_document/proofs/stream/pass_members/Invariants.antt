@@ -4,11 +4,11 @@ use Rattle.sql_tool_document.specs.inside.Seen.{members_are_whole}
 use Rattle.sql_tool_document.proofs.Streaming.{whole_from}
 use Rattle.sql_tool_document.proofs.stream.pass_members.Given as goal
 
-abbrev pub invariant-loop-alloc : goal.invariant-loop-alloc
-invariant-loop-alloc l =
+abbrev pub invariant-loop-reader : goal.invariant-loop-reader
+invariant-loop-reader l =
     (n : ℕ) × (length l.reader ≤ n)
     × (parse_map members_are_whole (members (value 125) (length l.initial.reader) l.initial.reader)
     ≡ parse_map (whole_from l.whole) (members (value 125) n l.reader))
 
-abbrev pub decreases-loop-alloc : goal.decreases-loop-alloc
-decreases-loop-alloc l = length l.reader
+abbrev pub decreases-loop-reader : goal.decreases-loop-reader
+decreases-loop-reader l = length l.reader

@@ -1,8 +1,9 @@
-use Rattle.std.proofs.Common.{◌≡◌, ◌-◌, length, true, Some, None, map, sym, ap, arith}
+use Rattle.std.proofs.Common.{◌≡◌, ◌-◌, ◌<◌, length, true, Some, None, map, sym, ap, ◌∙◌, arith}
 use Rattle.std.proofs.lemmas.Result.{err_from_is_err_and}
+use Rattle.json.proofs.Grammar.{left, left-parse_map, skip_value-shorter}
 use Rattle.json.specs.Json.{after_end_array, items, parse_map, value}
 use Rattle.sql_tool_document.specs.Trees.{request_tree}
-use Rattle.sql_tool_document.specs.inside.Streaming.{found_view, made_found, found_from}
+use Rattle.sql_tool_document.specs.inside.Streaming.{found_view, made_found, found_with, found_from}
 use Rattle.sql_tool_document.proofs.Loops.{refuses, items-done, items-refused, items-read}
 use Rattle.sql_tool_document.proofs.stream.read_items.Goals as goal
 
@@ -29,11 +30,12 @@ returns-in_err-found c =
 pub loop-alloc-smaller : goal.loop-alloc-smaller
 loop-alloc-smaller c =
     let l = c.loop-alloc in
-    let going : (after_end_array l.reader ≡ None) × (c.take_end_array.new.self ≡ l.reader) = grind arith in
-    let turn =
-    items-read _ (found_view l.found) l.invariant.0 l.reader l.invariant.1 l.invariant.2 _ c.read_item.new.reader going.0
-    (rw (← going.1) c.in_ok-found.ensures) in
-    turn.1
+    let s = c.take_end_array.new.self in
+    let going : (after_end_array l.reader ≡ None) × (s ≡ l.reader) = grind arith in
+    let less : length c.read_item.new.reader < length s =
+    skip_value-shorter 125 s c.read_item.new.reader
+    (sym (left-parse_map (found_with (found_view l.found)) (value 125 s)) ∙ ap left c.in_ok-found.ensures) in
+    rw (← going.1) less
 
 pub loop-alloc-preserved : goal.loop-alloc-preserved
 loop-alloc-preserved c =

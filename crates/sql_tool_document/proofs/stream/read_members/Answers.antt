@@ -1,8 +1,9 @@
-use Rattle.std.proofs.Common.{◌≡◌, ◌-◌, length, true, Some, None, sym, ap, arith}
+use Rattle.std.proofs.Common.{◌≡◌, ◌-◌, length, Some, None, sym, ap, ◌∙◌, arith}
 use Rattle.std.proofs.lemmas.Result.{err_from_is_err_and}
+use Rattle.json.proofs.Grammar.{left, left-parse_map, read_key-shorter, skip_value-shorter}
 use Rattle.json.specs.Json.{members, parse_map, read_key, value}
 use Rattle.sql_tool_document.specs.inside.Seen.{members_seen}
-use Rattle.sql_tool_document.specs.inside.Streaming.{Kept, kept_view, kept_from}
+use Rattle.sql_tool_document.specs.inside.Streaming.{kept_view, kept_with, kept_from}
 use Rattle.sql_tool_document.proofs.Loops.{refuses, members-done, members-end, members-refused, members-read}
 use Rattle.sql_tool_document.proofs.Streaming.{no_others}
 use Rattle.sql_tool_document.proofs.stream.read_members.Goals as goal
@@ -43,10 +44,11 @@ loop-kept-smaller c =
     let k = c.in-Some.name.now in
     let s = c.next_key.new.reader in
     let key : read_key l.reader ≡ Some (Some k, s) = grind arith in
-    let turn =
-    members-read _ (kept_view l.kept) l.invariant.0 l.reader l.invariant.1 l.invariant.2 k _ s c.keep.new.reader key
-    c.in_ok-kept.ensures in
-    turn.1
+    let less = read_key-shorter l.reader (Some k) s key in
+    let lesser =
+    skip_value-shorter 126 s c.keep.new.reader
+    (sym (left-parse_map (kept_with (kept_view l.kept) k) (value 126 s)) ∙ ap left c.in_ok-kept.ensures) in
+    omega (arith, less, lesser)
 
 pub loop-kept-preserved : goal.loop-kept-preserved
 loop-kept-preserved c =
