@@ -80,21 +80,23 @@ module _ (k : Kept) (name : List ℕ) (j : json.Json) (all : Members) (stand : S
   one-stands-by : (b : Bool) → bytes_eq name requests_name ≡ b
       → Stands (if b then keep_requests k (found_in j) else keep_other k name j)
   one-stands-by true is = record {
-        others_are = λ other ne.
-            stand.others_are other ne
-            ∙ sym (put-found other name (data_of j) all ∙ ap (λ b. cond b (Some (data_of j)) (get_member other all)) (same-name name other is ne));
-        requests_are =
-            ap (λ o. o >>= requests_of)
-            (sym (put-found requests_name name (data_of j) all ∙ ap (λ b. cond b (Some (data_of j)) (get_member requests_name all)) is)) }
+    others_are = λ other ne.
+        stand.others_are other ne
+        ∙ sym (put-found other name (data_of j) all ∙ ap (λ b. cond b (Some (data_of j)) (get_member other all)) (same-name name other is ne));
+    requests_are =
+        ap (λ o. o >>= requests_of)
+        (sym (put-found requests_name name (data_of j) all ∙ ap (λ b. cond b (Some (data_of j)) (get_member requests_name all)) is));
+  }
   one-stands-by false is = record {
-        others_are = λ other ne.
-            put-found other name (data_of j) k.others
-            ∙ ap (cond (bytes_eq name other) (Some (data_of j))) (stand.others_are other ne)
-            ∙ sym (put-found other name (data_of j) all);
-        requests_are =
-            stand.requests_are
-            ∙ ap (λ o. o >>= requests_of)
-            (sym (put-found requests_name name (data_of j) all ∙ ap (λ b. cond b (Some (data_of j)) (get_member requests_name all)) is)) }
+    others_are = λ other ne.
+        put-found other name (data_of j) k.others
+        ∙ ap (cond (bytes_eq name other) (Some (data_of j))) (stand.others_are other ne)
+        ∙ sym (put-found other name (data_of j) all);
+    requests_are =
+        stand.requests_are
+        ∙ ap (λ o. o >>= requests_of)
+        (sym (put-found requests_name name (data_of j) all ∙ ap (λ b. cond b (Some (data_of j)) (get_member requests_name all)) is));
+  }
 
   one-stands : Stands (kept_with k name j)
   one-stands = one-stands-by (bytes_eq name requests_name) refl

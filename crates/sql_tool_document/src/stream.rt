@@ -8,7 +8,7 @@ ghost use Rattle.serde_json.specs.Data as spec;
 ghost use Rattle.serde_json.specs.Find as find;
 ghost use Rattle.sql_tool_document.specs.Documents.{request_of, value_in};
 ghost use Rattle.sql_tool_document.specs.Giving.{Gives, Refuses};
-ghost use Rattle.sql_tool_document.specs.inside.Seen.{is_whole as is_whole_in, members_are_whole, seen};
+ghost use Rattle.sql_tool_document.specs.inside.Seen.{is_whole as is_whole_in, members_are_whole, members_seen, seen};
 ghost use Rattle.sql_tool_document.specs.inside.Streaming.{last_object, with_one, made_found, found_with, found_from, found_in, found_view, nothing_found, kept_from, kept_view, kept_with, nothing_kept, requests_view, StandFor};
 
 use crate::document::{Request, one_request};
@@ -264,6 +264,22 @@ fn read_object<'a>(
     }
 }
 
+/// The parts of which this was kept.
+fn into_parts(kept: Kept<'_>) -> Parts<'_>
+    ensures others { seen result.others ≡ spec.object (members_seen kept.entry.others.items) }
+    ensures requests { result.requests ≡ kept.entry.requests }
+{
+    let Kept {
+        others,
+        requests,
+        ..
+    } = kept;
+    Parts {
+        others: Value::Object(others),
+        requests,
+    }
+}
+
 /// The members of the object that the bytes are, where its numbers all are whole.
 pub(crate) fn read_parts<'a>(
     alloc: Global,
@@ -279,11 +295,9 @@ pub(crate) fn read_parts<'a>(
         return Err(Refusal::NotADocument);
     };
     let kept = read_object(alloc, text, scratch)?;
-    if !kept.is_whole {
-        are_whole(alloc, bytes)?;
+    if kept.is_whole {
+        return Ok(into_parts(kept));
     }
-    Ok(Parts {
-        others: Value::Object(kept.others),
-        requests: kept.requests,
-    })
+    are_whole(alloc, bytes)?;
+    Ok(into_parts(kept))
 }
