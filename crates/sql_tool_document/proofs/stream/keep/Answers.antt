@@ -1,4 +1,4 @@
-use Rattle.std.proofs.Common.{◌≡◌, refl, ◌∙◌}
+use Rattle.std.proofs.Common.{refl, sym, ◌∙◌}
 use Rattle.json.specs.Json.{value}
 use Rattle.json.specs.Value.{value_view}
 use Rattle.sql_tool_document.specs.inside.Streaming.{kept_view}
@@ -11,5 +11,5 @@ returns c =
     let k = kept_view c.args.kept in
     let v = c.in_ok-member.member in
     let ts = c.next_value.new.reader in
-    other-kept k c.args.name.now (value_view v) (value 126 c.args.reader.now) ts c.if-eq.false c.in_ok-member.ensures
+    other-kept k c.args.name.now (value_view v) (value 126 c.args.reader.now) ts (sym c.if-eq.ensures) c.in_ok-member.ensures
     ∙ rw (c.in_ok-push.ensures.items, one_more-seen c.args.kept.others.items (c.args.name, v), c.is_whole.ensures) refl

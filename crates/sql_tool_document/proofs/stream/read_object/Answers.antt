@@ -12,12 +12,12 @@ returns-in_default c =
     ap (λ ts. option_map (kept_from nothing_kept) (last_object (value 127 ts))) empty
     ∙ ap (option_map (kept_from nothing_kept)) no_token
 
-pub returns-in_default-2 : goal.returns-in_default-2
-returns-in_default-2 c =
+pub returns-in_default-token : goal.returns-in_default-token
+returns-in_default-token c =
     let ts = c.next.new.self in
     let first : tokens c.args.text.now ≡ token_of c.in-Some.token ∷ ts = grind arith in
     ap (λ ts. option_map (kept_from nothing_kept) (last_object (value 127 ts))) first
-    ∙ ap (option_map (kept_from nothing_kept)) (no_brace c.in-Some.token ts c.in_default-2.not-BeginObject)
+    ∙ ap (option_map (kept_from nothing_kept)) (no_brace c.in-Some.token ts c.in_default-token.not-BeginObject)
 
 pub returns-in-BeginObject : goal.returns-in-BeginObject
 returns-in-BeginObject c =

@@ -28,12 +28,12 @@ returns-in_err-are_whole c =
     refuses c.in_err-are_whole.field-0.0 _ _ (λ none. no-value c.args.bytes.now none) c.in_err-are_whole.ensures in
     rw (p.1, p.2) at_end
 
-pub returns-then-is_whole : goal.returns-then-is_whole
-returns-then-is_whole c =
+pub returns-then-kept : goal.returns-then-kept
+returns-then-kept c =
     let k = kept_view c.in_ok-kept.kept in
     let of_text = ap (λ s. option_map (kept_from nothing_kept) (last_object (value 127 (tokens s)))) (sym c.in-Ok.ensures.cases.0) in
     let whole =
-    whole-parts c.args.bytes.now k c.in-Ok.ensures.cases.1 (of_text ∙ c.in_ok-kept.ensures) c.if-is_whole.true in (
+    whole-parts c.args.bytes.now k c.in-Ok.ensures.cases.1 (of_text ∙ c.in_ok-kept.ensures) c.if-kept.true in (
       k.others,
       whole.0,
       c.into_parts.ensures.others,
@@ -49,7 +49,7 @@ returns c =
     checked-parts c.args.bytes.now k c.in-Ok.ensures.cases.1 (of_text ∙ c.in_ok-kept.ensures) c.in_ok-are_whole.ensures in (
       k.others,
       whole.0,
-      c.into_parts.ensures.others,
+      c.into_parts-2.ensures.others,
       whole.1,
-      rw c.into_parts.ensures.requests whole.2,
+      rw c.into_parts-2.ensures.requests whole.2,
     )

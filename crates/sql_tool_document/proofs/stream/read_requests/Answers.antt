@@ -20,25 +20,25 @@ returns-in-BeginArray c =
     let is = first ∙ ap (λ k. token_of k ∷ ts) c.in-BeginArray.is in
     rw (is, ← requests-array ts) c.read_items.ensures
 
-pub returns-in_err-pass_members : goal.returns-in_err-pass_members
-returns-in_err-pass_members c =
+pub returns-in_err-pass_members-in-BeginObject : goal.returns-in_err-pass_members-in-BeginObject
+returns-in_err-pass_members-in-BeginObject c =
     let p = err_from_is_err_and c.from_residual.result c.from_residual.ensures.1 in
     let ts = c.next.new.self in
     let first : c.args.reader.now ≡ token_of c.in-Some.token ∷ ts = grind arith in
     let is = first ∙ ap (λ k. token_of k ∷ ts) c.in-BeginObject.is in
     let at_end =
-    refuses c.in_err-pass_members.field-0.0 _ _
+    refuses c.in_err-pass_members-in-BeginObject.field-0.0 _ _
     (λ none. ap (λ ts. parse_map found_in (value 126 ts)) is ∙ requests-object ts ∙ ap (parse_map (made_found None)) none)
-    c.in_err-pass_members.ensures in
+    c.in_err-pass_members-in-BeginObject.ensures in
     rw (p.1, p.2) at_end
 
-pub returns-in-BeginObject : goal.returns-in-BeginObject
-returns-in-BeginObject c =
+pub returns-in_ok-pass_members-in-BeginObject : goal.returns-in_ok-pass_members-in-BeginObject
+returns-in_ok-pass_members-in-BeginObject c =
     let ts = c.next.new.self in
     let first : c.args.reader.now ≡ token_of c.in-Some.token ∷ ts = grind arith in
     let is = first ∙ ap (λ k. token_of k ∷ ts) c.in-BeginObject.is in
     ap (λ ts. parse_map found_in (value 126 ts)) is ∙ requests-object ts
-    ∙ ap (parse_map (made_found None)) c.in_ok-pass_members.ensures
+    ∙ ap (parse_map (made_found None)) c.in_ok-pass_members-in-BeginObject.ensures
     ∙ ap (λ f. Some (f, c.pass_members.new.reader)) (sym c.no_requests.ensures)
 
 pub returns-in-Number : goal.returns-in-Number
@@ -47,28 +47,28 @@ returns-in-Number c =
     let first : c.args.reader.now ≡ token_of c.in-Some.token ∷ ts = grind arith in
     let is = first ∙ ap (λ k. token_of k ∷ ts) c.in-Number.is in
     ap (λ ts. parse_map found_in (value 126 ts)) is ∙ requests-number c.in-Number.text.now ts
-    ∙ ap (λ f. Some (f, ts)) (sym (c.no_requests.ensures ∙ ap (made_found None) c.is_whole_number.ensures))
+    ∙ ap (λ f. Some (f, ts)) (sym (c.no_requests-in-Number.ensures ∙ ap (made_found None) c.is_whole_number.ensures))
 
 pub returns-in-String : goal.returns-in-String
 returns-in-String c =
     let ts = c.next.new.self in
     let first : c.args.reader.now ≡ token_of c.in-Some.token ∷ ts = grind arith in
     let is = first ∙ ap (λ k. token_of k ∷ ts) c.in-String.is in
-    ap (λ ts. parse_map found_in (value 126 ts)) is ∙ requests-string c.in-String.field-0.now ts ∙ ap (λ f. Some (f, ts)) (sym c.no_requests.ensures)
+    ap (λ ts. parse_map found_in (value 126 ts)) is ∙ requests-string c.in-String.field-0.now ts ∙ ap (λ f. Some (f, ts)) (sym c.no_requests-in-String.ensures)
 
 pub returns-in-Bool : goal.returns-in-Bool
 returns-in-Bool c =
     let ts = c.next.new.self in
     let first : c.args.reader.now ≡ token_of c.in-Some.token ∷ ts = grind arith in
     let is = first ∙ ap (λ k. token_of k ∷ ts) c.in-Bool.is in
-    ap (λ ts. parse_map found_in (value 126 ts)) is ∙ requests-boolean c.in-Bool.field-0 ts ∙ ap (λ f. Some (f, ts)) (sym c.no_requests.ensures)
+    ap (λ ts. parse_map found_in (value 126 ts)) is ∙ requests-boolean c.in-Bool.field-0 ts ∙ ap (λ f. Some (f, ts)) (sym c.no_requests-in-Bool.ensures)
 
 pub returns-in-Null : goal.returns-in-Null
 returns-in-Null c =
     let ts = c.next.new.self in
     let first : c.args.reader.now ≡ token_of c.in-Some.token ∷ ts = grind arith in
     let is = first ∙ ap (λ k. token_of k ∷ ts) c.in-Null.is in
-    ap (λ ts. parse_map found_in (value 126 ts)) is ∙ requests-null ts ∙ ap (λ f. Some (f, ts)) (sym c.no_requests.ensures)
+    ap (λ ts. parse_map found_in (value 126 ts)) is ∙ requests-null ts ∙ ap (λ f. Some (f, ts)) (sym c.no_requests-in-Null.ensures)
 
 pub returns-in-EndArray : goal.returns-in-EndArray
 returns-in-EndArray c =

@@ -20,7 +20,8 @@ pub returns-in-Some : goal.returns-in-Some
 returns-in-Some c =
     let ts = c.args.reader.now in
     let more : c.read_members.new.reader ≡ token_of c.in-Some.field-0 ∷ c.next.new.self = grind arith in
-    object-goes_on (kept_from nothing_kept) (members (value 126) (length ts) ts) (kept_view c.in_ok-kept.kept) _ c.next.new.self
+    object-goes_on (kept_from nothing_kept) (members (value 126) (length ts) ts) (kept_view c.in_ok-kept.kept)
+    (token_of c.in-Some.field-0) c.next.new.self
     (rw (← more) c.in_ok-kept.ensures)
 
 pub returns : goal.returns
