@@ -5,6 +5,8 @@ pub mod Guards
 pub mod Policies
 pub mod Texts
 pub mod Trees
+-- What is wanted at the places of a document.
+pub mod Wanted
 pub mod Schemas
 pub mod Queries
 pub mod Scalar

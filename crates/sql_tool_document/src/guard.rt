@@ -4,7 +4,7 @@ ghost use Rattle.sql_tool_document.specs.Guards.{guard_of, guarded_of, guarded};
 ghost use Rattle.sql_tool_document.specs.Giving.{Gives};
 ghost use Rattle.sql_tool_document.specs.Trees.{guard_tree, guarded_tree};
 
-use crate::document::{Document, whole};
+use crate::document::{Document, whole_document};
 use crate::look::get;
 use crate::member::text;
 use crate::query::whole_expr;
@@ -30,7 +30,7 @@ pub struct Guarded {
 }
 
 #[tactic(auto, unfolding(crate::specs::Guards::guard_of))]
-fn guard_in(alloc: Global, value: &Value<'_>) -> Result<Guard, Refusal>
+pub(crate) fn guard_in(alloc: Global, value: &Value<'_>) -> Result<Guard, Refusal>
     ensures { Gives guard_tree result (guard_of (seen value.now)) }
 {
     let name = text(value, "table").ok_or(Refusal::NotADocument)?;
@@ -41,12 +41,12 @@ fn guard_in(alloc: Global, value: &Value<'_>) -> Result<Guard, Refusal>
 }
 
 #[tactic(auto, unfolding(crate::specs::Guards::guarded_of))]
-fn whole_guarded(alloc: Global, value: &Value<'_>) -> Result<Guarded, Refusal>
+pub(crate) fn whole_guarded(alloc: Global, value: &Value<'_>) -> Result<Guarded, Refusal>
     ensures { Gives guarded_tree result (guarded_of (seen value.now)) }
 {
     let asked = get(value, "guard").ok_or(Refusal::NotADocument)?;
     let guard = guard_in(alloc, asked)?;
-    let document = whole(alloc, value)?;
+    let document = whole_document(alloc, value)?;
     Ok(Guarded { document, guard })
 }
 

@@ -18,7 +18,7 @@ use std::str;
 const MAX_DEPTH: usize = 127;
 
 /// The JSON value that a text is, nested at most 127 deep, its texts borrowed.
-pub(crate) fn parsed<'a>(
+pub fn parsed<'a>(
     alloc: Global,
     text: &'a str,
     scratch: &'a mut Scratch,
