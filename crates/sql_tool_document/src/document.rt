@@ -8,7 +8,7 @@ ghost use Rattle.sql_tool_document.specs.inside.Seen.{seen, items_seen};
 use crate::look::get;
 use crate::member::{items, text};
 use crate::names::dialect;
-use crate::query::read_query;
+use crate::query::whole_query;
 use crate::reading::json;
 use crate::refusal::Refusal;
 use crate::schema::schema;
@@ -39,7 +39,7 @@ pub(crate) fn one_request(alloc: Global, value: &Value<'_>) -> Result<Request, R
     let name = text(value, "dialect").ok_or(Refusal::NotADocument)?;
     let dialect = dialect(name).ok_or(Refusal::NotADocument)?;
     let asked = get(value, "query").ok_or(Refusal::NotADocument)?;
-    let query = read_query(alloc, asked)?;
+    let query = whole_query(alloc, asked)?;
     Ok(Request { dialect, query })
 }
 
@@ -54,9 +54,8 @@ pub(crate) fn each_request(alloc: Global, items: &Vec<Value<'_>>) -> Result<Vec<
     Ok(all)
 }
 
-/// The document that a JSON value is, else `NotADocument`; or `NoMemory`.
 #[tactic(auto, unfolding(crate::specs::Documents::document_of))]
-pub fn whole_document(alloc: Global, value: &Value<'_>) -> Result<Document, Refusal>
+pub(crate) fn whole(alloc: Global, value: &Value<'_>) -> Result<Document, Refusal>
     ensures { Gives document_tree result (document_of (seen value.now)) }
 {
     let declarations = get(value, "schema").ok_or(Refusal::NotADocument)?;
@@ -76,5 +75,5 @@ pub fn read_document(alloc: Global, bytes: &[u8]) -> Result<Document, Refusal>
 {
     let mut scratch = Scratch::new(alloc);
     let value = json(alloc, bytes, &mut scratch)?;
-    whole_document(alloc, &value)
+    whole(alloc, &value)
 }

@@ -4,7 +4,7 @@ ghost use Rattle.sql_tool_document.specs.Guards.{guard_of, guarded_of, guarded};
 ghost use Rattle.sql_tool_document.specs.Giving.{Gives};
 ghost use Rattle.sql_tool_document.specs.Trees.{guard_tree, guarded_tree};
 
-use crate::document::{Document, whole_document};
+use crate::document::{Document, whole};
 use crate::look::get;
 use crate::member::text;
 use crate::query::whole_expr;
@@ -46,7 +46,7 @@ pub(crate) fn whole_guarded(alloc: Global, value: &Value<'_>) -> Result<Guarded,
 {
     let asked = get(value, "guard").ok_or(Refusal::NotADocument)?;
     let guard = guard_in(alloc, asked)?;
-    let document = whole_document(alloc, value)?;
+    let document = whole(alloc, value)?;
     Ok(Guarded { document, guard })
 }
 

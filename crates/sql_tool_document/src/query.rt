@@ -95,7 +95,7 @@ fn each_call(alloc: Global, items: &Vec<Value<'_>>, depth: u32) -> Result<Vec<Ca
 }
 
 /// The query that a JSON value is.
-pub fn read_query(alloc: Global, value: &Value<'_>) -> Result<Query, Refusal>
+pub(crate) fn whole_query(alloc: Global, value: &Value<'_>) -> Result<Query, Refusal>
     ensures { Gives query_tree result (query_of nesting_bound (seen value.now)) }
 {
     query(alloc, value, NESTING_BOUND)

@@ -3,7 +3,7 @@ ghost use Rattle.serde_json.specs.Find.{as_str};
 ghost use Rattle.sql_tool_document.specs.inside.Seen.{seen};
 ghost use Rattle.sql_tool_document.specs.Members.{if_any};
 ghost use Rattle.sql_tool_document.specs.Giving.{Gives};
-ghost use Rattle.sql_tool_document.specs.Schemas.{key_of, column_of, table_of, joinable_of, names_of, sound, schema_of, refusal_of};
+ghost use Rattle.sql_tool_document.specs.Schemas.{key_of, column_of, table_of, joinable_of, names_of, sound, schema_of};
 
 use crate::each::{Decode, decode_each, decode_if_any};
 use crate::look::{as_array, get};
@@ -188,62 +188,4 @@ pub(crate) fn schema(alloc: Global, value: &Value<'_>) -> Result<Schema, Refusal
     let together: Vec<(SqlText, SqlText)> = decode_if_any(alloc, get(value, "together"))?;
     let builder = declared(alloc, tables, &joinables, &together)?;
     build(builder)
-}
-
-/// How many of a schema's tables, relations and pairs are looked at.
-#[derive(Debug, Clone, Copy, PartialEq, Eq)]
-pub struct Counts {
-    pub tables: usize,
-    pub joinables: usize,
-    pub together: usize,
-}
-
-/// Each of the first so many items of an array, where each item has the form.
-fn decode_first<T: Decode + Drop>(
-    alloc: Global,
-    items: &[Value<'_>],
-    count: usize,
-) -> Result<Vec<T>, Refusal> {
-    let mut all = Vec::new(alloc);
-    for item in items.iter().take(count) {
-        all.push(T::decode(alloc, item)?)?;
-    }
-    Ok(all)
-}
-
-/// Each of the first so many items of an array, and none where there is no array.
-fn first_if_any<T: Decode + Drop>(
-    alloc: Global,
-    value: Option<&Value<'_>>,
-    count: usize,
-) -> Result<Vec<T>, Refusal> {
-    match value {
-        None => Ok(Vec::new(alloc)),
-        Some(value) => {
-            let items = as_array(value).ok_or(Refusal::NotADocument)?;
-            decode_first(alloc, items.as_slice(), count)
-        }
-    }
-}
-
-/// Why the first of the declarations make no schema, where they make none.
-pub fn refusal_up_to(
-    alloc: Global,
-    value: &Value<'_>,
-    counts: Counts,
-) -> Result<Option<SchemaError>, Refusal>
-    ensures { Gives (λ o. o) result (refusal_of counts (seen value.now)) }
-{
-    let tables = items(value, "tables").ok_or(Refusal::NotADocument)?;
-    let tables = decode_first(alloc, tables.as_slice(), counts.tables)?;
-    let joinables: Vec<JoinableDecl> =
-        first_if_any(alloc, get(value, "joinable"), counts.joinables)?;
-    let together: Vec<(SqlText, SqlText)> =
-        first_if_any(alloc, get(value, "together"), counts.together)?;
-    let builder = declared(alloc, tables, &joinables, &together)?;
-    match builder.build() {
-        Ok(_) => Ok(None),
-        Err(SchemaError::NoMemory) => Err(Refusal::NoMemory),
-        Err(error) => Ok(Some(error)),
-    }
 }

@@ -1,12 +1,22 @@
 //! What a document wants at its places, and whether a JSON value has it.
-#![tactic(auto)]
+#![tactic(auto, using(crate::proofs::Deciding::decides_form))]
 
-ghost use Rattle.std.specs.Prelude.{◌≡◌, IfOk};
-ghost use Rattle.sql_tool_document.specs.Wanted.{has_form as has_wanted_form, names_call};
-ghost use Rattle.sql_tool_document.specs.inside.Seen.{seen};
+ghost use Rattle.std.specs.Prelude.{◌≡◌, IfOk, is_some, map, option_map};
+ghost use Rattle.serde_json.specs.Find.{as_str as text_of};
+ghost use Rattle.sql_build_syntax.specs.View.{call_tree, expr_tree, order_item_tree};
+ghost use Rattle.sql_tool_document.specs.Documents.{request_of};
+ghost use Rattle.sql_tool_document.specs.Giving.{Gives};
+ghost use Rattle.sql_tool_document.specs.Names.{dialect_of, method_of, side_join_of, type_of};
+ghost use Rattle.sql_tool_document.specs.Policies.{policy_of};
+ghost use Rattle.sql_tool_document.specs.Queries.{call_of, expr_of, item_of, nesting_bound};
+ghost use Rattle.sql_tool_document.specs.Scalar.{value_of};
+ghost use Rattle.sql_tool_document.specs.Trees.{named_policy_tree, request_tree};
+ghost use Rattle.sql_tool_document.specs.Wanted.{all_stand_on, array_of, has_form as has_wanted_form, is_word, names_call, stands_on};
+ghost use Rattle.sql_tool_document.specs.inside.Deciding.{Decides};
+ghost use Rattle.sql_tool_document.specs.inside.Seen.{items_seen, seen};
 
 use crate::call::call;
-use crate::document::{each_request, one_request, whole_document};
+use crate::document::{Request, each_request, one_request, whole};
 use crate::each::{Decode, decode_each};
 use crate::expr::{
     binary, bind, column_name, expr, exprs, field_name, membership, quantified, values,
@@ -17,26 +27,31 @@ use crate::names::{
     clause_call, combination, dialect, join_kind, plain_call, sample_method, side_join, sql_type,
 };
 use crate::order::{item, items};
+use crate::policy::{NamedPolicy, each_policy, one_policy, whole_policed};
 use crate::query::{NESTING_BOUND, calls, query};
 use crate::refusal::Refusal;
 use crate::schema::schema;
 use crate::source::{join, sample, source};
 use crate::texts::whole_texts;
-use crate::value::{each_value, medium, place_number, small, value};
+use crate::value::{each_value, medium, place_number, small, value as value_of_base};
 use json::Value;
-use sql_build_syntax::{BinaryOperator, Call, Form, Quantified};
+use sql_build_syntax::{BinaryOperator, Expr, Form, OrderItem, Quantified, all_stand};
 use sql_leaf::{Comparison, PositionalItem};
+use sql_pass::Value as Bound;
 use sql_schema::{Base, ColumnDecl, JoinableDecl, SqlText, TableDecl};
 use std::alloc::{AllocError, Global};
 
-/// What is wanted at a place of a document: a name of its page's grammar (`docs/DOCUMENT.md`), or a part of one.
+/// What is wanted at a place of a document: a form of its page (`docs/DOCUMENT.md`), or a part of one.
 #[derive(Debug, Clone, Copy, PartialEq, Eq)]
 pub enum Wanted {
-    /// DOCUMENT, also with a guard, or with texts in place of requests.
+    /// DOCUMENT, also with a guard or with policies, or with texts in place of requests.
     Document,
     Guarded,
+    Policed,
     Texts,
     Guard,
+    Policies,
+    Policy,
     Schema,
     Tables,
     Table,
@@ -54,8 +69,8 @@ pub enum Wanted {
     Requests,
     Request,
     Query,
-    /// The calls on a query that is of this form before them, and one call.
-    Calls(Form),
+    Calls,
+    /// A call on a query that is of this form before it.
     Call(Form),
     CallName,
     Source,
@@ -78,7 +93,7 @@ pub enum Wanted {
     Choice,
     Membership,
     Values,
-    /// A value of that base, or null, and an array of such.
+    /// A value of that base, or null; and an array of such.
     Value(Base),
     ValueList(Base),
     Items,
@@ -90,8 +105,11 @@ pub enum Wanted {
     Number,
 }
 
-/// Whether something was decoded.
-fn found<T: Drop>(decoded: Result<T, Refusal>) -> Result<bool, AllocError> {
+/// Says whether something was decoded.
+#[tactic(auto)]
+fn found<T: Drop>(decoded: Result<T, Refusal>) -> Result<bool, AllocError>
+    ensures { Decides decoded result }
+{
     match decoded {
         Ok(_) => Ok(true),
         Err(Refusal::NotADocument) => Ok(false),
@@ -99,60 +117,65 @@ fn found<T: Drop>(decoded: Result<T, Refusal>) -> Result<bool, AllocError> {
     }
 }
 
-fn is_each<T: Decode + Drop>(alloc: Global, value: &Value<'_>) -> Result<Vec<T>, Refusal> {
-    let items = as_array(value).ok_or(Refusal::NotADocument)?;
-    decode_each(alloc, items)
+// Arrays of one form.
+
+fn each_of<T: Decode + Drop>(alloc: Global, value: &Value<'_>) -> Result<Vec<T>, Refusal>
+    ensures { Gives (λ v. v.items) result (array_of T.form (seen value.now)) }
+{
+    decode_each(alloc, as_array(value).ok_or(Refusal::NotADocument)?)
 }
 
-fn is_each_expr(alloc: Global, value: &Value<'_>) -> Result<bool, AllocError> {
-    match as_array(value) {
-        Some(list) => found(exprs(alloc, list, NESTING_BOUND)),
-        None => Ok(false),
-    }
+fn requests(alloc: Global, value: &Value<'_>) -> Result<Vec<Request>, Refusal>
+    ensures { Gives (λ v. map request_tree v.items) result (array_of request_of (seen value.now)) }
+{
+    each_request(alloc, as_array(value).ok_or(Refusal::NotADocument)?)
 }
 
-fn is_each_item(alloc: Global, value: &Value<'_>) -> Result<bool, AllocError> {
-    match as_array(value) {
-        Some(list) => found(items(alloc, list, NESTING_BOUND)),
-        None => Ok(false),
-    }
+fn policies(alloc: Global, value: &Value<'_>) -> Result<Vec<NamedPolicy>, Refusal>
+    ensures { Gives (λ v. map named_policy_tree v.items) result
+        (array_of policy_of (seen value.now)) }
+{
+    each_policy(alloc, as_array(value).ok_or(Refusal::NotADocument)?)
 }
 
-fn is_each_request(alloc: Global, value: &Value<'_>) -> Result<bool, AllocError> {
-    match as_array(value) {
-        Some(list) => found(each_request(alloc, list)),
-        None => Ok(false),
-    }
+fn each_expr(alloc: Global, value: &Value<'_>) -> Result<Vec<Expr>, Refusal>
+    ensures { Gives (λ v. map expr_tree v.items) result
+        (array_of (expr_of nesting_bound) (seen value.now)) }
+{
+    let list = as_array(value).ok_or(Refusal::NotADocument)?;
+    exprs(alloc, list, NESTING_BOUND)
 }
 
-fn is_each_value(alloc: Global, base: Base, value: &Value<'_>) -> Result<bool, AllocError> {
-    match as_array(value) {
-        Some(list) => found(each_value(alloc, base, list)),
-        None => Ok(false),
-    }
+fn each_item(alloc: Global, value: &Value<'_>) -> Result<Vec<OrderItem>, Refusal>
+    ensures { Gives (λ v. map order_item_tree v.items) result
+        (array_of (item_of (expr_of nesting_bound)) (seen value.now)) }
+{
+    let list = as_array(value).ok_or(Refusal::NotADocument)?;
+    items(alloc, list, NESTING_BOUND)
 }
 
-/// Whether each of the calls is one of the form that the calls before it give, from this form on.
-fn stand_from(form: Form, calls: &[Call]) -> bool {
-    let mut form = form;
-    for call in calls {
-        if !form.takes(call) {
-            return false;
-        }
-        form = form.after(call);
-    }
-    true
+fn value_list(alloc: Global, base: Base, value: &Value<'_>) -> Result<Vec<Bound>, Refusal>
+    ensures { Gives (λ v. v.items) result (array_of (value_of base) (seen value.now)) }
+{
+    each_value(alloc, base, as_array(value).ok_or(Refusal::NotADocument)?)
 }
 
-fn are_calls(alloc: Global, form: Form, value: &Value<'_>) -> Result<bool, AllocError> {
+// Calls.
+
+fn are_calls(alloc: Global, value: &Value<'_>) -> Result<bool, AllocError>
+    ensures { IfOk result (λ b. b
+        ≡ all_stand_on (array_of (call_of nesting_bound) (seen value.now))) }
+{
     match calls(alloc, Some(value), NESTING_BOUND) {
-        Ok(calls) => Ok(stand_from(form, &calls)),
+        Ok(calls) => Ok(all_stand(&calls)),
         Err(Refusal::NotADocument) => Ok(false),
         Err(Refusal::NoMemory) => Err(AllocError),
     }
 }
 
-fn is_call(alloc: Global, form: Form, value: &Value<'_>) -> Result<bool, AllocError> {
+fn is_call(alloc: Global, form: Form, value: &Value<'_>) -> Result<bool, AllocError>
+    ensures { IfOk result (λ b. b ≡ stands_on form (call_of nesting_bound (seen value.now))) }
+{
     match call(alloc, value, NESTING_BOUND) {
         Ok(call) => Ok(form.takes(&call)),
         Err(Refusal::NotADocument) => Ok(false),
@@ -160,7 +183,8 @@ fn is_call(alloc: Global, form: Form, value: &Value<'_>) -> Result<bool, AllocEr
     }
 }
 
-/// Whether a call has that name.
+/// Returns whether a call has that name, as `filter` or `into_boxed`.
+#[tactic(auto, unfolding(crate::specs::Wanted::names_call))]
 pub fn is_call_name(name: &str) -> bool
     ensures { result ≡ names_call name.now }
 {
@@ -176,100 +200,110 @@ pub fn is_call_name(name: &str) -> bool
     }
 }
 
-/// Whether a text names something, by a function that looks it up.
-fn is_named<T: Drop>(value: &Value<'_>, named: Option<T>) -> bool {
-    as_str(value).is_some() && named.is_some()
-}
+// Texts that name something.
 
-fn text_of<'a>(value: &Value<'a>) -> &'a str {
+fn is_type(value: &Value<'_>) -> bool
+    ensures { result ≡ is_word (λ s. is_some (type_of s)) (text_of (seen value.now)) }
+{
     match as_str(value) {
-        Some(text) => text,
-        None => "",
+        Some(text) => sql_type(text).is_some(),
+        None => false,
     }
 }
 
-/// Whether a value that holds no other has the form.
-fn is_scalar(wanted: Wanted, value: &Value<'_>) -> bool {
-    let text = text_of(value);
-    match wanted {
-        Wanted::Name => as_str(value).is_some(),
-        Wanted::Type => is_named(value, sql_type(text)),
-        Wanted::Dialect => is_named(value, dialect(text)),
-        Wanted::CallName => as_str(value).is_some() && is_call_name(text),
-        Wanted::SideKind => is_named(value, side_join(text)),
-        Wanted::Method => is_named(value, sample_method(text)),
-        Wanted::Portion => small(value).is_some(),
-        Wanted::Seed => medium(value).is_some(),
-        Wanted::PlaceNumber => place_number(value).is_some(),
-        Wanted::Number => as_i64(value).is_some(),
-        Wanted::Flag => as_bool(value).is_some(),
-        _ => false,
+fn is_dialect(value: &Value<'_>) -> bool
+    ensures { result ≡ is_word (λ s. is_some (dialect_of s)) (text_of (seen value.now)) }
+{
+    match as_str(value) {
+        Some(text) => dialect(text).is_some(),
+        None => false,
     }
 }
 
-/// Whether the value has the form of a declaration.
-fn is_declaration(alloc: Global, wanted: Wanted, value: &Value<'_>) -> Result<bool, AllocError> {
-    match wanted {
-        Wanted::Schema => found(schema(alloc, value)),
-        Wanted::Tables => found(is_each::<TableDecl>(alloc, value)),
-        Wanted::Table => found(TableDecl::decode(alloc, value)),
-        Wanted::Columns => found(is_each::<ColumnDecl>(alloc, value)),
-        Wanted::Column => found(ColumnDecl::decode(alloc, value)),
-        Wanted::Joinables => found(is_each::<JoinableDecl>(alloc, value)),
-        Wanted::Joinable => found(JoinableDecl::decode(alloc, value)),
-        Wanted::Pairs => found(is_each::<(SqlText, SqlText)>(alloc, value)),
-        Wanted::Pair => found(<(SqlText, SqlText)>::decode(alloc, value)),
-        Wanted::Names => found(is_each::<SqlText>(alloc, value)),
-        _ => Ok(is_scalar(wanted, value)),
+fn names_a_call(value: &Value<'_>) -> bool
+    ensures { result ≡ is_word names_call (text_of (seen value.now)) }
+{
+    match as_str(value) {
+        Some(text) => is_call_name(text),
+        None => false,
     }
 }
 
-/// Whether the value has the form of an expression or of a part of one.
-fn is_in_expr(alloc: Global, wanted: Wanted, json: &Value<'_>) -> Result<bool, AllocError> {
-    let bound = NESTING_BOUND;
-    match wanted {
-        Wanted::Expr => found(expr(alloc, json, bound)),
-        Wanted::Exprs => is_each_expr(alloc, json),
-        Wanted::ColumnName => found(column_name(alloc, json)),
-        Wanted::FieldName => found(field_name(alloc, json)),
-        Wanted::Bind => found(bind(alloc, json)),
-        Wanted::Operands => found(binary(
-            alloc,
-            BinaryOperator::Compare(Comparison::Eq),
-            json,
-            bound,
-        )),
-        Wanted::Choice => found(quantified(alloc, Quantified::EqAny, json, bound)),
-        Wanted::Membership => found(membership(alloc, json, bound)),
-        Wanted::Values => found(values(alloc, json)),
-        Wanted::Value(base) => found(value(alloc, base, json)),
-        Wanted::ValueList(base) => is_each_value(alloc, base, json),
-        Wanted::Items => is_each_item(alloc, json),
-        Wanted::Item => found(item(alloc, json, bound)),
-        Wanted::Places => found(is_each::<PositionalItem>(alloc, json)),
-        Wanted::Place => found(PositionalItem::decode(alloc, json)),
-        _ => is_declaration(alloc, wanted, json),
+fn is_side_kind(value: &Value<'_>) -> bool
+    ensures { result ≡ is_word (λ s. is_some (side_join_of s)) (text_of (seen value.now)) }
+{
+    match as_str(value) {
+        Some(text) => side_join(text).is_some(),
+        None => false,
     }
 }
 
-/// Whether the value has the form that is wanted.
+fn is_method(value: &Value<'_>) -> bool
+    ensures { result ≡ is_word (λ s. is_some (method_of s)) (text_of (seen value.now)) }
+{
+    match as_str(value) {
+        Some(text) => sample_method(text).is_some(),
+        None => false,
+    }
+}
+
+/// Returns whether the value has the form that is wanted, as `{"name":"id","type":"Integer"}` that of a Column; or out of memory.
 pub fn has_form(alloc: Global, wanted: Wanted, value: &Value<'_>) -> Result<bool, AllocError>
     ensures { IfOk result (λ b. b ≡ has_wanted_form wanted (seen value.now)) }
 {
     let bound = NESTING_BOUND;
+    let equal = BinaryOperator::Compare(Comparison::Eq);
     match wanted {
-        Wanted::Document => found(whole_document(alloc, value)),
+        Wanted::Document => found(whole(alloc, value)),
         Wanted::Guarded => found(whole_guarded(alloc, value)),
+        Wanted::Policed => found(whole_policed(alloc, value)),
         Wanted::Texts => found(whole_texts(alloc, value)),
         Wanted::Guard => found(guard_in(alloc, value)),
-        Wanted::Requests => is_each_request(alloc, value),
+        Wanted::Policies => found(policies(alloc, value)),
+        Wanted::Policy => found(one_policy(alloc, value)),
+        Wanted::Schema => found(schema(alloc, value)),
+        Wanted::Tables => found(each_of::<TableDecl>(alloc, value)),
+        Wanted::Table => found(TableDecl::decode(alloc, value)),
+        Wanted::Columns => found(each_of::<ColumnDecl>(alloc, value)),
+        Wanted::Column => found(ColumnDecl::decode(alloc, value)),
+        Wanted::Joinables => found(each_of::<JoinableDecl>(alloc, value)),
+        Wanted::Joinable => found(JoinableDecl::decode(alloc, value)),
+        Wanted::Pairs => found(each_of::<(SqlText, SqlText)>(alloc, value)),
+        Wanted::Pair => found(<(SqlText, SqlText)>::decode(alloc, value)),
+        Wanted::Name => Ok(as_str(value).is_some()),
+        Wanted::Names => found(each_of::<SqlText>(alloc, value)),
+        Wanted::Type => Ok(is_type(value)),
+        Wanted::Dialect => Ok(is_dialect(value)),
+        Wanted::Requests => found(requests(alloc, value)),
         Wanted::Request => found(one_request(alloc, value)),
         Wanted::Query => found(query(alloc, value, bound)),
-        Wanted::Calls(form) => are_calls(alloc, form, value),
+        Wanted::Calls => are_calls(alloc, value),
         Wanted::Call(form) => is_call(alloc, form, value),
+        Wanted::CallName => Ok(names_a_call(value)),
         Wanted::Source => found(source(alloc, value, bound)),
         Wanted::Sides => found(join(alloc, value, None, bound)),
+        Wanted::SideKind => Ok(is_side_kind(value)),
         Wanted::Sample => Ok(sample(value).is_some()),
-        _ => is_in_expr(alloc, wanted, value),
+        Wanted::Method => Ok(is_method(value)),
+        Wanted::Portion => Ok(small(value).is_some()),
+        Wanted::Seed => Ok(medium(value).is_some()),
+        Wanted::Flag => Ok(as_bool(value).is_some()),
+        Wanted::Expr => found(expr(alloc, value, bound)),
+        Wanted::Exprs => found(each_expr(alloc, value)),
+        Wanted::ColumnName => found(column_name(alloc, value)),
+        Wanted::FieldName => found(field_name(alloc, value)),
+        Wanted::Bind => found(bind(alloc, value)),
+        Wanted::Operands => found(binary(alloc, equal, value, bound)),
+        Wanted::Choice => found(quantified(alloc, Quantified::EqAny, value, bound)),
+        Wanted::Membership => found(membership(alloc, value, bound)),
+        Wanted::Values => found(values(alloc, value)),
+        Wanted::Value(base) => found(value_of_base(alloc, base, value)),
+        Wanted::ValueList(base) => found(value_list(alloc, base, value)),
+        Wanted::Items => found(each_item(alloc, value)),
+        Wanted::Item => found(item(alloc, value, bound)),
+        Wanted::Places => found(each_of::<PositionalItem>(alloc, value)),
+        Wanted::Place => found(PositionalItem::decode(alloc, value)),
+        Wanted::PlaceNumber => Ok(place_number(value).is_some()),
+        Wanted::Number => Ok(as_i64(value).is_some()),
     }
 }
