@@ -195,7 +195,11 @@ pub(crate) fn quantified(
 
 #[cycle(decode)]
 #[tactic(auto, unfolding(crate::specs::Queries::membership_of), using(sql_build_syntax::proofs::Trees::opens_membership))]
-pub(crate) fn membership(alloc: Global, value: &Value<'_>, depth: u32) -> Result<Membership, Refusal>
+pub(crate) fn membership(
+    alloc: Global,
+    value: &Value<'_>,
+    depth: u32,
+) -> Result<Membership, Refusal>
     ensures { Gives membership_tree result (membership_of (query_of depth) (seen value.now)) }
 {
     match get(value, "list") {

@@ -69,7 +69,11 @@ fn start(
 }
 
 #[cycle(decode)]
-pub(crate) fn calls(alloc: Global, value: Option<&Value<'_>>, depth: u32) -> Result<Vec<Call>, Refusal>
+pub(crate) fn calls(
+    alloc: Global,
+    value: Option<&Value<'_>>,
+    depth: u32,
+) -> Result<Vec<Call>, Refusal>
     ensures { Gives (λ v. map call_tree v.items) result
         (each_if_any (call_of depth) (option_map (λ v. seen v.now) value.entry)) }
 {

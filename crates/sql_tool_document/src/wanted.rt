@@ -189,8 +189,14 @@ pub fn is_call_name(name: &str) -> bool
     ensures { result ≡ names_call name.now }
 {
     match name {
-        "find" | "order" | "order_by" | "then_order_by" | "positional_order_by" | "limit"
-        | "offset" | "into_boxed" => true,
+        "find"
+        | "order"
+        | "order_by"
+        | "then_order_by"
+        | "positional_order_by"
+        | "limit"
+        | "offset"
+        | "into_boxed" => true,
         _ => {
             plain_call(name).is_some()
                 || clause_call(name).is_some()

@@ -1,8 +1,5 @@
--- Which value of a document is wrong, and where it stands.
+-- Steps to a value and their pointer; lines and columns.
 pub mod Steps
-pub mod Parts
-pub mod Places
-pub mod Known
 pub mod Positions
--- Devices of contracts inside the crate.
+-- A device of contracts inside the crate.
 pub mod inside

@@ -5,18 +5,25 @@ use Rattle.std.specs.Prelude.{ℕ, suc, List, [], ◌∷◌, ◌==◌, ◌&&◌,
 abbrev pub continues : ℕ → Bool
 continues c = nat_le 128 c && nat_lt c 192
 
--- the line after these bytes, from this line on
+-- the line after a byte that stands on this one
+abbrev pub line_step : ℕ → ℕ → ℕ
+line_step line c = if c == 10 then suc line else line
+
+-- the column after a byte that stands in this one
+abbrev pub column_step : ℕ → ℕ → ℕ
+column_step column c = if c == 10 then 1 else if continues c then column else suc column
+
 abbrev pub line_from : ℕ → List ℕ → ℕ
 line_from line [] = line
-line_from line (c ∷ cs) = if c == 10 then line_from (suc line) cs else line_from line cs
-
-abbrev pub line_after : List ℕ → ℕ
-line_after bytes = line_from 1 bytes
+line_from line (c ∷ cs) = line_from (line_step line c) cs
 
 abbrev pub column_from : ℕ → List ℕ → ℕ
 column_from column [] = column
-column_from column (c ∷ cs) =
-    if c == 10 then column_from 1 cs else if continues c then column_from column cs else column_from (suc column) cs
+column_from column (c ∷ cs) = column_from (column_step column c) cs
+
+-- the line of what follows these bytes
+abbrev pub line_after : List ℕ → ℕ
+line_after bytes = line_from 1 bytes
 
 abbrev pub column_after : List ℕ → ℕ
 column_after bytes = column_from 1 bytes
