@@ -1,5 +1,5 @@
 -- Which parts a value has in which something is wanted, and what is wanted of each: the forms of `docs/DOCUMENT.md`, a line for each.
-use Rattle.std.specs.Prelude.{ℕ, zero, suc, List, [], ◌∷◌, ◌++◌, Bool, true, false, codes, Option, Some, None, is_some, if◌then◌else◌}
+use Rattle.std.specs.Prelude.{ℕ, ◌+◌, List, [], ◌∷◌, ◌++◌, Bool, true, false, ◌||◌, codes, Option, Some, None, is_some, if◌then◌else◌}
 use Rattle.std.specs.Str.{bytes_eq}
 use Rattle.serde_json.specs.Data.{Data, Items, null, boolean, number, string, array, object, no_items, item}
 use Rattle.serde_json.specs.Find.{get, at, as_str}
@@ -7,7 +7,7 @@ use Rattle.sql_build_syntax.specs.declared.form.Form.{Form}
 use Rattle.sql_build_syntax.specs.declared.form.Form.TheVariants as form
 use Rattle.sql_schema.specs.declared.types.SqlType.{SqlType}
 use Rattle.sql_tool_document.specs.Members.{has, only_member}
-use Rattle.sql_tool_document.specs.Names.{type_of, unary_of, binary_of, quantified_of, direction_of, plain_of, clause_of, join_of, combination_of}
+use Rattle.sql_tool_document.specs.Names.{type_of, unary_of, binary_of, quantified_of, direction_of, clause_of, join_of, combination_of}
 use Rattle.sql_tool_document.specs.Scalar.{◌>>=◌}
 use Rattle.sql_tool_document.specs.declared.wanted.Wanted.{Wanted}
 use Rattle.sql_tool_document.specs.declared.wanted.Wanted.TheVariants as wanted
@@ -33,7 +33,7 @@ item_part n w d = found_at (index n) w (at n d)
 
 abbrev pub each_from : ℕ → Wanted → Items → List Part
 each_from n w no_items = []
-each_from n w (item d ds) = record { step = index n; wants = w; value = d } ∷ each_from (suc n) w ds
+each_from n w (item d ds) = record { step = index n; wants = w; value = d } ∷ each_from (n + 1) w ds
 
 -- all items of an array
 abbrev pub each_part : Wanted → Data → List Part
@@ -44,57 +44,67 @@ each_part w (string s) = []
 each_part w (array ds) = each_from 0 w ds
 each_part w (object ms) = []
 
--- so many items at the head of an array
-abbrev pub first_parts : ℕ → Wanted → Data → List Part
-first_parts zero w d = []
-first_parts (suc n) w d = first_parts n w d ++ item_part n w d
+-- the first two items
+abbrev pub two_parts : Wanted → Wanted → Data → List Part
+two_parts v w d = item_part 0 v d ++ item_part 1 w d
+
+abbrev pub three_parts : Wanted → Wanted → Wanted → Data → List Part
+three_parts u v w d = two_parts u v d ++ item_part 2 w d
 
 -- ---- calls
 
--- the name of a call
+-- the name of a call, or of a type before its value
 abbrev pub name_of : Data → Option (List ℕ)
 name_of d = at 0 d >>= as_str
 
+-- the form of a query after a call of that name
 abbrev pub form_after_name : Form → Option (List ℕ) → Form
 form_after_name f None = f
 form_after_name f (Some name) =
-    if bytes_eq name (codes "into_boxed") then form.Boxed else if is_some (combination_of name) then form.Combination else f
+    if bytes_eq name (codes "into_boxed") then form.Boxed
+    else if is_some (combination_of name) then form.Combination
+    else f
 
 -- each call, on the form that the calls before it give
 abbrev pub calls_from : ℕ → Form → Items → List Part
 calls_from n f no_items = []
 calls_from n f (item d ds) =
-    record { step = index n; wants = wanted.Call f; value = d } ∷ calls_from (suc n) (form_after_name f (name_of d)) ds
+    record { step = index n; wants = wanted.Call f; value = d } ∷ calls_from (n + 1) (form_after_name f (name_of d)) ds
 
-abbrev pub call_parts : Form → Data → List Part
-call_parts f null = []
-call_parts f (boolean b) = []
-call_parts f (number n) = []
-call_parts f (string s) = []
-call_parts f (array ds) = calls_from 0 f ds
-call_parts f (object ms) = []
+abbrev pub call_parts : Data → List Part
+call_parts null = []
+call_parts (boolean b) = []
+call_parts (number n) = []
+call_parts (string s) = []
+call_parts (array ds) = calls_from 0 form.Select ds
+call_parts (object ms) = []
 
 abbrev pub is_order : List ℕ → Bool
 is_order name =
-    if bytes_eq name (codes "order") then true else if bytes_eq name (codes "order_by") then true
-    else bytes_eq name (codes "then_order_by")
+    bytes_eq name (codes "order") || bytes_eq name (codes "order_by") || bytes_eq name (codes "then_order_by")
 
-abbrev pub is_number_call : List ℕ → Bool
-is_number_call name = if bytes_eq name (codes "limit") then true else bytes_eq name (codes "offset")
+-- what the one argument of a call of that name is
+abbrev pub argument_of : List ℕ → Option Wanted
+argument_of name =
+    if is_some (clause_of name) then Some wanted.Expr
+    else if is_some (join_of name) then Some wanted.Source
+    else if is_some (combination_of name) then Some wanted.Query
+    else if bytes_eq name (codes "into_boxed") then Some wanted.Dialect
+    else if bytes_eq name (codes "limit") || bytes_eq name (codes "offset") then Some wanted.Number
+    else if bytes_eq name (codes "find") then Some wanted.Exprs
+    else if is_order name then Some wanted.Items
+    else if bytes_eq name (codes "positional_order_by") then Some wanted.Places
+    else None
 
--- what a call of that name takes
+abbrev pub first_argument : Option Wanted → Data → List Part
+first_argument None d = []
+first_argument (Some w) d = item_part 1 w d
+
+-- what a call of that name takes: of a join also the condition
 abbrev pub argument_parts : Option (List ℕ) → Data → List Part
 argument_parts None d = []
 argument_parts (Some name) d =
-    if is_some (clause_of name) then item_part 1 wanted.Expr d
-    else if is_some (join_of name) then item_part 1 wanted.Source d ++ item_part 2 wanted.Expr d
-    else if is_some (combination_of name) then item_part 1 wanted.Query d
-    else if bytes_eq name (codes "into_boxed") then item_part 1 wanted.Dialect d
-    else if is_number_call name then item_part 1 wanted.Number d
-    else if bytes_eq name (codes "find") then item_part 1 wanted.Exprs d
-    else if is_order name then item_part 1 wanted.Items d
-    else if bytes_eq name (codes "positional_order_by") then item_part 1 wanted.Places d
-    else []
+    first_argument (argument_of name) d ++ (if is_some (join_of name) then item_part 2 wanted.Expr d else [])
 
 -- ---- expressions
 
@@ -104,8 +114,7 @@ operand_of name =
     if bytes_eq name (codes "col") then Some wanted.ColumnName
     else if bytes_eq name (codes "field") then Some wanted.FieldName
     else if bytes_eq name (codes "bind") then Some wanted.Bind
-    else if bytes_eq name (codes "exists") then Some wanted.Query
-    else if bytes_eq name (codes "single_value") then Some wanted.Query
+    else if bytes_eq name (codes "exists") || bytes_eq name (codes "single_value") then Some wanted.Query
     else if is_some (unary_of name) then Some wanted.Expr
     else if is_some (binary_of name) then Some wanted.Operands
     else if is_some (quantified_of name) then Some wanted.Choice
@@ -125,8 +134,7 @@ expr_parts d = each_part wanted.Expr d ++ only_part (only_member d)
 -- what follows a direction, else what there is without one
 abbrev pub directed_parts : Wanted → List Part → Option (List ℕ × Data) → List Part
 directed_parts w others None = others
-directed_parts w others (Some m) =
-    if is_some (direction_of m.0) then record { step = key m.0; wants = w; value = m.1 } ∷ [] else others
+directed_parts w others (Some m) = if is_some (direction_of m.0) then operand_part m (Some w) else others
 
 -- what is wanted after a type
 abbrev pub typed_parts : Bool → Option SqlType → Data → List Part
@@ -151,18 +159,22 @@ source_parts a b c d = []
 abbrev pub query_parts : Data → List Part
 query_parts d =
     member_part (codes "from") wanted.Source d ++ member_part (codes "select") wanted.Expr d
-    ++ member_part (codes "calls") (wanted.Calls form.Select) d
+    ++ member_part (codes "calls") wanted.Calls d
 
 -- ---- all
 
+abbrev pub document_parts : Data → List Part
+document_parts d = member_part (codes "schema") wanted.Schema d ++ member_part (codes "requests") wanted.Requests d
+
 -- the parts of a value of which this is wanted
 abbrev pub parts : Wanted → Data → List Part
-parts wanted.Document d = member_part (codes "schema") wanted.Schema d ++ member_part (codes "requests") wanted.Requests d
-parts wanted.Guarded d =
-    member_part (codes "schema") wanted.Schema d ++ member_part (codes "requests") wanted.Requests d
-    ++ member_part (codes "guard") wanted.Guard d
+parts wanted.Document d = document_parts d
+parts wanted.Guarded d = document_parts d ++ member_part (codes "guard") wanted.Guard d
+parts wanted.Policed d = document_parts d ++ member_part (codes "tenant") wanted.Policies d
 parts wanted.Texts d = member_part (codes "schema") wanted.Schema d ++ member_part (codes "texts") wanted.Names d
 parts wanted.Guard d = member_part (codes "table") wanted.Name d ++ member_part (codes "predicate") wanted.Expr d
+parts wanted.Policies d = each_part wanted.Policy d
+parts wanted.Policy d = member_part (codes "table") wanted.Name d ++ member_part (codes "predicate") wanted.Expr d
 parts wanted.Schema d =
     member_part (codes "tables") wanted.Tables d ++ member_part (codes "joinable") wanted.Joinables d
     ++ member_part (codes "together") wanted.Pairs d
@@ -180,40 +192,40 @@ parts wanted.Joinable d =
     member_part (codes "child") wanted.Name d ++ member_part (codes "key") wanted.Name d
     ++ member_part (codes "parent") wanted.Name d
 parts wanted.Pairs d = each_part wanted.Pair d
-parts wanted.Pair d = first_parts 2 wanted.Name d
+parts wanted.Pair d = two_parts wanted.Name wanted.Name d
+parts wanted.Name d = []
 parts wanted.Names d = each_part wanted.Name d
+parts wanted.Type d = []
+parts wanted.Dialect d = []
 parts wanted.Requests d = each_part wanted.Request d
 parts wanted.Request d = member_part (codes "dialect") wanted.Dialect d ++ member_part (codes "query") wanted.Query d
 parts wanted.Query d = query_parts d
-parts (wanted.Calls f) d = call_parts f d
+parts wanted.Calls d = call_parts d
 parts (wanted.Call f) d = item_part 0 wanted.CallName d ++ argument_parts (name_of d) d
+parts wanted.CallName d = []
 parts wanted.Source d = source_parts (has (codes "table") d) (has (codes "alias") d) (has (codes "join") d) d
-parts wanted.Sides d = item_part 0 wanted.SideKind d ++ item_part 1 wanted.Source d ++ item_part 2 wanted.Source d
-parts wanted.Sample d = item_part 0 wanted.Method d ++ item_part 1 wanted.Portion d ++ item_part 2 wanted.Seed d
+parts wanted.Sides d = three_parts wanted.SideKind wanted.Source wanted.Source d
+parts wanted.SideKind d = []
+parts wanted.Sample d = three_parts wanted.Method wanted.Portion wanted.Seed d
+parts wanted.Method d = []
+parts wanted.Portion d = []
+parts wanted.Seed d = []
+parts wanted.Flag d = []
 parts wanted.Expr d = expr_parts d
 parts wanted.Exprs d = each_part wanted.Expr d
-parts wanted.ColumnName d = first_parts 2 wanted.Name d
-parts wanted.FieldName d = first_parts 3 wanted.Name d
+parts wanted.ColumnName d = two_parts wanted.Name wanted.Name d
+parts wanted.FieldName d = three_parts wanted.Name wanted.Name wanted.Name d
 parts wanted.Bind d = with_type false d
-parts wanted.Values d = with_type true d
-parts wanted.Operands d = first_parts 2 wanted.Expr d
-parts wanted.Choice d = item_part 0 wanted.Expr d ++ item_part 1 wanted.Membership d
+parts wanted.Operands d = two_parts wanted.Expr wanted.Expr d
+parts wanted.Choice d = two_parts wanted.Expr wanted.Membership d
 parts wanted.Membership d =
     if has (codes "list") d then member_part (codes "list") wanted.Values d else query_parts d
+parts wanted.Values d = with_type true d
+parts (wanted.Value b) d = []
 parts (wanted.ValueList b) d = each_part (wanted.Value b) d
 parts wanted.Items d = each_part wanted.Item d
 parts wanted.Item d = directed_parts wanted.Expr (expr_parts d) (only_member d)
 parts wanted.Places d = each_part wanted.Place d
 parts wanted.Place d = directed_parts wanted.PlaceNumber [] (only_member d)
-parts wanted.Name d = []
-parts wanted.Type d = []
-parts wanted.Dialect d = []
-parts wanted.CallName d = []
-parts wanted.SideKind d = []
-parts wanted.Method d = []
-parts wanted.Portion d = []
-parts wanted.Seed d = []
-parts wanted.Flag d = []
-parts (wanted.Value b) d = []
 parts wanted.PlaceNumber d = []
 parts wanted.Number d = []
