@@ -1,4 +1,5 @@
--- That no value with a wrong place has its form.
-mod Lifting
-mod Arrays
-mod Objects
+-- Parts one after the other, as loops find them.
+mod Each
+-- Steps to a part, and how deep it nests.
+mod Steps
+mod Depth

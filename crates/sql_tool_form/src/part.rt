@@ -1,17 +1,22 @@
 //! Which values in a value are wanted, and what is wanted of each.
+#![tactic(auto)]
 
-ghost use Rattle.std.specs.Prelude.{◌≡◌, IfOk, map};
+ghost use Rattle.std.specs.Prelude.{◌≡◌, IfOk, OnOk, option_and_then};
+ghost use Rattle.sql_tool_document.specs.Members.{has as has_member, only_member as sole_member};
+ghost use Rattle.sql_tool_document.specs.Names.{type_of};
 ghost use Rattle.sql_tool_document.specs.inside.Seen.{seen};
-ghost use Rattle.sql_tool_place.specs.Parts.{parts as parts_of};
-ghost use Rattle.sql_tool_place.specs.inside.Texts.{part_of};
+ghost use Rattle.sql_tool_form.specs.Parts as p;
+ghost use Rattle.sql_tool_form.specs.inside.Texts.{Adds, parts_seen};
+ghost use Rattle.std.specs.Prelude.{codes};
 
-use crate::step::Step;
+use crate::push::{push_calls, push_each, push_item, push_member, push_part};
 use json::Value;
-use sql_build_syntax::{Form, UnaryOperator};
+use sql_schema::SqlType;
 use sql_tool_document::{
-    Wanted, binary_operator, clause_call, combination, direction, join_kind, quantified_operator,
-    sql_type, unary_operator,
+    Wanted, binary_operator, clause_call, combination, direction, has, join_kind, only_member,
+    quantified_operator, sql_type, text_item, unary_operator,
 };
+use sql_tool_place::Step;
 use std::alloc::{AllocError, Global};
 
 /// A value in a value: the step to it, and what is wanted there.
@@ -22,349 +27,435 @@ pub struct Part<'v, 'a> {
     pub value: &'v Value<'a>,
 }
 
-/// Whether there is such a member.
-pub(crate) fn has(value: &Value<'_>, name: &str) -> bool {
-    value.get(name).is_some()
+// Calls.
+
+/// What the one argument of a call of that name is.
+fn argument(name: &str) -> Option<Wanted>
+    ensures { result ≡ p.argument_of name.now }
+{
+    if clause_call(name).is_some() {
+        return Some(Wanted::Expr);
+    }
+    if join_kind(name).is_some() {
+        return Some(Wanted::Source);
+    }
+    if combination(name).is_some() {
+        return Some(Wanted::Query);
+    }
+    match name {
+        "into_boxed" => Some(Wanted::Dialect),
+        "limit" | "offset" => Some(Wanted::Number),
+        "find" => Some(Wanted::Exprs),
+        "order" | "order_by" | "then_order_by" => Some(Wanted::Items),
+        "positional_order_by" => Some(Wanted::Places),
+        _ => None,
+    }
 }
 
-/// The parts that have been found in a value.
-#[derive(Drop)]
-struct Found<'v, 'a> {
+fn push_argument<'v, 'a>(
+    parts: &mut Vec<Part<'v, 'a>>,
     value: &'v Value<'a>,
-    parts: Vec<Part<'v, 'a>>,
-}
-
-impl<'v, 'a> Found<'v, 'a> {
-    /// The member of that name, where there is one.
-    fn member(&mut self, name: &'a str, wanted: Wanted) -> Result<(), AllocError> {
-        if let Some(value) = self.value.get(name) {
-            let step = Step::Key(name);
-            self.parts.push(Part {
-                step,
-                wanted,
-                value,
-            })?;
-        }
-        Ok(())
-    }
-
-    /// The item at that index, where there is one.
-    fn item(&mut self, index: usize, wanted: Wanted) -> Result<(), AllocError> {
-        if let Some(value) = self.value.at(index) {
-            let step = Step::Index(index);
-            self.parts.push(Part {
-                step,
-                wanted,
-                value,
-            })?;
-        }
-        Ok(())
-    }
-
-    /// All items of an array.
-    fn each(&mut self, wanted: Wanted) -> Result<(), AllocError> {
-        if let Value::Array(items) = self.value {
-            for (index, value) in items.iter().enumerate() {
-                let step = Step::Index(index);
-                self.parts.push(Part {
-                    step,
-                    wanted,
-                    value,
-                })?;
-            }
-        }
-        Ok(())
-    }
-
-    /// The items of an array of calls, each on the form that the calls before it give.
-    fn calls(&mut self, form: Form) -> Result<(), AllocError> {
-        let mut form = form;
-        if let Value::Array(items) = self.value {
-            for (index, value) in items.iter().enumerate() {
-                let step = Step::Index(index);
-                let wanted = Wanted::Call(form);
-                self.parts.push(Part {
-                    step,
-                    wanted,
-                    value,
-                })?;
-                form = form_after(form, value);
-            }
-        }
-        Ok(())
-    }
-
-    /// The members of a source, by which kind of one it is.
-    fn source(&mut self) -> Result<(), AllocError> {
-        let value = self.value;
-        match (has(value, "table"), has(value, "alias"), has(value, "join")) {
-            (true, false, false) => {
-                self.member("table", Wanted::Name)?;
-                self.member("only", Wanted::Flag)?;
-                self.member("sample", Wanted::Sample)
-            }
-            (false, true, false) => {
-                self.member("alias", Wanted::Name)?;
-                self.member("of", Wanted::Name)
-            }
-            (false, false, true) => {
-                self.member("join", Wanted::Sides)?;
-                self.member("on", Wanted::Expr)
-            }
-            _ => Ok(()),
-        }
-    }
-
-    fn query(&mut self) -> Result<(), AllocError> {
-        self.member("from", Wanted::Source)?;
-        self.member("select", Wanted::Expr)?;
-        self.member("calls", Wanted::Calls(Form::Select))
-    }
-
-    /// A type, and the value or the array of values that is wanted where it is one.
-    fn typed(&mut self, is_list: bool) -> Result<(), AllocError> {
-        self.item(0, Wanted::Type)?;
-        match sql_type(text_at(self.value, 0)) {
-            Some(ty) if is_list => self.item(1, Wanted::ValueList(ty.base)),
-            Some(ty) => self.item(1, Wanted::Value(ty.base)),
-            None => Ok(()),
-        }
-    }
-
-    /// The items of an array of expressions, or what the one member of an object has.
-    fn expr(&mut self) -> Result<(), AllocError> {
-        self.each(Wanted::Expr)?;
-        match only_name(self.value) {
-            Some(name) => match operand(name) {
-                Some(wanted) => self.member(name, wanted),
-                None => Ok(()),
-            },
-            None => Ok(()),
-        }
-    }
-
-    /// What follows a direction, else what the value itself has.
-    fn item_of_order(&mut self) -> Result<(), AllocError> {
-        match only_name(self.value) {
-            Some(name) if direction(name).is_some() => self.member(name, Wanted::Expr),
-            _ => self.expr(),
-        }
-    }
-
-    fn place(&mut self) -> Result<(), AllocError> {
-        match only_name(self.value) {
-            Some(name) if direction(name).is_some() => self.member(name, Wanted::PlaceNumber),
-            _ => Ok(()),
-        }
-    }
-
-    /// The arguments of a call of that name.
-    fn arguments(&mut self, name: &str) -> Result<(), AllocError> {
-        if clause_call(name).is_some() {
-            return self.item(1, Wanted::Expr);
-        }
-        if join_kind(name).is_some() {
-            self.item(1, Wanted::Source)?;
-            return self.item(2, Wanted::Expr);
-        }
-        if combination(name).is_some() {
-            return self.item(1, Wanted::Query);
-        }
-        match name {
-            "into_boxed" => self.item(1, Wanted::Dialect),
-            "limit" | "offset" => self.item(1, Wanted::Number),
-            "find" => self.item(1, Wanted::Exprs),
-            "order" | "order_by" | "then_order_by" => self.item(1, Wanted::Items),
-            "positional_order_by" => self.item(1, Wanted::Places),
-            _ => Ok(()),
-        }
-    }
-
-    fn call(&mut self) -> Result<(), AllocError> {
-        self.item(0, Wanted::CallName)?;
-        self.arguments(text_at(self.value, 0))
-    }
-
-    fn declarations(&mut self, wanted: Wanted) -> Result<(), AllocError> {
-        match wanted {
-            Wanted::Schema => {
-                self.member("tables", Wanted::Tables)?;
-                self.member("joinable", Wanted::Joinables)?;
-                self.member("together", Wanted::Pairs)
-            }
-            Wanted::Table => {
-                self.member("name", Wanted::Name)?;
-                self.member("sql_name", Wanted::Name)?;
-                self.member("schema", Wanted::Name)?;
-                self.member("primary_key", Wanted::Names)?;
-                self.member("columns", Wanted::Columns)
-            }
-            Wanted::Column => {
-                self.member("name", Wanted::Name)?;
-                self.member("sql_name", Wanted::Name)?;
-                self.member("type", Wanted::Type)
-            }
-            Wanted::Joinable => {
-                self.member("child", Wanted::Name)?;
-                self.member("key", Wanted::Name)?;
-                self.member("parent", Wanted::Name)
-            }
-            Wanted::Pair => self.names(2),
-            Wanted::Tables => self.each(Wanted::Table),
-            Wanted::Columns => self.each(Wanted::Column),
-            Wanted::Joinables => self.each(Wanted::Joinable),
-            Wanted::Pairs => self.each(Wanted::Pair),
-            Wanted::Names => self.each(Wanted::Name),
-            _ => Ok(()),
-        }
-    }
-
-    /// So many names at the head of an array.
-    fn names(&mut self, count: usize) -> Result<(), AllocError> {
-        for index in 0..count {
-            self.item(index, Wanted::Name)?;
-        }
-        Ok(())
-    }
-
-    fn in_expr(&mut self, wanted: Wanted) -> Result<(), AllocError> {
-        match wanted {
-            Wanted::Expr => self.expr(),
-            Wanted::Exprs => self.each(Wanted::Expr),
-            Wanted::ColumnName => self.names(2),
-            Wanted::FieldName => self.names(3),
-            Wanted::Bind => self.typed(false),
-            Wanted::Values => self.typed(true),
-            Wanted::ValueList(base) => self.each(Wanted::Value(base)),
-            Wanted::Operands => {
-                self.item(0, Wanted::Expr)?;
-                self.item(1, Wanted::Expr)
-            }
-            Wanted::Choice => {
-                self.item(0, Wanted::Expr)?;
-                self.item(1, Wanted::Membership)
-            }
-            Wanted::Membership => {
-                if has(self.value, "list") {
-                    self.member("list", Wanted::Values)
-                } else {
-                    self.query()
-                }
-            }
-            Wanted::Items => self.each(Wanted::Item),
-            Wanted::Item => self.item_of_order(),
-            Wanted::Places => self.each(Wanted::Place),
-            Wanted::Place => self.place(),
-            _ => self.declarations(wanted),
-        }
-    }
-
-    fn all(&mut self, wanted: Wanted) -> Result<(), AllocError> {
-        match wanted {
-            Wanted::Document => {
-                self.member("schema", Wanted::Schema)?;
-                self.member("requests", Wanted::Requests)
-            }
-            Wanted::Guarded => {
-                self.member("schema", Wanted::Schema)?;
-                self.member("requests", Wanted::Requests)?;
-                self.member("guard", Wanted::Guard)
-            }
-            Wanted::Texts => {
-                self.member("schema", Wanted::Schema)?;
-                self.member("texts", Wanted::Names)
-            }
-            Wanted::Guard => {
-                self.member("table", Wanted::Name)?;
-                self.member("predicate", Wanted::Expr)
-            }
-            Wanted::Requests => self.each(Wanted::Request),
-            Wanted::Request => {
-                self.member("dialect", Wanted::Dialect)?;
-                self.member("query", Wanted::Query)
-            }
-            Wanted::Query => self.query(),
-            Wanted::Calls(form) => self.calls(form),
-            Wanted::Call(_) => self.call(),
-            Wanted::Source => self.source(),
-            Wanted::Sides => {
-                self.item(0, Wanted::SideKind)?;
-                self.item(1, Wanted::Source)?;
-                self.item(2, Wanted::Source)
-            }
-            Wanted::Sample => {
-                self.item(0, Wanted::Method)?;
-                self.item(1, Wanted::Portion)?;
-                self.item(2, Wanted::Seed)
-            }
-            _ => self.in_expr(wanted),
-        }
+    wanted: Option<Wanted>,
+) -> Result<(), AllocError>
+    ensures { OnOk result (Adds parts.old.items parts.new.items
+        (p.first_argument wanted (seen value.now))) }
+{
+    match wanted {
+        Some(wanted) => push_item(parts, value, 1, wanted),
+        None => Ok(()),
     }
 }
 
-/// The text at that index of an array, else none.
-fn text_at<'a>(value: &Value<'a>, index: usize) -> &'a str {
-    match value.at(index) {
-        Some(item) => item.as_str().unwrap_or(""),
-        None => "",
-    }
-}
-
-/// The name of the one member of an object, also where it comes twice.
-pub(crate) fn only_name<'a>(value: &Value<'a>) -> Option<&'a str> {
-    let Value::Object(members) = value else {
-        return None;
-    };
-    let (first, rest) = members.as_slice().split_first()?;
-    for member in rest {
-        if member.0 != first.0 {
-            return None;
-        }
-    }
-    Some(first.0)
-}
-
-/// The form of a query after a call, by the call's name.
-fn form_after(form: Form, call: &Value<'_>) -> Form {
-    let name = text_at(call, 0);
-    if name == "into_boxed" {
-        Form::Boxed
-    } else if combination(name).is_some() {
-        Form::Combination
+fn push_condition<'v, 'a>(
+    parts: &mut Vec<Part<'v, 'a>>,
+    value: &'v Value<'a>,
+    name: &str,
+) -> Result<(), AllocError>
+    ensures { OnOk result (Adds parts.old.items parts.new.items
+        (p.condition_parts name.now (seen value.now))) }
+{
+    if join_kind(name).is_some() {
+        push_item(parts, value, 2, Wanted::Expr)
     } else {
-        form
+        Ok(())
     }
 }
+
+fn push_call<'v, 'a>(parts: &mut Vec<Part<'v, 'a>>, value: &'v Value<'a>) -> Result<(), AllocError>
+    ensures { OnOk result (Adds parts.old.items parts.new.items (p.call_parts (seen value.now))) }
+{
+    push_item(parts, value, 0, Wanted::CallName)?;
+    match text_item(value, 0) {
+        Some(name) => {
+            push_argument(parts, value, argument(name))?;
+            push_condition(parts, value, name)
+        }
+        None => Ok(()),
+    }
+}
+
+// Expressions.
 
 /// What is wanted under the one member of an expression, by the member's name.
-fn operand(name: &str) -> Option<Wanted> {
+fn operand(name: &str) -> Option<Wanted>
+    ensures { result ≡ p.operand_of name.now }
+{
     match name {
-        "col" => Some(Wanted::ColumnName),
-        "field" => Some(Wanted::FieldName),
-        "bind" => Some(Wanted::Bind),
-        "exists" | "single_value" => Some(Wanted::Query),
-        name => match unary_operator(name) {
-            Some(UnaryOperator::Condition(_) | UnaryOperator::Nullable | UnaryOperator::Count) => {
-                Some(Wanted::Expr)
-            }
-            None if binary_operator(name).is_some() => Some(Wanted::Operands),
-            None if quantified_operator(name).is_some() => Some(Wanted::Choice),
-            None => None,
-        },
+        "col" => return Some(Wanted::ColumnName),
+        "field" => return Some(Wanted::FieldName),
+        "bind" => return Some(Wanted::Bind),
+        "exists" | "single_value" => return Some(Wanted::Query),
+        _ => {}
+    }
+    if unary_operator(name).is_some() {
+        Some(Wanted::Expr)
+    } else if binary_operator(name).is_some() {
+        Some(Wanted::Operands)
+    } else if quantified_operator(name).is_some() {
+        Some(Wanted::Choice)
+    } else {
+        None
     }
 }
 
-/// The parts of a value in which something is wanted: the step to each, what is wanted there, and what stands there.
+fn push_operand<'v, 'a>(
+    parts: &mut Vec<Part<'v, 'a>>,
+    value: &'v Value<'a>,
+) -> Result<(), AllocError>
+    ensures { OnOk result (Adds parts.old.items parts.new.items
+        (p.only_part (sole_member (seen value.now)))) }
+{
+    match only_member(value) {
+        Some((name, inner)) => match operand(name) {
+            Some(wanted) => push_part(parts, Step::Key(name), wanted, Some(inner)),
+            None => Ok(()),
+        },
+        None => Ok(()),
+    }
+}
+
+/// The items of an array of expressions, or what the one member of an object has.
+fn push_expr<'v, 'a>(parts: &mut Vec<Part<'v, 'a>>, value: &'v Value<'a>) -> Result<(), AllocError>
+    ensures { OnOk result (Adds parts.old.items parts.new.items (p.expr_parts (seen value.now))) }
+{
+    push_each(parts, value, Wanted::Expr)?;
+    push_operand(parts, value)
+}
+
+/// What follows a direction, else what the expression itself has.
+fn push_order_item<'v, 'a>(
+    parts: &mut Vec<Part<'v, 'a>>,
+    value: &'v Value<'a>,
+) -> Result<(), AllocError>
+    ensures { OnOk result (Adds parts.old.items parts.new.items (p.order_parts (seen value.now))) }
+{
+    match only_member(value) {
+        Some((name, inner)) => {
+            if direction(name).is_some() {
+                push_part(parts, Step::Key(name), Wanted::Expr, Some(inner))
+            } else {
+                push_expr(parts, value)
+            }
+        }
+        None => push_expr(parts, value),
+    }
+}
+
+fn push_place<'v, 'a>(parts: &mut Vec<Part<'v, 'a>>, value: &'v Value<'a>) -> Result<(), AllocError>
+    ensures { OnOk result (Adds parts.old.items parts.new.items (p.place_parts (seen value.now))) }
+{
+    match only_member(value) {
+        Some((name, inner)) => {
+            if direction(name).is_some() {
+                push_part(parts, Step::Key(name), Wanted::PlaceNumber, Some(inner))
+            } else {
+                Ok(())
+            }
+        }
+        None => Ok(()),
+    }
+}
+
+/// The type that stands before its value.
+fn type_before(value: &Value<'_>) -> Option<SqlType>
+    ensures { result ≡ option_and_then type_of (p.name_of (seen value.now)) }
+{
+    sql_type(text_item(value, 0)?)
+}
+
+/// A type, and the value or the array of values that is wanted where it is one.
+fn push_typed<'v, 'a>(
+    parts: &mut Vec<Part<'v, 'a>>,
+    value: &'v Value<'a>,
+    is_list: bool,
+) -> Result<(), AllocError>
+    ensures { OnOk result (Adds parts.old.items parts.new.items
+        (p.with_type is_list (seen value.now))) }
+{
+    push_item(parts, value, 0, Wanted::Type)?;
+    match type_before(value) {
+        Some(ty) => {
+            if is_list {
+                push_item(parts, value, 1, Wanted::ValueList(ty.base))
+            } else {
+                push_item(parts, value, 1, Wanted::Value(ty.base))
+            }
+        }
+        None => Ok(()),
+    }
+}
+
+fn push_two<'v, 'a>(
+    parts: &mut Vec<Part<'v, 'a>>,
+    value: &'v Value<'a>,
+    first: Wanted,
+    second: Wanted,
+) -> Result<(), AllocError>
+    ensures { OnOk result (Adds parts.old.items parts.new.items
+        (p.two_parts first second (seen value.now))) }
+{
+    push_item(parts, value, 0, first)?;
+    push_item(parts, value, 1, second)
+}
+
+fn push_three<'v, 'a>(
+    parts: &mut Vec<Part<'v, 'a>>,
+    value: &'v Value<'a>,
+    first: Wanted,
+    second: Wanted,
+    third: Wanted,
+) -> Result<(), AllocError>
+    ensures { OnOk result (Adds parts.old.items parts.new.items
+        (p.three_parts first second third (seen value.now))) }
+{
+    push_two(parts, value, first, second)?;
+    push_item(parts, value, 2, third)
+}
+
+// Sources and queries.
+
+fn push_table<'v, 'a>(parts: &mut Vec<Part<'v, 'a>>, value: &'v Value<'a>) -> Result<(), AllocError>
+    ensures { OnOk result (Adds parts.old.items parts.new.items
+        (p.table_name_parts (seen value.now))) }
+{
+    push_member(parts, value, "table", Wanted::Name)?;
+    push_member(parts, value, "only", Wanted::Flag)?;
+    push_member(parts, value, "sample", Wanted::Sample)
+}
+
+fn push_alias<'v, 'a>(parts: &mut Vec<Part<'v, 'a>>, value: &'v Value<'a>) -> Result<(), AllocError>
+    ensures { OnOk result (Adds parts.old.items parts.new.items (p.alias_parts (seen value.now))) }
+{
+    push_member(parts, value, "alias", Wanted::Name)?;
+    push_member(parts, value, "of", Wanted::Name)
+}
+
+fn push_join<'v, 'a>(parts: &mut Vec<Part<'v, 'a>>, value: &'v Value<'a>) -> Result<(), AllocError>
+    ensures { OnOk result (Adds parts.old.items parts.new.items (p.join_parts (seen value.now))) }
+{
+    push_member(parts, value, "join", Wanted::Sides)?;
+    push_member(parts, value, "on", Wanted::Expr)
+}
+
+/// The members of a source, by which kind of one it is.
+fn push_source<'v, 'a>(
+    parts: &mut Vec<Part<'v, 'a>>,
+    value: &'v Value<'a>,
+) -> Result<(), AllocError>
+    ensures { OnOk result (Adds parts.old.items parts.new.items
+        (p.source_parts (has_member (codes "table") (seen value.now))
+        (has_member (codes "alias") (seen value.now)) (has_member (codes "join") (seen value.now))
+        (seen value.now))) }
+{
+    match (has(value, "table"), has(value, "alias"), has(value, "join")) {
+        (true, false, false) => push_table(parts, value),
+        (false, true, false) => push_alias(parts, value),
+        (false, false, true) => push_join(parts, value),
+        _ => Ok(()),
+    }
+}
+
+fn push_query<'v, 'a>(parts: &mut Vec<Part<'v, 'a>>, value: &'v Value<'a>) -> Result<(), AllocError>
+    ensures { OnOk result (Adds parts.old.items parts.new.items (p.query_parts (seen value.now))) }
+{
+    push_member(parts, value, "from", Wanted::Source)?;
+    push_member(parts, value, "select", Wanted::Expr)?;
+    push_member(parts, value, "calls", Wanted::Calls)
+}
+
+fn push_membership<'v, 'a>(
+    parts: &mut Vec<Part<'v, 'a>>,
+    value: &'v Value<'a>,
+) -> Result<(), AllocError>
+    ensures { OnOk result (Adds parts.old.items parts.new.items
+        (p.membership_parts (seen value.now))) }
+{
+    if has(value, "list") {
+        push_member(parts, value, "list", Wanted::Values)
+    } else {
+        push_query(parts, value)
+    }
+}
+
+// Declarations and documents.
+
+fn push_schema<'v, 'a>(
+    parts: &mut Vec<Part<'v, 'a>>,
+    value: &'v Value<'a>,
+) -> Result<(), AllocError>
+    ensures { OnOk result (Adds parts.old.items parts.new.items (p.schema_parts (seen value.now))) }
+{
+    push_member(parts, value, "tables", Wanted::Tables)?;
+    push_member(parts, value, "joinable", Wanted::Joinables)?;
+    push_member(parts, value, "together", Wanted::Pairs)
+}
+
+fn push_column<'v, 'a>(
+    parts: &mut Vec<Part<'v, 'a>>,
+    value: &'v Value<'a>,
+) -> Result<(), AllocError>
+    ensures { OnOk result (Adds parts.old.items parts.new.items (p.column_parts (seen value.now))) }
+{
+    push_member(parts, value, "name", Wanted::Name)?;
+    push_member(parts, value, "sql_name", Wanted::Name)?;
+    push_member(parts, value, "type", Wanted::Type)
+}
+
+fn push_declared_table<'v, 'a>(
+    parts: &mut Vec<Part<'v, 'a>>,
+    value: &'v Value<'a>,
+) -> Result<(), AllocError>
+    ensures { OnOk result (Adds parts.old.items parts.new.items (p.table_parts (seen value.now))) }
+{
+    push_member(parts, value, "name", Wanted::Name)?;
+    push_member(parts, value, "sql_name", Wanted::Name)?;
+    push_member(parts, value, "schema", Wanted::Name)?;
+    push_member(parts, value, "primary_key", Wanted::Names)?;
+    push_member(parts, value, "columns", Wanted::Columns)
+}
+
+fn push_joinable<'v, 'a>(
+    parts: &mut Vec<Part<'v, 'a>>,
+    value: &'v Value<'a>,
+) -> Result<(), AllocError>
+    ensures { OnOk result (Adds parts.old.items parts.new.items
+        (p.joinable_parts (seen value.now))) }
+{
+    push_member(parts, value, "child", Wanted::Name)?;
+    push_member(parts, value, "key", Wanted::Name)?;
+    push_member(parts, value, "parent", Wanted::Name)
+}
+
+fn push_document<'v, 'a>(
+    parts: &mut Vec<Part<'v, 'a>>,
+    value: &'v Value<'a>,
+) -> Result<(), AllocError>
+    ensures { OnOk result (Adds parts.old.items parts.new.items
+        (p.document_parts (seen value.now))) }
+{
+    push_member(parts, value, "schema", Wanted::Schema)?;
+    push_member(parts, value, "requests", Wanted::Requests)
+}
+
+/// A guard or a policy.
+fn push_policy<'v, 'a>(
+    parts: &mut Vec<Part<'v, 'a>>,
+    value: &'v Value<'a>,
+) -> Result<(), AllocError>
+    ensures { OnOk result (Adds parts.old.items parts.new.items (p.policy_parts (seen value.now))) }
+{
+    push_member(parts, value, "table", Wanted::Name)?;
+    push_member(parts, value, "predicate", Wanted::Expr)
+}
+
+fn push_parts<'v, 'a>(
+    parts: &mut Vec<Part<'v, 'a>>,
+    wanted: Wanted,
+    value: &'v Value<'a>,
+) -> Result<(), AllocError>
+    ensures { OnOk result (Adds parts.old.items parts.new.items (p.parts wanted (seen value.now))) }
+{
+    match wanted {
+        Wanted::Document => push_document(parts, value),
+        Wanted::Guarded => {
+            push_document(parts, value)?;
+            push_member(parts, value, "guard", Wanted::Guard)
+        }
+        Wanted::Policed => {
+            push_document(parts, value)?;
+            push_member(parts, value, "tenant", Wanted::Policies)
+        }
+        Wanted::Texts => {
+            push_member(parts, value, "schema", Wanted::Schema)?;
+            push_member(parts, value, "texts", Wanted::Names)
+        }
+        Wanted::Guard | Wanted::Policy => push_policy(parts, value),
+        Wanted::Policies => push_each(parts, value, Wanted::Policy),
+        Wanted::Schema => push_schema(parts, value),
+        Wanted::Tables => push_each(parts, value, Wanted::Table),
+        Wanted::Table => push_declared_table(parts, value),
+        Wanted::Columns => push_each(parts, value, Wanted::Column),
+        Wanted::Column => push_column(parts, value),
+        Wanted::Joinables => push_each(parts, value, Wanted::Joinable),
+        Wanted::Joinable => push_joinable(parts, value),
+        Wanted::Pairs => push_each(parts, value, Wanted::Pair),
+        Wanted::Pair | Wanted::ColumnName => push_two(parts, value, Wanted::Name, Wanted::Name),
+        Wanted::Names => push_each(parts, value, Wanted::Name),
+        Wanted::Requests => push_each(parts, value, Wanted::Request),
+        Wanted::Request => {
+            push_member(parts, value, "dialect", Wanted::Dialect)?;
+            push_member(parts, value, "query", Wanted::Query)
+        }
+        Wanted::Query => push_query(parts, value),
+        Wanted::Calls => push_calls(parts, value),
+        Wanted::Call(_) => push_call(parts, value),
+        Wanted::Source => push_source(parts, value),
+        Wanted::Sides => push_three(
+            parts,
+            value,
+            Wanted::SideKind,
+            Wanted::Source,
+            Wanted::Source,
+        ),
+        Wanted::Sample => push_three(parts, value, Wanted::Method, Wanted::Portion, Wanted::Seed),
+        Wanted::Expr => push_expr(parts, value),
+        Wanted::Exprs => push_each(parts, value, Wanted::Expr),
+        Wanted::FieldName => push_three(parts, value, Wanted::Name, Wanted::Name, Wanted::Name),
+        Wanted::Bind => push_typed(parts, value, false),
+        Wanted::Operands => push_two(parts, value, Wanted::Expr, Wanted::Expr),
+        Wanted::Choice => push_two(parts, value, Wanted::Expr, Wanted::Membership),
+        Wanted::Membership => push_membership(parts, value),
+        Wanted::Values => push_typed(parts, value, true),
+        Wanted::ValueList(base) => push_each(parts, value, Wanted::Value(base)),
+        Wanted::Items => push_each(parts, value, Wanted::Item),
+        Wanted::Item => push_order_item(parts, value),
+        Wanted::Places => push_each(parts, value, Wanted::Place),
+        Wanted::Place => push_place(parts, value),
+        Wanted::Name
+        | Wanted::Type
+        | Wanted::Dialect
+        | Wanted::CallName
+        | Wanted::SideKind
+        | Wanted::Method
+        | Wanted::Portion
+        | Wanted::Seed
+        | Wanted::Flag
+        | Wanted::Value(_)
+        | Wanted::PlaceNumber
+        | Wanted::Number => Ok(()),
+    }
+}
+
+/// Returns the parts of a value in which something is wanted: the step to each, what is wanted there, and what stands there. Of a request they
+/// are its dialect and its query. Or out of memory.
 pub fn parts<'v, 'a>(
     alloc: Global,
     wanted: Wanted,
     value: &'v Value<'a>,
 ) -> Result<Vec<Part<'v, 'a>>, AllocError>
-    ensures { IfOk result (λ v. map part_of v.items ≡ parts_of wanted (seen value.now)) }
+    ensures { IfOk result (λ v. parts_seen v.items ≡ p.parts wanted (seen value.now)) }
 {
-    let parts = Vec::new(alloc);
-    let mut found = Found { value, parts };
-    found.all(wanted)?;
-    let Found { value: _, parts } = found;
+    let mut parts = Vec::new(alloc);
+    push_parts(&mut parts, wanted, value)?;
     Ok(parts)
 }
