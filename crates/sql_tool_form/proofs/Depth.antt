@@ -265,5 +265,5 @@ parts-fall wanted.PlaceNumber = none
 parts-fall wanted.Number = none
 
 -- a part nests less deep than the whole
-pub part-falls : (w : Wanted) (d : Data) (q : p.Part) → IsPartOf q (p.parts w d) → depth q.value < depth d
-part-falls w d q there = low-in (depth d) q (p.parts w d) (parts-fall w d) there
+pub part_falls : (w : Wanted) (d : Data) (q : p.Part) → IsPartOf q (p.parts w d) → depth q.value < depth d
+part_falls w d q there = low-in (depth d) q (p.parts w d) (parts-fall w d) there

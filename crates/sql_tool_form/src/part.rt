@@ -1,13 +1,12 @@
 //! Which values in a value are wanted, and what is wanted of each.
 #![tactic(auto)]
 
-ghost use Rattle.std.specs.Prelude.{◌≡◌, IfOk, OnOk, option_and_then};
+ghost use Rattle.std.specs.Prelude.{◌≡◌, IfOk, OnOk, codes, option_and_then};
 ghost use Rattle.sql_tool_document.specs.Members.{has as has_member, only_member as sole_member};
 ghost use Rattle.sql_tool_document.specs.Names.{type_of};
 ghost use Rattle.sql_tool_document.specs.inside.Seen.{seen};
 ghost use Rattle.sql_tool_form.specs.Parts as p;
 ghost use Rattle.sql_tool_form.specs.inside.Texts.{Adds, parts_seen};
-ghost use Rattle.std.specs.Prelude.{codes};
 
 use crate::push::{push_calls, push_each, push_item, push_member, push_part};
 use json::Value;

@@ -3,7 +3,7 @@ ghost use Rattle.sql_tool_document.specs.Wanted.{has_form as has_wanted_form};
 ghost use Rattle.sql_tool_document.specs.inside.Seen.{seen};
 ghost use Rattle.sql_tool_form.specs.Parts.{parts as parts_of};
 ghost use Rattle.sql_tool_form.specs.Places.{AreRight, IsPartOf, IsWrongAt};
-ghost use Rattle.sql_tool_form.specs.inside.Texts.{part_of};
+ghost use Rattle.sql_tool_form.specs.inside.Texts.{part_of, parts_seen};
 ghost use Rattle.sql_tool_place.specs.inside.Texts.{steps_of};
 
 use crate::part::{Part, parts};
@@ -21,7 +21,21 @@ pub struct Wrong<'v, 'a> {
     pub value: &'v Value<'a>,
 }
 
-/// The first part that has not the form that is wanted of it.
+/// The first of the parts that has not the form that is wanted of it.
+fn first_of<'v, 'a>(alloc: Global, all: &[Part<'v, 'a>]) -> Result<Option<Part<'v, 'a>>, AllocError>
+    ensures { IfOk result (λ o. MatchOption o (AreRight (parts_seen all.now))
+        (λ q. IsPartOf (part_of q) (parts_seen all.now)
+        × (has_wanted_form q.wanted (seen q.value.now) ≡ false))) }
+{
+    for part in all {
+        if !has_form(alloc, part.wanted, part.value)? {
+            return Ok(Some(*part));
+        }
+    }
+    Ok(None)
+}
+
+/// The first part of a value that has not the form that is wanted of it.
 fn first_wrong<'v, 'a>(
     alloc: Global,
     wanted: Wanted,
@@ -32,12 +46,7 @@ fn first_wrong<'v, 'a>(
         × (has_wanted_form q.wanted (seen q.value.now) ≡ false))) }
 {
     let all = parts(alloc, wanted, value)?;
-    for part in &all {
-        if !has_form(alloc, part.wanted, part.value)? {
-            return Ok(Some(*part));
-        }
-    }
-    Ok(None)
+    first_of(alloc, all.as_slice())
 }
 
 /// Returns the place of the first value that has not the form that is wanted there, while each of its parts has the form that is wanted of that,
@@ -48,7 +57,8 @@ pub fn wrong_place<'v, 'a>(
     value: &'v Value<'a>,
 ) -> Result<Option<Wrong<'v, 'a>>, AllocError>
     ensures { IfOk result (λ o. MatchOption o (has_wanted_form wanted (seen value.now) ≡ true)
-        (λ w. IsWrongAt wanted (seen value.now) (steps_of w.steps.items) w.wanted
+        (λ w. (has_wanted_form wanted (seen value.now) ≡ false)
+        × IsWrongAt wanted (seen value.now) (steps_of w.steps.items) w.wanted
         (seen w.value.now))) }
 {
     if has_form(alloc, wanted, value)? {

@@ -1,5 +1,0 @@
-use Rattle.sql_tool_form.proofs.Each.{RestDecides}
-use Rattle.sql_tool_form.proofs.wrong.first_wrong.Given as goal
-
-abbrev pub invariant-loop-part : goal.invariant-loop-part
-invariant-loop-part l = RestDecides l.all.items l.part-index
