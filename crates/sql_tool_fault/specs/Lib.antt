@@ -1,0 +1,3 @@
+-- Why an input is not what is wanted, and the line that says where.
+pub mod Faults
+pub mod Known
