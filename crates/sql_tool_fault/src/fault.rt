@@ -19,11 +19,7 @@ use std::alloc::{AllocError, Global};
 use std::str;
 
 /// The object of a value that is wrong at its place.
-fn wrong_object(
-    alloc: Global,
-    bytes: &[u8],
-    wrong: &Wrong<'_, '_>,
-) -> Result<Json, AllocError>
+fn wrong_object(alloc: Global, bytes: &[u8], wrong: &Wrong<'_, '_>) -> Result<Json, AllocError>
     ensures { IfOk result (λ v. IsObjectOf bytes.now (steps_of wrong.now.steps.items) (view v)) }
 {
     let at = pointer(alloc, wrong.steps.as_slice())?;
@@ -45,11 +41,7 @@ fn no_value_object(alloc: Global, bytes: &[u8]) -> Result<Json, AllocError>
 
 /// Returns the line that says where and why an input is not what is wanted, as
 /// `{"at":"/requests/0/dialect","column":15,"line":5,"says":".."}`. None where it is what is wanted. Or out of memory.
-pub fn fault_line(
-    alloc: Global,
-    wanted: Wanted,
-    bytes: &[u8],
-) -> Result<Option<String>, AllocError>
+pub fn fault_line(alloc: Global, wanted: Wanted, bytes: &[u8]) -> Result<Option<String>, AllocError>
     ensures { IfOk result (λ o. MatchOption o (is_input wanted bytes.now ≡ true)
         (λ line. (is_input wanted bytes.now ≡ false)
         × IsFaultLine wanted bytes.now (string_bytes line))) }

@@ -42,7 +42,11 @@ pub(crate) fn nearest<'a>(
 }
 
 /// `; did you mean "calls"?`, where a name is near.
-pub(crate) fn did_you_mean(alloc: Global, word: &str, names: &[&str]) -> Result<String, AllocError> {
+pub(crate) fn did_you_mean(
+    alloc: Global,
+    word: &str,
+    names: &[&str],
+) -> Result<String, AllocError> {
     match nearest(alloc, word, names)? {
         Some(name) => format!(in alloc; "; did you mean \"{name}\"?"),
         None => Ok(String::new(alloc)),

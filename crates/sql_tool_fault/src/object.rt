@@ -10,11 +10,7 @@ use sql_tool_place::Position;
 use std::alloc::{AllocError, Global};
 
 /// The object of a byte: `{"column":1,"line":6,"says":"a comma stands before this bracket"}`.
-pub(crate) fn byte_object(
-    alloc: Global,
-    position: Position,
-    says: &str,
-) -> Result<Json, AllocError>
+pub(crate) fn byte_object(alloc: Global, position: Position, says: &str) -> Result<Json, AllocError>
     ensures { IfOk result (λ v. view v
         ≡ byte_data (record { line = position.line; column = position.column }) says.now) }
 {

@@ -112,7 +112,10 @@ fn lacks(
 
 /// How many of the names an object has.
 fn count(value: &Value<'_>, names: &[&str]) -> usize {
-    names.iter().filter(|name| value.get(**name).is_some()).count()
+    names
+        .iter()
+        .filter(|name| value.get(**name).is_some())
+        .count()
 }
 
 /// Of several members exactly one is wanted.
@@ -143,9 +146,7 @@ fn expression(alloc: Global, value: &Value<'_>) -> Result<Option<String>, AllocE
         }
         _ => {
             let found = found(alloc, value)?;
-            Ok(Some(
-                format!(in alloc; "an expression has exactly one member; {found} found")?,
-            ))
+            Ok(Some(format!(in alloc; "an expression has exactly one member; {found} found")?))
         }
     }
 }
@@ -173,9 +174,16 @@ fn arity(name: &str) -> (usize, usize) {
 
 /// The forms of queries that have a call of that name.
 fn takers(name: &str) -> &'static str {
-    let is_of_both = name == "select" || name == "filter" || name == "or_filter" || name == "having";
-    let is_unboxed = (clause_call(name).is_some() && !is_of_both) || name == "find"
-        || name == "into_boxed" || name.starts_with("for_") || name == "skip_locked" || name == "no_wait";
+    let is_of_both = name == "select"
+        || name == "filter"
+        || name == "or_filter"
+        || name == "having";
+    let is_unboxed = (clause_call(name).is_some() && !is_of_both)
+        || name == "find"
+        || name == "into_boxed"
+        || name.starts_with("for_")
+        || name == "skip_locked"
+        || name == "no_wait";
     if name == "positional_order_by" {
         "combinations"
     } else if is_unboxed {
@@ -202,15 +210,11 @@ fn call(alloc: Global, form: Form, value: &Value<'_>) -> Result<Option<String>, 
         } else {
             format!(in alloc; "{least} or {most}")?
         };
-        return Ok(Some(
-            format!(in alloc; "\"{name}\" takes {wanted} argument(s), {count} found")?,
-        ));
+        return Ok(Some(format!(in alloc; "\"{name}\" takes {wanted} argument(s), {count} found")?));
     }
     let is = form_name(form);
     let takers = takers(*name);
-    Ok(Some(
-        format!(in alloc; "\"{name}\" is a call on {takers}, and by now this is {is}")?,
-    ))
+    Ok(Some(format!(in alloc; "\"{name}\" is a call on {takers}, and by now this is {is}")?))
 }
 
 /// Why the declarations up to one make no schema.
@@ -239,9 +243,9 @@ fn hexadecimal(alloc: Global, value: &Value<'_>) -> Result<Option<String>, Alloc
     match value {
         Value::String(text) => {
             let text = shortened(alloc, *text)?;
-            Ok(Some(
-                format!(in alloc; "lower-case hexadecimal digits wanted, two for each byte; \"{text}\" found")?,
-            ))
+            Ok(Some(format!(in alloc;
+                "lower-case hexadecimal digits wanted, two for each byte; \"{text}\" found"
+            )?))
         }
         _ => Ok(None),
     }
