@@ -46,9 +46,9 @@ place_data pointer p says = object (member (codes "at") (string pointer) (said_a
 
 -- ---- why
 
--- The bytes are no UTF-8 from this one on, or no JSON.
-abbrev pub IsNoJson : List ℕ → ℕ → Type 0
-IsNoJson bytes n = ((is_utf8 bytes ≡ false) × IsValidUpTo bytes n) ⊎ ((is_utf8 bytes ≡ true) × (read bytes ≡ None))
+-- The bytes are a text that is no JSON, or JSON with a number that is too large for any.
+abbrev pub IsNoJson : List ℕ → Type 0
+IsNoJson bytes = (is_utf8 bytes ≡ true) × (read bytes ≡ None)
 
 -- The bytes are JSON with a number that is not whole or has more than 64 bits.
 abbrev pub HasFraction : List ℕ → Type 0
@@ -58,14 +58,28 @@ HasFraction bytes = (d : Data) × (is_utf8 bytes ≡ true) × (read bytes ≡ So
 abbrev pub IsWrongIn : Wanted → List ℕ → List Step → Type 0
 IsWrongIn w bytes steps = (d e : Data) × (v : Wanted) × (value_in bytes ≡ Some d) × IsWrongAt w d steps v e
 
--- What the line says of the bytes is so. Which byte of them a number or a wrong value begins at is tested only.
+-- The position is that of a byte.
+abbrev pub IsPosition : List ℕ → Position → Type 0
+IsPosition bytes p = (n : ℕ) × (p ≡ position_of bytes n)
+
+-- What the object says of bytes that are no value is so: from which byte on they are no UTF-8; that they are no JSON, or have a fraction. Which
+-- byte the latter begin at is tested only.
+abbrev pub IsByteObject : List ℕ → Data → Type 0
+IsByteObject bytes o =
+    (says : List ℕ)
+    × (((n : ℕ) × (is_utf8 bytes ≡ false) × IsValidUpTo bytes n × (o ≡ byte_data (position_of bytes n) says))
+    ⊎ (((p : Position) × IsNoJson bytes × IsPosition bytes p × (o ≡ byte_data p says))
+    ⊎ ((p : Position) × (pointer : List ℕ) × (IsNoJson bytes ⊎ HasFraction bytes) × IsPosition bytes p
+    × (o ≡ place_data pointer p says))))
+
+-- What the object says of a value is so: the steps of its pointer lead to one that is wrong.
+abbrev pub IsPlaceObject : Wanted → List ℕ → Data → Type 0
+IsPlaceObject w bytes o =
+    (says : List ℕ) × (p : Position) × (steps : List Step)
+    × IsWrongIn w bytes steps × IsPosition bytes p × (o ≡ place_data (pointer_text steps) p says)
+
 abbrev pub IsFaultObject : Wanted → List ℕ → Data → Type 0
-IsFaultObject w bytes o =
-    (n : ℕ) × (says : List ℕ)
-    × ((IsNoJson bytes n × (o ≡ byte_data (position_of bytes n) says))
-    ⊎ ((HasFraction bytes × (o ≡ byte_data (position_of bytes n) says))
-    ⊎ ((steps : List Step) × IsWrongIn w bytes steps
-    × (o ≡ place_data (pointer_text steps) (position_of bytes n) says))))
+IsFaultObject w bytes o = IsByteObject bytes o ⊎ IsPlaceObject w bytes o
 
 -- compact JSON, and a newline
 abbrev pub IsFaultLine : Wanted → List ℕ → List ℕ → Type 0

@@ -9,7 +9,7 @@ use Rattle.sql_tool_document.specs.Members.{has}
 use Rattle.sql_tool_document.specs.Wanted.{has_form}
 use Rattle.sql_tool_document.specs.declared.wanted.Wanted.{Wanted}
 use Rattle.sql_tool_document.specs.declared.wanted.Wanted.TheVariants as wanted
-use Rattle.sql_tool_place.specs.Places.{Leads}
+use Rattle.sql_tool_form.specs.Places.{Leads}
 use Rattle.sql_tool_place.specs.Steps.{Step}
 
 -- by whether `from` and `select` stand
@@ -36,8 +36,10 @@ membership_members d =
 abbrev pub known : Wanted → Data → Option (List (List ℕ))
 known wanted.Document d = Some (codes "schema" ∷ codes "requests" ∷ codes "$schema" ∷ [])
 known wanted.Guarded d = Some (codes "schema" ∷ codes "requests" ∷ codes "guard" ∷ codes "$schema" ∷ [])
+known wanted.Policed d = Some (codes "schema" ∷ codes "requests" ∷ codes "tenant" ∷ codes "$schema" ∷ [])
 known wanted.Texts d = Some (codes "schema" ∷ codes "texts" ∷ codes "$schema" ∷ [])
 known wanted.Guard d = Some (codes "table" ∷ codes "predicate" ∷ [])
+known wanted.Policy d = Some (codes "table" ∷ codes "predicate" ∷ [])
 known wanted.Schema d = Some (codes "tables" ∷ codes "joinable" ∷ codes "together" ∷ [])
 known wanted.Table d =
     Some (codes "name" ∷ codes "sql_name" ∷ codes "schema" ∷ codes "primary_key" ∷ codes "columns" ∷ [])

@@ -1,41 +1,111 @@
-ghost use Rattle.std.specs.Prelude.{◌≡◌, IfOk, MatchOption, None, Some, false, string_bytes, true};
+ghost use Rattle.std.specs.Prelude.{◌≡◌, IfOk, List, MatchOption, None, false, string_bytes, true, ℕ};
 ghost use Rattle.serde_json.specs.View.{view};
 ghost use Rattle.sql_tool_document.specs.Documents.{value_in};
-ghost use Rattle.sql_tool_document.specs.Wanted.{has_form as has_wanted_form};
-ghost use Rattle.sql_tool_document.specs.inside.Seen.{seen};
-ghost use Rattle.sql_tool_fault.specs.Faults.{IsFaultLine, IsFaultObject, is_input};
+ghost use Rattle.sql_tool_fault.specs.Faults.{IsByteObject, IsFaultLine, IsFaultObject, IsPosition, Position as Placed, byte_data, is_input, place_data};
+ghost use Rattle.sql_tool_place.specs.Steps.{pointer_text};
+ghost use Rattle.sql_tool_place.specs.inside.Texts.{steps_of};
 
-use crate::bytes::{no_json, no_text};
+use crate::bytes::{says_of_bytes, says_of_text};
+use crate::found::found;
 use crate::number::fraction;
-use crate::object::{line_of, place_object};
+use crate::object::{byte_object, line_of, place_object};
 use crate::offset::offset_of;
 use crate::words::says;
 use json::{Error, Scratch, Value};
 use serde_json::Value as Json;
 use sql_tool_document::{Refusal, Wanted, json, parsed};
 use sql_tool_form::{Wrong, wrong_place};
-use sql_tool_place::{pointer, position_at};
+use sql_tool_place::{Step, pointer, position_at};
 use std::alloc::{AllocError, Global};
 use std::str;
 
-/// The object of a value that is wrong at its place.
-fn wrong_object(alloc: Global, bytes: &[u8], wrong: &Wrong<'_, '_>) -> Result<Json, AllocError>
-    ensures { IfOk result (λ v. IsObjectOf bytes.now (steps_of wrong.now.steps.items) (view v)) }
+/// The object of the value at a place.
+fn object_at(alloc: Global, text: &str, steps: &[Step<'_>], says: &str) -> Result<Json, AllocError>
+    ensures { IfOk result (λ v. (p : Placed) × IsPosition text.now p
+        × (view v ≡ place_data (pointer_text (steps_of steps.now)) p says.now)) }
 {
-    let at = pointer(alloc, wrong.steps.as_slice())?;
-    let position = position_at(bytes, offset_of(alloc, bytes, wrong.steps.as_slice())?);
-    let says = says(alloc, wrong)?;
-    place_object(alloc, at.as_str(), position, says.as_str())
+    let at = pointer(alloc, steps)?;
+    let offset = offset_of(alloc, text, steps)?;
+    let position = position_at(text.as_bytes(), offset);
+    place_object(alloc, at.as_str(), position, says)
 }
 
-/// The object of bytes that are no JSON, or have a number that is not whole.
+/// The object of a text with a number that is not whole.
+fn fraction_object(alloc: Global, text: &str, value: &Value<'_>) -> Result<Json, AllocError>
+    ensures { IfOk result (λ v. (p : Placed) × (at words : List ℕ) × IsPosition text.now p
+        × (view v ≡ place_data at p words)) }
+{
+    let (steps, number) = fraction(alloc, value)?;
+    let digits = match number {
+        Some(number) => found(alloc, number)?,
+        None => String::from_str(alloc, "a number")?,
+    };
+    let says = format!(in alloc;
+        "a whole number of 64 bits wanted, {digits} found; no number in a document has a fraction or an exponent, in ignored members too"
+    )?;
+    object_at(alloc, text, steps.as_slice(), says.as_str())
+}
+
+/// The object of a text that is no JSON.
+fn no_json_object(alloc: Global, text: &str) -> Result<Json, AllocError>
+    ensures { IfOk result (λ v. (p : Placed) × (words : List ℕ) × IsPosition text.now p
+        × (view v ≡ byte_data p words)) }
+{
+    let (offset, says) = says_of_text(alloc, text)?;
+    byte_object(alloc, position_at(text.as_bytes(), offset), says)
+}
+
+/// The object of a text that is no JSON, or that has a number that is not whole.
+fn no_value_of_text(alloc: Global, text: &str) -> Result<Json, AllocError>
+    requires { value_in text.now ≡ None }
+    ensures { IfOk result (λ v. IsByteObject text.now (view v)) }
+{
+    let mut scratch = Scratch::new(alloc);
+    match parsed(alloc, text, &mut scratch) {
+        Ok(value) => fraction_object(alloc, text, &value),
+        Err(Error::Invalid) => no_json_object(alloc, text),
+        Err(Error::OutOfMemory) => Err(AllocError),
+        Err(Error::TooLong | Error::DuplicateKey) => unreachable!(),
+    }
+}
+
+/// The object of bytes that are no UTF-8 or no JSON, or have a number that is not whole.
 fn no_value_object(alloc: Global, bytes: &[u8]) -> Result<Json, AllocError>
     requires { value_in bytes.now ≡ None }
-    ensures { IfOk result (λ v. (w : WantedTree) → IsFaultObject w bytes.now (view v)) }
+    ensures { IfOk result (λ v. IsByteObject bytes.now (view v)) }
 {
     match str::from_utf8(bytes) {
-        Err(error) => no_text(alloc, bytes, error.valid_up_to()),
         Ok(text) => no_value_of_text(alloc, text),
+        Err(error) => {
+            let position = position_at(bytes, error.valid_up_to());
+            byte_object(alloc, position, says_of_bytes(bytes))
+        }
+    }
+}
+
+/// The object of a value that is wrong at its place.
+fn wrong_object(alloc: Global, text: &str, wrong: &Wrong<'_, '_>) -> Result<Json, AllocError>
+    ensures { IfOk result (λ v. (p : Placed) × (words : List ℕ) × IsPosition text.now p
+        × (view v ≡ place_data (pointer_text (steps_of wrong.now.steps.items)) p words)) }
+{
+    let says = says(alloc, wrong)?;
+    object_at(alloc, text, wrong.steps.as_slice(), says.as_str())
+}
+
+/// The object of what is wrong with the bytes, where they are not what is wanted.
+fn fault_object(alloc: Global, wanted: Wanted, bytes: &[u8]) -> Result<Option<Json>, AllocError>
+    ensures { IfOk result (λ o. MatchOption o (is_input wanted bytes.now ≡ true)
+        (λ v. (is_input wanted bytes.now ≡ false) × IsFaultObject wanted bytes.now (view v))) }
+{
+    let mut scratch = Scratch::new(alloc);
+    let value = match json(alloc, bytes, &mut scratch) {
+        Ok(value) => value,
+        Err(Refusal::NotADocument) => return Ok(Some(no_value_object(alloc, bytes)?)),
+        Err(Refusal::NoMemory) => return Err(AllocError),
+    };
+    match (wrong_place(alloc, wanted, &value)?, str::from_utf8(bytes)) {
+        (Some(wrong), Ok(text)) => Ok(Some(wrong_object(alloc, text, &wrong)?)),
+        _ => Ok(None),
     }
 }
 
@@ -46,14 +116,8 @@ pub fn fault_line(alloc: Global, wanted: Wanted, bytes: &[u8]) -> Result<Option<
         (λ line. (is_input wanted bytes.now ≡ false)
         × IsFaultLine wanted bytes.now (string_bytes line))) }
 {
-    let mut scratch = Scratch::new(alloc);
-    let object = match json(alloc, bytes, &mut scratch) {
-        Ok(value) => match wrong_place(alloc, wanted, &value)? {
-            Some(wrong) => wrong_object(alloc, bytes, &wrong)?,
-            None => return Ok(None),
-        },
-        Err(Refusal::NotADocument) => no_value_object(alloc, bytes)?,
-        Err(Refusal::NoMemory) => return Err(AllocError),
-    };
-    Ok(Some(line_of(alloc, &object)?))
+    match fault_object(alloc, wanted, bytes)? {
+        Some(object) => Ok(Some(line_of(alloc, &object)?)),
+        None => Ok(None),
+    }
 }

@@ -3,12 +3,11 @@
 ghost use Rattle.std.specs.Prelude.{◌≡◌, codes, map, option_map};
 ghost use Rattle.sql_tool_document.specs.Members.{has as has_member};
 ghost use Rattle.sql_tool_document.specs.inside.Seen.{seen};
-ghost use Rattle.sql_tool_place.specs.Known.{known, query_members, source_members, membership_members};
-ghost use Rattle.sql_tool_place.specs.inside.Texts.{names_of};
+ghost use Rattle.sql_tool_fault.specs.Known.{known, query_members, source_members, membership_members};
+ghost use Rattle.sql_tool_fault.specs.inside.Names.{names_of};
 
-use crate::part::has;
 use json::Value;
-use sql_tool_document::Wanted;
+use sql_tool_document::{Wanted, has};
 
 /// The members of a source: those of a table, of an alias or of a join.
 fn members_of_source(value: &Value<'_>) -> &'static [&'static str]
@@ -53,8 +52,9 @@ pub fn known_members(wanted: Wanted, value: &Value<'_>) -> Option<&'static [&'st
     match wanted {
         Wanted::Document => Some(&["schema", "requests", "$schema"]),
         Wanted::Guarded => Some(&["schema", "requests", "guard", "$schema"]),
+        Wanted::Policed => Some(&["schema", "requests", "tenant", "$schema"]),
         Wanted::Texts => Some(&["schema", "texts", "$schema"]),
-        Wanted::Guard => Some(&["table", "predicate"]),
+        Wanted::Guard | Wanted::Policy => Some(&["table", "predicate"]),
         Wanted::Schema => Some(&["tables", "joinable", "together"]),
         Wanted::Table => Some(&["name", "sql_name", "schema", "primary_key", "columns"]),
         Wanted::Column => Some(&["name", "sql_name", "type"]),
@@ -72,8 +72,10 @@ pub fn required_members(wanted: Wanted, value: &Value<'_>) -> &'static [&'static
     match wanted {
         Wanted::Document => &["schema", "requests"],
         Wanted::Guarded => &["schema", "requests", "guard"],
+        Wanted::Policed => &["schema", "requests", "tenant"],
         Wanted::Texts => &["schema", "texts"],
         Wanted::Guard => &["table", "predicate"],
+        Wanted::Policy => &["table"],
         Wanted::Schema => &["tables"],
         Wanted::Table => &["name", "columns"],
         Wanted::Column => &["name", "type"],

@@ -8,6 +8,7 @@ mod found;
 mod hint;
 mod known;
 mod noun;
+mod number;
 mod object;
 mod offset;
 mod words;

@@ -146,6 +146,11 @@ pub(crate) fn noun(wanted: Wanted) -> &'static str {
         Wanted::Guarded => {
             "a document with a guard, {\"schema\":SCHEMA,\"requests\":[REQUEST..],\"guard\":GUARD},"
         }
+        Wanted::Policed => {
+            "a document with policies, {\"schema\":SCHEMA,\"requests\":[REQUEST..],\"tenant\":[POLICY..]},"
+        }
+        Wanted::Policies => "an array of policies",
+        Wanted::Policy => "a policy, {\"table\":name,\"predicate\":EXPR} or {\"table\":name},",
         Wanted::Texts => "a schema and texts, {\"schema\":SCHEMA,\"texts\":[text..]},",
         Wanted::Guard => "a guard, {\"table\":name,\"predicate\":EXPR},",
         Wanted::Requests => "an array of requests",
@@ -153,7 +158,7 @@ pub(crate) fn noun(wanted: Wanted) -> &'static str {
         Wanted::Query => {
             "a query, {\"from\":SOURCE,\"calls\":[CALL..]} or {\"select\":EXPR,\"calls\":[CALL..]},"
         }
-        Wanted::Calls(_) => "an array of calls",
+        Wanted::Calls => "an array of calls",
         Wanted::Call(_) => "a call, [NAME,ARGUMENT..],",
         Wanted::Source => {
             "a source, {\"table\":name}, {\"alias\":text,\"of\":name} or {\"join\":[\"inner\" or \"left\",SOURCE,SOURCE]},"
@@ -167,9 +172,10 @@ pub(crate) fn noun(wanted: Wanted) -> &'static str {
 /// The same in a word or two, for what lacks a member.
 pub(crate) fn short_noun(wanted: Wanted) -> &'static str {
     match wanted {
-        Wanted::Document | Wanted::Guarded => "the document",
+        Wanted::Document | Wanted::Guarded | Wanted::Policed => "the document",
         Wanted::Texts => "the input of audit",
         Wanted::Guard => "the guard",
+        Wanted::Policy => "the policy",
         Wanted::Schema => "the schema",
         Wanted::Table => "the table",
         Wanted::Column => "the column",

@@ -2,12 +2,12 @@
 
 use crate::found::{found, shortened};
 use crate::hint::{did_you_mean, nearest};
-use crate::wanted::{OPERATORS, names, noun, short_noun};
+use crate::known::{known_members, required_members};
+use crate::noun::{OPERATORS, names, noun, short_noun};
 use json::Value;
 use sql_build_syntax::Form;
-use sql_schema::SchemaError;
 use sql_tool_document::{Wanted, clause_call, combination, join_kind, plain_call};
-use sql_tool_place::{Wrong, known_members, required_members};
+use sql_tool_form::Wrong;
 use std::alloc::{AllocError, Global};
 
 /// The products that dialects are for.
@@ -217,28 +217,6 @@ fn call(alloc: Global, form: Form, value: &Value<'_>) -> Result<Option<String>, 
     Ok(Some(format!(in alloc; "\"{name}\" is a call on {takers}, and by now this is {is}")?))
 }
 
-/// Why the declarations up to one make no schema.
-fn refusal(error: &SchemaError, wanted: Wanted) -> &'static str {
-    match error {
-        SchemaError::DuplicateTable => {
-            "a table before it has this name, or this schema and SQL name"
-        }
-        SchemaError::NoColumns => "a table has at least one column",
-        SchemaError::DuplicateColumn => "two of its columns have one name, or one SQL name",
-        SchemaError::UnknownKey => {
-            "its primary key (by default [\"id\"]) is empty or names a column that it has not"
-        }
-        SchemaError::UnknownTable if wanted == Wanted::Joinable => {
-            "its child or its parent is no table"
-        }
-        SchemaError::UnknownTable => "one of the two names is no table",
-        SchemaError::BadJoinable => {
-            "the relation is of a table to itself, or of tables related before, or its key is no column of the child with the type of the parent's one key column"
-        }
-        SchemaError::NoMemory => "out of memory",
-    }
-}
-
 fn hexadecimal(alloc: Global, value: &Value<'_>) -> Result<Option<String>, AllocError> {
     match value {
         Value::String(text) => {
@@ -279,12 +257,15 @@ fn special(alloc: Global, wrong: &Wrong<'_, '_>) -> Result<Option<String>, Alloc
 
 /// What is said of a value that is wrong at its place.
 pub(crate) fn says(alloc: Global, wrong: &Wrong<'_, '_>) -> Result<String, AllocError> {
-    if let Some(error) = &wrong.refusal {
-        return String::from_str(alloc, refusal(error, wrong.wanted));
-    }
     let required = required_members(wrong.wanted, wrong.value);
     if let (Value::Object(_), Some(name)) = (wrong.value, missing(wrong.value, required)) {
         return lacks(alloc, wrong.wanted, wrong.value, name);
+    }
+    if wrong.wanted == Wanted::Schema && wrong.value.get("tables").is_some() {
+        return String::from_str(
+            alloc,
+            "the declarations contradict each other (docs/DOCUMENT.md, \"What is no document\")",
+        );
     }
     match special(alloc, wrong)? {
         Some(text) => Ok(text),
