@@ -174,12 +174,12 @@ members-2 j k v w = both (p.member_part j v) (p.member_part k w) (member j v) (m
 members-3 : (i j k : List ℕ) (u v w : Wanted)
     → Falls (λ d. p.member_part i u d ++ p.member_part j v d ++ p.member_part k w d)
 members-3 i j k u v w =
-    both (p.member_part i u) (λ d. p.member_part j v d ++ p.member_part k w d) (member i u) (members-2 j k v w)
+    both (λ d. p.member_part i u d ++ p.member_part j v d) (p.member_part k w) (members-2 i j u v) (member k w)
 
 source-falls : (a b c : Bool) → Falls (p.source_parts a b c)
-source-falls true false false = members-3 _ _ _ wanted.Name wanted.Flag wanted.Sample
-source-falls false true false = members-2 _ _ wanted.Name wanted.Name
-source-falls false false true = members-2 _ _ wanted.Sides wanted.Expr
+source-falls true false false = members-3 (codes "table") (codes "only") (codes "sample") wanted.Name wanted.Flag wanted.Sample
+source-falls false true false = members-2 (codes "alias") (codes "of") wanted.Name wanted.Name
+source-falls false false true = members-2 (codes "join") (codes "on") wanted.Sides wanted.Expr
 source-falls false false false = none
 source-falls true true false = none
 source-falls true false true = none
@@ -187,7 +187,7 @@ source-falls false true true = none
 source-falls true true true = none
 
 query-falls : Falls p.query_parts
-query-falls = members-3 _ _ _ wanted.Source wanted.Expr wanted.Calls
+query-falls = members-3 (codes "from") (codes "select") (codes "calls") wanted.Source wanted.Expr wanted.Calls
 
 membership-falls : Falls p.membership_parts
 membership-falls d =
@@ -195,37 +195,37 @@ membership-falls d =
     (member (codes "list") wanted.Values d) (query-falls d)
 
 document-falls : Falls p.document_parts
-document-falls = members-2 _ _ wanted.Schema wanted.Requests
+document-falls = members-2 (codes "schema") (codes "requests") wanted.Schema wanted.Requests
 
 table-falls : Falls p.table_parts
 table-falls =
-    both (p.member_part (codes "name") wanted.Name)
-    (λ d. p.member_part (codes "sql_name") wanted.Name d ++ p.member_part (codes "schema") wanted.Name d
-    ++ p.member_part (codes "primary_key") wanted.Names d ++ p.member_part (codes "columns") wanted.Columns d)
-    (member (codes "name") wanted.Name)
-    (both (p.member_part (codes "sql_name") wanted.Name)
-    (λ d. p.member_part (codes "schema") wanted.Name d ++ p.member_part (codes "primary_key") wanted.Names d
-    ++ p.member_part (codes "columns") wanted.Columns d)
-    (member (codes "sql_name") wanted.Name) (members-3 _ _ _ wanted.Name wanted.Names wanted.Columns))
+    both (λ d. p.member_part (codes "name") wanted.Name d ++ p.member_part (codes "sql_name") wanted.Name d
+    ++ p.member_part (codes "schema") wanted.Name d ++ p.member_part (codes "primary_key") wanted.Names d)
+    (p.member_part (codes "columns") wanted.Columns)
+    (both (λ d. p.member_part (codes "name") wanted.Name d ++ p.member_part (codes "sql_name") wanted.Name d
+    ++ p.member_part (codes "schema") wanted.Name d) (p.member_part (codes "primary_key") wanted.Names)
+    (members-3 (codes "name") (codes "sql_name") (codes "schema") wanted.Name wanted.Name wanted.Name)
+    (member (codes "primary_key") wanted.Names))
+    (member (codes "columns") wanted.Columns)
 
 -- ---- all
 
 pub parts-fall : (w : Wanted) → Falls (p.parts w)
 parts-fall wanted.Document = document-falls
-parts-fall wanted.Guarded = both p.document_parts (p.member_part (codes "guard") wanted.Guard) document-falls (member _ wanted.Guard)
+parts-fall wanted.Guarded = both p.document_parts (p.member_part (codes "guard") wanted.Guard) document-falls (member (codes "guard") wanted.Guard)
 parts-fall wanted.Policed =
-    both p.document_parts (p.member_part (codes "tenant") wanted.Policies) document-falls (member _ wanted.Policies)
-parts-fall wanted.Texts = members-2 _ _ wanted.Schema wanted.Names
-parts-fall wanted.Guard = members-2 _ _ wanted.Name wanted.Expr
+    both p.document_parts (p.member_part (codes "tenant") wanted.Policies) document-falls (member (codes "tenant") wanted.Policies)
+parts-fall wanted.Texts = members-2 (codes "schema") (codes "texts") wanted.Schema wanted.Names
+parts-fall wanted.Guard = members-2 (codes "table") (codes "predicate") wanted.Name wanted.Expr
 parts-fall wanted.Policies = each-falls wanted.Policy
-parts-fall wanted.Policy = members-2 _ _ wanted.Name wanted.Expr
-parts-fall wanted.Schema = members-3 _ _ _ wanted.Tables wanted.Joinables wanted.Pairs
+parts-fall wanted.Policy = members-2 (codes "table") (codes "predicate") wanted.Name wanted.Expr
+parts-fall wanted.Schema = members-3 (codes "tables") (codes "joinable") (codes "together") wanted.Tables wanted.Joinables wanted.Pairs
 parts-fall wanted.Tables = each-falls wanted.Table
 parts-fall wanted.Table = table-falls
 parts-fall wanted.Columns = each-falls wanted.Column
-parts-fall wanted.Column = members-3 _ _ _ wanted.Name wanted.Name wanted.Type
+parts-fall wanted.Column = members-3 (codes "name") (codes "sql_name") (codes "type") wanted.Name wanted.Name wanted.Type
 parts-fall wanted.Joinables = each-falls wanted.Joinable
-parts-fall wanted.Joinable = members-3 _ _ _ wanted.Name wanted.Name wanted.Name
+parts-fall wanted.Joinable = members-3 (codes "child") (codes "key") (codes "parent") wanted.Name wanted.Name wanted.Name
 parts-fall wanted.Pairs = each-falls wanted.Pair
 parts-fall wanted.Pair = two-fall wanted.Name wanted.Name
 parts-fall wanted.Name = none
@@ -233,7 +233,7 @@ parts-fall wanted.Names = each-falls wanted.Name
 parts-fall wanted.Type = none
 parts-fall wanted.Dialect = none
 parts-fall wanted.Requests = each-falls wanted.Request
-parts-fall wanted.Request = members-2 _ _ wanted.Dialect wanted.Query
+parts-fall wanted.Request = members-2 (codes "dialect") (codes "query") wanted.Dialect wanted.Query
 parts-fall wanted.Query = query-falls
 parts-fall wanted.Calls = calls-fall
 parts-fall (wanted.Call f) = call-falls
