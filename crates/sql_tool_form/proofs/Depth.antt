@@ -1,8 +1,9 @@
 -- A part nests less deep than the whole.
-use Rattle.std.proofs.Common.{◌≡◌, ◌⊎◌, ℕ, suc, ◌+◌, ◌<◌, List, [], ◌∷◌, ◌++◌, Bool, true, false, codes, Option, Some, None, is_some, if◌then◌else◌, inl, inr, refl, sym, ap, ◌∙◌, subst, arith}
-use Rattle.serde_json.specs.Data.{Data, Items, no_items, item, null, boolean, number, string, array, object, Members, depth, items_depth, members_depth}
+use Rattle.std.proofs.Common.{◌≡◌, ℕ, ◌+◌, ◌<◌, List, [], ◌∷◌, ◌++◌, Bool, true, false, codes, Option, Some, None, is_some, if◌then◌else◌, inl, inr, refl, sym, ap, subst, arith}
+use Rattle.serde_json.specs.Data.{Data, Items, no_items, item, null, boolean, number, string, array, object, depth, items_depth}
 use Rattle.serde_json.specs.Find.{get, at, as_array}
 use Rattle.sql_build_syntax.specs.declared.form.Form.{Form}
+use Rattle.sql_build_syntax.specs.declared.form.Form.TheVariants as form
 use Rattle.sql_schema.specs.declared.types.SqlType.{SqlType}
 use Rattle.sql_tool_document.proofs.Nesting.{Within, get-depth, at-depth, single-depth}
 use Rattle.sql_tool_document.specs.Members.{has, only_member}
@@ -90,7 +91,7 @@ calls-fall null = tt
 calls-fall (boolean b) = tt
 calls-fall (number n) = tt
 calls-fall (string s) = tt
-calls-fall (array ds) = low-calls (depth (array ds)) 0 _ ds (omega arith)
+calls-fall (array ds) = low-calls (depth (array ds)) 0 form.Select ds (omega arith)
 calls-fall (object ms) = tt
 
 -- ---- the one member of an object

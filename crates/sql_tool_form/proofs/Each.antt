@@ -1,5 +1,5 @@
 -- Parts one after the other, as loops find them.
-use Rattle.std.proofs.Common.{◌≡◌, ℕ, zero, suc, ◌+◌, ◌<◌, ◌≤◌, List, [], ◌∷◌, ◌++◌, length, drop, get_or, map, inl, inr, refl, sym, ap, ◌∙◌, subst, append_assoc, arith, true}
+use Rattle.std.proofs.Common.{◌≡◌, ℕ, zero, suc, ◌+◌, ◌<◌, ◌≤◌, List, [], ◌∷◌, ◌++◌, length, drop, get_or, inl, inr, sym, ap, ◌∙◌, subst, append_assoc, arith, true}
 use Rattle.std.proofs.lemmas.List.{drop_all}
 use Rattle.json.specs.declared.value.Value.{Value}
 use Rattle.std.specs.declared.alloc.Global.{Global}
@@ -53,10 +53,7 @@ RestDecides xs i = AreRight (parts_seen (drop i xs)) → AreRight (parts_seen xs
 pub decides_on : (xs : List Part) (i : ℕ) (q : Part) → i < length xs → q ≡ get_or xs i q
     → has_form q.wanted (seen q.value.now) ≡ true → RestDecides xs i → RestDecides xs (i + 1)
 decides_on xs i q lt is right so_far rest =
-    so_far (subst (λ ys. AreRight (parts_seen ys)) (sym (part_here xs i q lt is)) (right, rest))
-  where
-    part_here : (ys : List Part) (j : ℕ) (r : Part) → j < length ys → r ≡ get_or ys j r → drop j ys ≡ r ∷ drop (j + 1) ys
-    part_here ys j r below at = here ys j r below at
+    so_far (subst (λ ys. AreRight (parts_seen ys)) (sym (here xs i q lt is)) (right, rest))
 
 pub decided : (xs : List Part) (i : ℕ) → length xs ≤ i → RestDecides xs i → AreRight (parts_seen xs)
 decided xs i le rest = rest (subst (λ ys. AreRight (parts_seen ys)) (sym (drop_all i xs le)) tt)
