@@ -8,8 +8,9 @@ use Rattle.sql_tool_document.specs.Documents.{value_in}
 use Rattle.sql_tool_document.specs.Wanted.{has_form}
 use Rattle.sql_tool_document.specs.declared.wanted.Wanted.{Wanted}
 use Rattle.sql_tool_form.specs.Places.{IsWrongAt}
-use Rattle.sql_tool_place.specs.Positions.{column_after, line_after}
+use Rattle.sql_tool_place.specs.Positions.{position_of}
 use Rattle.sql_tool_place.specs.Steps.{Step, pointer_text}
+use Rattle.sql_tool_place.specs.declared.position.Position.{Position}
 
 abbrev pub has_form_if_any : Wanted → Option Data → Bool
 has_form_if_any w None = false
@@ -18,16 +19,6 @@ has_form_if_any w (Some d) = has_form w d
 -- whether the bytes are an input of the form that is wanted
 abbrev pub is_input : Wanted → List ℕ → Bool
 is_input w bytes = has_form_if_any w (value_in bytes)
-
--- ---- positions
-
-pub record Position : Type 0 where
-  pub line : ℕ
-  pub column : ℕ
-
--- the line and the column of the byte at this offset
-abbrev pub position_of : List ℕ → ℕ → Position
-position_of bytes n = record { line = line_after (take n bytes); column = column_after (take n bytes) }
 
 -- ---- lines, as JSON objects whose members come in the order of their names
 
@@ -58,28 +49,33 @@ HasFraction bytes = (d : Data) × (is_utf8 bytes ≡ true) × (read bytes ≡ So
 abbrev pub IsWrongIn : Wanted → List ℕ → List Step → Type 0
 IsWrongIn w bytes steps = (d e : Data) × (v : Wanted) × (value_in bytes ≡ Some d) × IsWrongAt w d steps v e
 
--- The position is that of a byte.
-abbrev pub IsPosition : List ℕ → Position → Type 0
-IsPosition bytes p = (n : ℕ) × (p ≡ position_of bytes n)
+-- The object is of the byte at some offset, or of the value at a pointer that begins there. What it says of it is free.
+abbrev pub IsOfByte : List ℕ → Data → Type 0
+IsOfByte bytes o = (n : ℕ) × (says : List ℕ) × (o ≡ byte_data (position_of (take n bytes)) says)
 
--- What the object says of bytes that are no value is so: from which byte on they are no UTF-8; that they are no JSON, or have a fraction. Which
--- byte the latter begin at is tested only.
-abbrev pub IsByteObject : List ℕ → Data → Type 0
-IsByteObject bytes o =
-    (says : List ℕ)
-    × (((n : ℕ) × (is_utf8 bytes ≡ false) × IsValidUpTo bytes n × (o ≡ byte_data (position_of bytes n) says))
-    ⊎ (((p : Position) × IsNoJson bytes × IsPosition bytes p × (o ≡ byte_data p says))
-    ⊎ ((p : Position) × (pointer : List ℕ) × (IsNoJson bytes ⊎ HasFraction bytes) × IsPosition bytes p
-    × (o ≡ place_data pointer p says))))
+abbrev pub IsOfPlace : List ℕ → List ℕ → Data → Type 0
+IsOfPlace bytes pointer o = (n : ℕ) × (says : List ℕ) × (o ≡ place_data pointer (position_of (take n bytes)) says)
+
+-- What the object says of bytes that are no UTF-8 is so: they are none from this byte on.
+abbrev pub IsNoText : List ℕ → Data → Type 0
+IsNoText bytes o =
+    (n : ℕ) × (says : List ℕ)
+    × (is_utf8 bytes ≡ false) × IsValidUpTo bytes n × (o ≡ byte_data (position_of (take n bytes)) says)
+
+-- What the object says of bytes that are no value is so: they are no UTF-8, no JSON, or have a fraction. Which byte the latter two begin at is
+-- tested only.
+abbrev pub IsNoValue : List ℕ → Data → Type 0
+IsNoValue bytes o =
+    IsNoText bytes o
+    ⊎ ((IsNoJson bytes × IsOfByte bytes o)
+    ⊎ ((pointer : List ℕ) × (IsNoJson bytes ⊎ HasFraction bytes) × IsOfPlace bytes pointer o))
 
 -- What the object says of a value is so: the steps of its pointer lead to one that is wrong.
-abbrev pub IsPlaceObject : Wanted → List ℕ → Data → Type 0
-IsPlaceObject w bytes o =
-    (says : List ℕ) × (p : Position) × (steps : List Step)
-    × IsWrongIn w bytes steps × IsPosition bytes p × (o ≡ place_data (pointer_text steps) p says)
+abbrev pub IsWrongPlace : Wanted → List ℕ → Data → Type 0
+IsWrongPlace w bytes o = (steps : List Step) × IsWrongIn w bytes steps × IsOfPlace bytes (pointer_text steps) o
 
 abbrev pub IsFaultObject : Wanted → List ℕ → Data → Type 0
-IsFaultObject w bytes o = IsByteObject bytes o ⊎ IsPlaceObject w bytes o
+IsFaultObject w bytes o = IsNoValue bytes o ⊎ IsWrongPlace w bytes o
 
 -- compact JSON, and a newline
 abbrev pub IsFaultLine : Wanted → List ℕ → List ℕ → Type 0

@@ -1,7 +1,7 @@
 ghost use Rattle.std.specs.Prelude.{◌≡◌, IfOk, List, MatchOption, None, false, string_bytes, true, ℕ};
 ghost use Rattle.serde_json.specs.View.{view};
 ghost use Rattle.sql_tool_document.specs.Documents.{value_in};
-ghost use Rattle.sql_tool_fault.specs.Faults.{IsByteObject, IsFaultLine, IsFaultObject, IsPosition, Position as Placed, byte_data, is_input, place_data};
+ghost use Rattle.sql_tool_fault.specs.Faults.{IsFaultLine, IsFaultObject, IsNoValue, IsOfByte, IsOfPlace, is_input};
 ghost use Rattle.sql_tool_place.specs.Steps.{pointer_text};
 ghost use Rattle.sql_tool_place.specs.inside.Texts.{steps_of};
 
@@ -21,8 +21,7 @@ use std::str;
 
 /// The object of the value at a place.
 fn object_at(alloc: Global, text: &str, steps: &[Step<'_>], says: &str) -> Result<Json, AllocError>
-    ensures { IfOk result (λ v. (p : Placed) × IsPosition text.now p
-        × (view v ≡ place_data (pointer_text (steps_of steps.now)) p says.now)) }
+    ensures { IfOk result (λ v. IsOfPlace text.now (pointer_text (steps_of steps.now)) (view v)) }
 {
     let at = pointer(alloc, steps)?;
     let offset = offset_of(alloc, text, steps)?;
@@ -32,8 +31,7 @@ fn object_at(alloc: Global, text: &str, steps: &[Step<'_>], says: &str) -> Resul
 
 /// The object of a text with a number that is not whole.
 fn fraction_object(alloc: Global, text: &str, value: &Value<'_>) -> Result<Json, AllocError>
-    ensures { IfOk result (λ v. (p : Placed) × (at words : List ℕ) × IsPosition text.now p
-        × (view v ≡ place_data at p words)) }
+    ensures { IfOk result (λ v. (at : List ℕ) × IsOfPlace text.now at (view v)) }
 {
     let (steps, number) = fraction(alloc, value)?;
     let digits = match number {
@@ -48,8 +46,7 @@ fn fraction_object(alloc: Global, text: &str, value: &Value<'_>) -> Result<Json,
 
 /// The object of a text that is no JSON.
 fn no_json_object(alloc: Global, text: &str) -> Result<Json, AllocError>
-    ensures { IfOk result (λ v. (p : Placed) × (words : List ℕ) × IsPosition text.now p
-        × (view v ≡ byte_data p words)) }
+    ensures { IfOk result (λ v. IsOfByte text.now (view v)) }
 {
     let (offset, says) = says_of_text(alloc, text)?;
     byte_object(alloc, position_at(text.as_bytes(), offset), says)
@@ -58,7 +55,7 @@ fn no_json_object(alloc: Global, text: &str) -> Result<Json, AllocError>
 /// The object of a text that is no JSON, or that has a number that is not whole.
 fn no_value_of_text(alloc: Global, text: &str) -> Result<Json, AllocError>
     requires { value_in text.now ≡ None }
-    ensures { IfOk result (λ v. IsByteObject text.now (view v)) }
+    ensures { IfOk result (λ v. IsNoValue text.now (view v)) }
 {
     let mut scratch = Scratch::new(alloc);
     match parsed(alloc, text, &mut scratch) {
@@ -72,7 +69,7 @@ fn no_value_of_text(alloc: Global, text: &str) -> Result<Json, AllocError>
 /// The object of bytes that are no UTF-8 or no JSON, or have a number that is not whole.
 fn no_value_object(alloc: Global, bytes: &[u8]) -> Result<Json, AllocError>
     requires { value_in bytes.now ≡ None }
-    ensures { IfOk result (λ v. IsByteObject bytes.now (view v)) }
+    ensures { IfOk result (λ v. IsNoValue bytes.now (view v)) }
 {
     match str::from_utf8(bytes) {
         Ok(text) => no_value_of_text(alloc, text),
@@ -85,8 +82,8 @@ fn no_value_object(alloc: Global, bytes: &[u8]) -> Result<Json, AllocError>
 
 /// The object of a value that is wrong at its place.
 fn wrong_object(alloc: Global, text: &str, wrong: &Wrong<'_, '_>) -> Result<Json, AllocError>
-    ensures { IfOk result (λ v. (p : Placed) × (words : List ℕ) × IsPosition text.now p
-        × (view v ≡ place_data (pointer_text (steps_of wrong.now.steps.items)) p words)) }
+    ensures { IfOk result (λ v. IsOfPlace text.now
+        (pointer_text (steps_of wrong.now.steps.items)) (view v)) }
 {
     let says = says(alloc, wrong)?;
     object_at(alloc, text, wrong.steps.as_slice(), says.as_str())

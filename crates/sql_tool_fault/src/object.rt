@@ -12,7 +12,7 @@ use std::alloc::{AllocError, Global};
 /// The object of a byte: `{"column":1,"line":6,"says":"a comma stands before this bracket"}`.
 pub(crate) fn byte_object(alloc: Global, position: Position, says: &str) -> Result<Json, AllocError>
     ensures { IfOk result (λ v. view v
-        ≡ byte_data (record { line = position.line; column = position.column }) says.now) }
+        ≡ byte_data position says.now) }
 {
     json!(in alloc; {
         "column": position.column,
@@ -28,8 +28,7 @@ pub(crate) fn place_object(
     position: Position,
     says: &str,
 ) -> Result<Json, AllocError>
-    ensures { IfOk result (λ v. view v ≡ place_data pointer.now
-        (record { line = position.line; column = position.column }) says.now) }
+    ensures { IfOk result (λ v. view v ≡ place_data pointer.now position says.now) }
 {
     json!(in alloc; {
         "at": pointer,
