@@ -6,7 +6,7 @@ use crate::judge::Judge;
 use json::Value;
 use sql_dialect::Dialect;
 use sql_tool_document::Wanted;
-use sql_tool_place::{Step, copied};
+use sql_tool_place::Step;
 use std::alloc::{AllocError, Global};
 
 /// A query that a rule refuses, and how many values more may be looked at to find out why.
@@ -37,7 +37,7 @@ fn joined<'a>(
     before: &[Step<'a>],
     after: &[Step<'a>],
 ) -> Result<Vec<Step<'a>>, AllocError> {
-    let mut all = copied(alloc, before)?;
+    let mut all = Vec::from_slice(alloc, before)?;
     for step in after {
         all.push(*step)?;
     }
@@ -54,7 +54,8 @@ impl<'s, 'q, 'a> Case<'s, 'q, 'a> {
         }
         self.left -= cost;
         let without = edited(self.alloc, self.query, steps, edit)?;
-        self.judge.is_rid_of(self.alloc, self.dialect, &without, self.rule)
+        self.judge
+            .is_rid_of(self.alloc, self.dialect, &without, self.rule)
     }
 
     /// The first part in a part, as small as can be, without which the query does not break the rule.
@@ -78,7 +79,11 @@ impl<'s, 'q, 'a> Case<'s, 'q, 'a> {
                 }
                 continue;
             };
-            let place = if cut.edited == 0 { steps } else { part.as_slice() };
+            let place = if cut.edited == 0 {
+                steps
+            } else {
+                part.as_slice()
+            };
             if self.is_rid_without(place, edit)? {
                 let deeper = self.within(part.as_slice(), cut.wanted, cut.value, depth - 1)?;
                 return Ok(Some(match deeper {

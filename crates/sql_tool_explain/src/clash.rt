@@ -1,10 +1,9 @@
 //! Which declaration is the first that cannot stand with those before it.
 
-use crate::step::Step;
-use crate::wrong::Wrong;
 use json::Value;
 use sql_schema::SchemaError;
 use sql_tool_document::{Counts, Refusal, Wanted, refusal_up_to};
+use sql_tool_place::Step;
 use std::alloc::{AllocError, Global};
 
 fn refusal(
@@ -88,9 +87,21 @@ pub(crate) fn clash<'v, 'a>(
     ];
     for (name, wanted) in lists {
         let counts = |count: usize| match name {
-            "tables" => Counts { tables: count, joinables: 0, together: 0 },
-            "joinable" => Counts { tables, joinables: count, together: 0 },
-            _ => Counts { tables, joinables, together: count },
+            "tables" => Counts {
+                tables: count,
+                joinables: 0,
+                together: 0,
+            },
+            "joinable" => Counts {
+                tables,
+                joinables: count,
+                together: 0,
+            },
+            _ => Counts {
+                tables,
+                joinables,
+                together: count,
+            },
         };
         if let Some((index, item, error)) = in_list(alloc, value, name, counts)? {
             steps.push(Step::Key(name))?;

@@ -4,7 +4,8 @@ use crate::edit::Edit;
 use json::Value;
 use sql_schema::{Base, Schema, SqlType};
 use sql_tool_document::{Wanted, binary_operator, sql_type};
-use sql_tool_place::{Part, Step, parts};
+use sql_tool_form::{Part, parts};
+use sql_tool_place::Step;
 use std::alloc::{AllocError, Global};
 
 /// A part of a value, and how it is taken away, where it can be: the step at which the value is edited, or none for itself, and how.
@@ -29,7 +30,10 @@ const TRUTH: SqlType = SqlType {
 fn column_type(schema: &Schema, names: &Value<'_>, index: usize) -> Option<SqlType> {
     let table = schema.table(names.at(index)?.as_str()?)?;
     let column = names.at(index + 1)?.as_str()?;
-    let found = table.columns().iter().find(|one| one.name.as_str() == column)?;
+    let found = table
+        .columns()
+        .iter()
+        .find(|one| one.name.as_str() == column)?;
     Some(found.ty)
 }
 
@@ -117,7 +121,7 @@ pub(crate) fn cuts<'v, 'a>(
             edited: 1,
         })?;
     }
-    let later_first = matches!(wanted, Wanted::Calls(_) | Wanted::Query);
+    let later_first = matches!(wanted, Wanted::Calls | Wanted::Query);
     if later_first {
         all.reverse();
     }

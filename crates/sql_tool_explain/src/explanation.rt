@@ -4,27 +4,19 @@ ghost use Rattle.std.specs.Prelude.{IfOk, string_bytes};
 ghost use Rattle.sql_tool_explain.specs.Explanation.{IsExplanation};
 
 use crate::blame::{Blamed, Case};
-use crate::bytes::{no_json, no_text};
-use crate::found::shortened;
-use crate::hint::did_you_mean;
 use crate::judge::{Judge, refusal};
 use crate::line::{Line, push_line};
-use crate::name;
 use crate::rule::asks;
-use crate::sides;
-use crate::words;
+use crate::{name, sides};
 use json::{Error, Scratch, Value};
 use sql_build_depth::{is_too_deep, is_too_deep_restricted};
 use sql_build_syntax::Query;
 use sql_dialect::Dialect;
 use sql_tool_build::StatementCache;
-use sql_tool_document::{
-    Document, Refusal, Wanted, parsed, read_document, whole_document,
-};
+use sql_tool_document::{Document, Refusal, Wanted, parsed, read_document, whole_document};
+use sql_tool_fault::{did_you_mean, fault_line, offset_of, shortened};
 use sql_tool_guard::{Tenant, TenantDocument, read_tenant};
-use sql_tool_place::{
-    Step, Unknown, Wrong, fraction, offset_of, pointer, position_at, unknown_members, wrong_place,
-};
+use sql_tool_place::{Step, pointer, position_at};
 use std::alloc::{AllocError, Global};
 use std::num::NonZeroUsize;
 use std::str;
@@ -34,11 +26,13 @@ use std::str;
 pub enum Explained {
     Build,
     Guard,
+    Tenant,
     Audit,
 }
 
 /// How many warnings are written, and how many refused requests are explained.
 const MOST_WARNINGS: usize = 50;
+
 const MOST_REFUSALS: usize = 20;
 
 /// How many answers are kept for requests of the same dialect and shape.
@@ -52,6 +46,7 @@ impl Explained {
         match self {
             Explained::Build => Wanted::Document,
             Explained::Guard => Wanted::Guarded,
+            Explained::Tenant => Wanted::Policed,
             Explained::Audit => Wanted::Texts,
         }
     }
@@ -156,7 +151,9 @@ impl<'t> Explanation<'t> {
             _ => String::new(self.alloc),
         };
         let alloc = self.alloc;
-        let says = format!(in alloc; "{digits} is no whole number of 64 bits; no number in a document has a fraction or an exponent, in ignored members too")?;
+        let says = format!(in alloc;
+            "{digits} is no whole number of 64 bits; no number in a document has a fraction or an exponent, in ignored members too"
+        )?;
         self.say(wrong.steps.as_slice(), None, says.as_str())
     }
 
@@ -165,7 +162,9 @@ impl<'t> Explanation<'t> {
         let alloc = self.alloc;
         let key = shortened(alloc, member.key)?;
         if member.is_repeated {
-            return format!(in alloc; "the member \"{key}\" comes again; only its last value counts");
+            return format!(in alloc;
+                "the member \"{key}\" comes again; only its last value counts"
+            );
         }
         if wanted == Wanted::Document && member.key == "guard" {
             return String::from_str(
@@ -192,18 +191,18 @@ impl<'t> Explanation<'t> {
     }
 
     /// A line of a name in a request's query that the schema lacks. Whether there is one.
-    fn stranger(
-        &mut self,
-        judge: Judge<'_>,
-        asked: &Asked<'_, '_>,
-    ) -> Result<bool, AllocError> {
+    fn stranger(&mut self, judge: Judge<'_>, asked: &Asked<'_, '_>) -> Result<bool, AllocError> {
         let alloc = self.alloc;
         let Some(stranger) = name::stranger(alloc, judge.schema, Wanted::Query, asked.json)? else {
             return Ok(false);
         };
         let says = name::says(alloc, judge.schema, &stranger)?;
         let steps = asked.steps(alloc, stranger.steps.as_slice())?;
-        self.say(steps.as_slice(), Some((asked.rule, asked.number)), says.as_str())?;
+        self.say(
+            steps.as_slice(),
+            Some((asked.rule, asked.number)),
+            says.as_str(),
+        )?;
         Ok(true)
     }
 
@@ -251,7 +250,9 @@ impl<'t> Explanation<'t> {
         *left = case.left;
         let Some(blamed) = blamed else {
             let asks = asks(rule);
-            let says = format!(in alloc; "no part of the query was found without which it is not so: {asks}")?;
+            let says = format!(in alloc;
+                "no part of the query was found without which it is not so: {asks}"
+            )?;
             return self.say(asked.steps(alloc, &[])?.as_slice(), refused, says.as_str());
         };
         let says = self.of_blamed(judge, asked, &blamed)?;
@@ -275,7 +276,11 @@ impl<'t> Explanation<'t> {
         for (index, request) in requests.as_slice().iter().enumerate() {
             let number = (index as u64).saturating_add(1);
             if is_deep(&request.query, tenant) {
-                let steps = [Step::Key("requests"), Step::Index(index), Step::Key("query")];
+                let steps = [
+                    Step::Key("requests"),
+                    Step::Index(index),
+                    Step::Key("query"),
+                ];
                 return self.warn(&steps, TOO_DEEP);
             }
             let Some(rule) = refusal(alloc, &mut cache, tenant, request.dialect, &request.query)?
@@ -310,7 +315,9 @@ impl<'t> Explanation<'t> {
         }
         let alloc = self.alloc;
         let more = refused - MOST_REFUSALS;
-        let says = format!(in alloc; "{more} more requests are refused; the first {MOST_REFUSALS} are explained")?;
+        let says = format!(in alloc;
+            "{more} more requests are refused; the first {MOST_REFUSALS} are explained"
+        )?;
         self.add(says.as_str())
     }
 
@@ -327,7 +334,10 @@ impl<'t> Explanation<'t> {
         };
         let schema = &document.schema;
         let mut steps = vec![in alloc; Step::Key("guard")]?;
-        let table = guard.get("table").and_then(|name| name.as_str()).unwrap_or("");
+        let table = guard
+            .get("table")
+            .and_then(|name| name.as_str())
+            .unwrap_or("");
         let found = if schema.table(table).is_none() {
             Some(name::Stranger {
                 steps: vec![in alloc; Step::Key("table")]?,

@@ -2,14 +2,14 @@
 
 use json::Value;
 use sql_build::{statement, statement_to_restrict};
+use sql_build_syntax::Query;
 use sql_check::{Rule, broken};
 use sql_dialect::{Bracket, Dialect, Mysql, Pg, Sqlite};
 use sql_guard::{RestrictError, restrict};
 use sql_node::Statement;
 use sql_schema::Schema;
-use sql_build_syntax::Query;
-use sql_tool_document::{Refusal, read_query};
 use sql_tool_build::{Names, StatementCache, compile_cached_for};
+use sql_tool_document::{Refusal, read_query};
 use sql_tool_guard::Tenant;
 use std::alloc::{AllocError, Global};
 

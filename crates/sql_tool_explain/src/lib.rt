@@ -3,21 +3,17 @@
 #![tactic(auto)]
 
 mod blame;
-mod bytes;
+mod clash;
 mod cut;
 mod edit;
 mod explanation;
-mod found;
-mod hint;
 mod judge;
 mod line;
 mod name;
 mod rule;
 mod sides;
-mod wanted;
-mod words;
-
 #[cfg(test)]
 mod tests;
+mod unknown;
 
 pub use explanation::{Explained, explain};

@@ -50,7 +50,11 @@ impl Serialize for Line<'_> {
 }
 
 /// Writes a line, with a newline, after those before it.
-pub(crate) fn push_line(alloc: Global, text: &mut String, line: &Line<'_>) -> Result<(), AllocError> {
+pub(crate) fn push_line(
+    alloc: Global,
+    text: &mut String,
+    line: &Line<'_>,
+) -> Result<(), AllocError> {
     let Ok(written) = serde_json::to_string(alloc, line) else {
         return Err(AllocError);
     };

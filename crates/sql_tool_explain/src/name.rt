@@ -1,11 +1,11 @@
 //! Names of tables and columns that a schema does not declare.
 
-use crate::found::shortened;
-use crate::hint::did_you_mean;
 use json::Value;
 use sql_schema::{Schema, Table};
 use sql_tool_document::Wanted;
-use sql_tool_place::{Step, parts};
+use sql_tool_fault::{did_you_mean, shortened};
+use sql_tool_form::parts;
+use sql_tool_place::Step;
 use std::alloc::{AllocError, Global};
 
 /// A name that the schema does not declare: where it stands, the table that lacks it, where it is a column's, and the name.
@@ -20,7 +20,10 @@ pub(crate) struct Stranger<'s, 'a> {
 const DEEPEST: u32 = 256;
 
 fn has_column(table: &Table, name: &str) -> bool {
-    table.columns().iter().any(|column| column.name.as_str() == name)
+    table
+        .columns()
+        .iter()
+        .any(|column| column.name.as_str() == name)
 }
 
 /// Of a table's name and a column's, at these indexes of an array, the first that is not declared.
@@ -110,7 +113,9 @@ fn says_of_column(alloc: Global, table: &Table, name: &str) -> Result<String, Al
     for column in table.columns() {
         if column.sql_name.as_str() == name {
             let real = shortened(alloc, column.name.as_str())?;
-            return format!(in alloc; "the table \"{whole}\" has no column \"{short}\": that is the SQL name of its column \"{real}\"");
+            return format!(in alloc;
+                "the table \"{whole}\" has no column \"{short}\": that is the SQL name of its column \"{real}\""
+            );
         }
     }
     let mut names = Vec::new(alloc);
@@ -136,7 +141,9 @@ pub(crate) fn says(
     for table in schema.tables() {
         if table.path().1 == name {
             let real = shortened(alloc, table.name())?;
-            return format!(in alloc; "the schema has no table \"{short}\": that is the SQL name of its table \"{real}\"");
+            return format!(in alloc;
+                "the schema has no table \"{short}\": that is the SQL name of its table \"{real}\""
+            );
         }
         names.push(table.name())?;
     }

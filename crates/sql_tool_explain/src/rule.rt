@@ -4,13 +4,16 @@
 pub(crate) fn asks(rule: &str) -> &'static str {
     match rule {
         "Incompatible" => "it does not go together with the calls before it",
-        "EmptyList" => "a selection, a DISTINCT ON list, a GROUP BY list and an order have an element",
+        "EmptyList" =>
+            "a selection, a DISTINCT ON list, a GROUP BY list and an order have an element",
         "NoRelation" => {
             "no ON is given, and the schema declares no relation between the first tables of the two sides"
         }
         "Ambiguous" => "a table is read twice: give one of the two an alias",
-        "NotTogether" => "its tables are not declared to stand together (\"together\" in the schema)",
-        "NameClash" => "the names of two sources are one, or one ends with the other: take another alias",
+        "NotTogether" =>
+            "its tables are not declared to stand together (\"together\" in the schema)",
+        "NameClash" =>
+            "the names of two sources are one, or one ends with the other: take another alias",
         "NotInScope" => "the clause that it stands in does not see its table or alias",
         "TypeMismatch" => "its parts have types that do not match",
         "NeedsNullable" => {

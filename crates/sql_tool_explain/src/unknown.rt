@@ -1,14 +1,14 @@
 ghost use Rattle.std.specs.Prelude.{◌≡◌, ◌⊎◌, ◌++◌, ◌∷◌, [], All, IfOk, List, true};
 ghost use Rattle.sql_tool_document.specs.inside.Seen.{seen};
-ghost use Rattle.sql_tool_place.specs.Known.{IsUnknownAt};
+ghost use Rattle.sql_tool_fault.specs.Known.{IsUnknownAt};
 ghost use Rattle.sql_tool_place.specs.Steps.{Step as StepTree, key as key_step};
 ghost use Rattle.sql_tool_place.specs.inside.Texts.{steps_of};
 
-use crate::known::known_members;
-use crate::part::parts;
-use crate::step::{Step, copied};
 use json::Value;
 use sql_tool_document::Wanted;
+use sql_tool_fault::known_members;
+use sql_tool_form::parts;
+use sql_tool_place::Step;
 use std::alloc::{AllocError, Global};
 
 /// A member that its form does not know, or that comes again.
@@ -46,7 +46,7 @@ impl<'a> Search<'a> {
         known: &'static [&'static str],
         is_repeated: bool,
     ) -> Result<(), AllocError> {
-        let mut steps = copied(alloc, self.steps.as_slice())?;
+        let mut steps = Vec::from_slice(alloc, self.steps.as_slice())?;
         steps.push(Step::Key(key))?;
         self.found.push(Unknown {
             steps,

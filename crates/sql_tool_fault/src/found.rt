@@ -7,7 +7,7 @@ use std::alloc::{AllocError, Global};
 const SHOWN: usize = 40;
 
 /// The first characters of a text.
-pub(crate) fn shortened(alloc: Global, text: &str) -> Result<String, AllocError> {
+pub fn shortened(alloc: Global, text: &str) -> Result<String, AllocError> {
     let mut short = String::new(alloc);
     for (index, letter) in text.chars().enumerate() {
         if index >= SHOWN {

@@ -19,7 +19,7 @@ fn lower(alloc: Global, text: &str) -> Result<String, AllocError> {
 }
 
 /// The name that takes the fewest edits from the word, whatever the case of letters, where these are few.
-pub(crate) fn nearest<'a>(
+pub fn nearest<'a>(
     alloc: Global,
     word: &str,
     names: &[&'a str],
@@ -42,11 +42,7 @@ pub(crate) fn nearest<'a>(
 }
 
 /// `; did you mean "calls"?`, where a name is near.
-pub(crate) fn did_you_mean(
-    alloc: Global,
-    word: &str,
-    names: &[&str],
-) -> Result<String, AllocError> {
+pub fn did_you_mean(alloc: Global, word: &str, names: &[&str]) -> Result<String, AllocError> {
     match nearest(alloc, word, names)? {
         Some(name) => format!(in alloc; "; did you mean \"{name}\"?"),
         None => Ok(String::new(alloc)),

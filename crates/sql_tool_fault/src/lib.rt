@@ -14,3 +14,7 @@ mod offset;
 mod words;
 
 pub use fault::fault_line;
+pub use found::shortened;
+pub use hint::did_you_mean;
+pub use known::{known_members, required_members};
+pub use offset::offset_of;

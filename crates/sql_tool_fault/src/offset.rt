@@ -40,11 +40,7 @@ fn go(reader: &mut Reader<'_>, steps: &[Step<'_>]) -> Result<(), Invalid> {
 
 /// Where in a text of JSON the value at a place begins. Where a key on the way comes again, it is in the first of its values. The start of the
 /// text, where there is no such place.
-pub(crate) fn offset_of(
-    alloc: Global,
-    text: &str,
-    steps: &[Step<'_>],
-) -> Result<usize, AllocError> {
+pub fn offset_of(alloc: Global, text: &str, steps: &[Step<'_>]) -> Result<usize, AllocError> {
     let mut scratch = Scratch::new(alloc);
     let mut reader = Reader::new(text, &mut scratch)?;
     match go(&mut reader, steps) {
