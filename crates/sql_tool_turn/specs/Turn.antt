@@ -1,5 +1,5 @@
 -- The call by which a query comes to break a rule.
-use Rattle.std.specs.Prelude.{◌≡◌, ¬◌, ℕ, zero, suc, ◌+◌, Some}
+use Rattle.std.specs.Prelude.{◌≡◌, ℕ, zero, suc, ◌+◌, Some}
 use Rattle.sql_build.specs.Built.{statement_in}
 use Rattle.sql_build_syntax.specs.Tree.{Query, query, Calls, no_calls, more_calls}
 use Rattle.sql_dialect.specs.declared.backend.Dialect.{Dialect}
