@@ -137,7 +137,8 @@ place-falls d = low-directed (depth d) wanted.PlaceNumber [] (only_member d) tt 
 -- ---- types, calls, sources and queries
 
 low-typed : (d : Data) (is_list : Bool) (o : Option SqlType) → Low (depth d) (p.typed_parts is_list o d)
-low-typed d b None = tt
+low-typed d true None = tt
+low-typed d false None = tt
 low-typed d true (Some t) = item-falls 1 (wanted.ValueList t.base) d
 low-typed d false (Some t) = item-falls 1 (wanted.Value t.base) d
 
