@@ -8,7 +8,7 @@ use Rattle.sql_tool_document.specs.Documents.{value_in}
 use Rattle.sql_tool_document.specs.Wanted.{has_form}
 use Rattle.sql_tool_document.specs.declared.wanted.Wanted.{Wanted}
 use Rattle.sql_tool_form.specs.Places.{IsWrongAt}
-use Rattle.sql_tool_place.specs.Positions.{position_of}
+use Rattle.sql_tool_place.specs.Positions.{column_after, line_after}
 use Rattle.sql_tool_place.specs.Steps.{Step, pointer_text}
 use Rattle.sql_tool_place.specs.declared.position.Position.{Position}
 
@@ -19,6 +19,10 @@ has_form_if_any w (Some d) = has_form w d
 -- whether the bytes are an input of the form that is wanted
 abbrev pub is_input : Wanted → List ℕ → Bool
 is_input w bytes = has_form_if_any w (value_in bytes)
+
+-- the line and the column of what follows these bytes
+abbrev pub position_of : List ℕ → Position
+position_of bytes = record { line = line_after bytes; column = column_after bytes }
 
 -- ---- lines, as JSON objects whose members come in the order of their names
 

@@ -1,6 +1,5 @@
 -- Lines and columns, as people count them: both from 1, a line ends with its line feed, and a column is a character of UTF-8.
 use Rattle.std.specs.Prelude.{ℕ, suc, List, [], ◌∷◌, ◌==◌, ◌&&◌, Bool, nat_lt, nat_le, if◌then◌else◌}
-use Rattle.sql_tool_place.specs.declared.position.Position.{Position}
 
 -- a byte that does not begin a character (RFC 3629, 3: 10xxxxxx)
 abbrev pub continues : ℕ → Bool
@@ -22,6 +21,9 @@ abbrev pub column_from : ℕ → List ℕ → ℕ
 column_from column [] = column
 column_from column (c ∷ cs) = column_from (column_step column c) cs
 
--- the line and the column of what follows these bytes
-abbrev pub position_of : List ℕ → Position
-position_of bytes = record { line = line_from 1 bytes; column = column_from 1 bytes }
+-- the line of what follows these bytes
+abbrev pub line_after : List ℕ → ℕ
+line_after bytes = line_from 1 bytes
+
+abbrev pub column_after : List ℕ → ℕ
+column_after bytes = column_from 1 bytes

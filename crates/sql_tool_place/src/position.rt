@@ -1,5 +1,5 @@
 ghost use Rattle.std.specs.Prelude.{◌≡◌, ◌+◌, ◌<◌, ◌≤◌, length, take};
-ghost use Rattle.sql_tool_place.specs.Positions.{column_step, continues, line_step, position_of};
+ghost use Rattle.sql_tool_place.specs.Positions.{column_after, column_step, continues, line_after, line_step};
 
 /// A place in a text as people count it: from 1, a column for each character.
 #[derive(Debug, Clone, Copy, PartialEq, Eq)]
@@ -38,7 +38,8 @@ fn next_column(column: u64, byte: u8) -> u64
 
 /// The position of what follows the bytes.
 fn position_after(bytes: &[u8]) -> Position
-    ensures { result ≡ position_of bytes.now }
+    ensures line { result.line ≡ line_after bytes.now }
+    ensures column { result.column ≡ column_after bytes.now }
 {
     let mut line = 1u64;
     let mut column = 1u64;
@@ -61,7 +62,8 @@ fn before(bytes: &[u8], offset: usize) -> &[u8]
 
 /// Returns the line and the column of the byte at that offset, as line 2 and column 1 after a first line feed.
 pub fn position_at(bytes: &[u8], offset: usize) -> Position
-    ensures { result ≡ position_of (take offset bytes.now) }
+    ensures line { result.line ≡ line_after (take offset bytes.now) }
+    ensures column { result.column ≡ column_after (take offset bytes.now) }
 {
     position_after(before(bytes, offset))
 }
