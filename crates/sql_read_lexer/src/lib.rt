@@ -6,12 +6,15 @@
 
 mod byte;
 mod number;
+mod part;
 mod same;
+mod spaces;
 mod state;
 mod token;
 mod tokens;
 mod word;
 
 pub use same::same_found;
+pub use spaces::differ_in_spaces;
 pub use token::{Comparison, Keyword, Token};
 pub use tokens::text_tokens;
