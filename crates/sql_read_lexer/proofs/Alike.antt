@@ -1,5 +1,5 @@
 -- Texts that differ in spaces alone have the same tokens.
-use Rattle.std.proofs.Common.{◌≡◌, ℕ, List, [], ◌∷◌, Option, Some, None, refl, sym, ap, ◌∙◌, subst}
+use Rattle.std.proofs.Common.{◌≡◌, ℕ, List, [], ◌∷◌, length, Option, Some, None, refl, sym, ap, ◌∙◌, subst, arith}
 use Rattle.std.specs.Option.{option_map}
 use Rattle.sql_dialect.specs.declared.backend.Dialect.{Dialect}
 use Rattle.sql_grammar.specs.Spelling as spell
@@ -9,13 +9,9 @@ use Rattle.sql_grammar.specs.Tokens.{State, Ending, tokens, tokens_from}
 use Rattle.sql_read_lexer.specs.declared.part.Part.{Part}
 use Rattle.sql_read_lexer.specs.declared.part.Part.TheVariants as p
 use Rattle.sql_read_lexer.specs.inside.Parts as parts
-use Rattle.sql_read_lexer.specs.inside.Parts.{part_of, state_at, GoOnAlike, Carries}
+use Rattle.sql_read_lexer.specs.inside.Parts.{part_of, state_at, GoOnAlike, Carries, EndsAt, EndsBefore}
 
--- the byte ends the token at hand
-abbrev pub EndsAt : Dialect → Part → ℕ → Type 0
-EndsAt d at c = (bs : List ℕ) → (t : g.Token) → option_map part_of (lex.extended d (state_at at bs t) c) ≡ None
-
--- it belongs to it
+-- the byte belongs to the token at hand
 abbrev pub GoesOnAt : Dialect → Part → ℕ → Part → Type 0
 GoesOnAt d at c next =
     (bs : List ℕ) → (t : g.Token) → option_map part_of (lex.extended d (state_at at bs t) c) ≡ Some next
@@ -70,8 +66,9 @@ goes_on d at next c h =
     λ xs ys same bs t. alike-extended d next (lex.extended d (state_at at bs t) c) (lex.begun d c)
     (lex.ending (state_at at bs t)) xs ys (h bs t) same
 
-pub begins : (d : Dialect) (at next : Part) (c : ℕ) → EndsAt d at c → option_map part_of (lex.begun d c) ≡ Some next
-    → Carries d at c next
+pub begins : (d : Dialect) (at next : Part) (c : ℕ)
+    → ((bs : List ℕ) → (t : g.Token) → option_map part_of (lex.extended d (state_at at bs t) c) ≡ None)
+    → option_map part_of (lex.begun d c) ≡ Some next → Carries d at c next
 unfolding lex.tokens_from parts.GoOnAlike parts.Carries
 begins d at next c ends h =
     λ xs ys same bs t.
@@ -100,25 +97,51 @@ unfolding lex.tokens_from lex.from_extended lex.from_begun lex.put lex.extended 
 space d xs = refl
 
 -- a space that ends the token at hand may go where the other text ends it too
-pub skips_byte : (d : Dialect) (at : Part) (c : ℕ) (xs ys : List ℕ) → EndsAt d at 32 → EndsAt d at c
-    → GoOnAlike d p.Between xs (c ∷ ys) → GoOnAlike d at (32 ∷ xs) (c ∷ ys)
-unfolding parts.GoOnAlike
-skips_byte d at c xs ys here there same =
+skipped : (d : Dialect) (at : Part) (xs ys : List ℕ) → EndsAt d at 32 → EndsBefore d at ys
+    → GoOnAlike d p.Between xs ys → GoOnAlike d at (32 ∷ xs) ys
+unfolding parts.GoOnAlike parts.EndsAt parts.EndsBefore
+skipped d at xs [] here there same =
+    λ bs t.
+    let s = state_at at bs t in
+    ends-before d s 32 xs (here bs t) ∙ ap (lex.put (lex.ending s)) (space d xs ∙ same bs t) ∙ sym (ends-last d s)
+skipped d at xs (c ∷ ys) here there same =
     λ bs t.
     let s = state_at at bs t in
     ends-before d s 32 xs (here bs t) ∙ ap (lex.put (lex.ending s)) (space d xs ∙ same bs t)
     ∙ sym (ends-before d s c ys (there bs t))
 
-pub skips_last : (d : Dialect) (at : Part) (xs : List ℕ) → EndsAt d at 32 → GoOnAlike d p.Between xs []
-    → GoOnAlike d at (32 ∷ xs) []
-unfolding parts.GoOnAlike
-skips_last d at xs here same =
-    λ bs t.
-    let s = state_at at bs t in
-    ends-before d s 32 xs (here bs t) ∙ ap (lex.put (lex.ending s)) (space d xs ∙ same bs t) ∙ sym (ends-last d s)
+-- ## The texts
 
-pub ruleset skips = (skips_byte, skips_last)
+pub carries_texts : (d : Dialect) (at next : Part) (x y : ℕ) (xs ys left right : List ℕ) → left ≡ x ∷ xs
+    → right ≡ y ∷ ys → x ≡ y → Carries d at x next → GoOnAlike d next xs ys → GoOnAlike d at left right
+unfolding parts.Carries
+carries_texts d at next x y xs ys left right is other same carry alike =
+    rw (is, other, sym same) (carry xs ys alike)
 
-pub alike-turned : (d : Dialect) (at : Part) (xs ys : List ℕ) → GoOnAlike d at xs ys → GoOnAlike d at ys xs
+pub skips_text : (d : Dialect) (at : Part) (xs text other : List ℕ) → text ≡ 32 ∷ xs → EndsAt d at 32
+    → EndsBefore d at other → GoOnAlike d p.Between xs other → GoOnAlike d at text other
+skips_text d at xs text other is here there alike = rw is (skipped d at xs other here there alike)
+
+pub ends_empty : (d : Dialect) (at : Part) (xs : List ℕ) → length xs ≡ 0 → EndsBefore d at xs
+unfolding parts.EndsBefore
+ends_empty d at [] h = tt
+ends_empty d at (x ∷ xs) h = absurd (omega (arith, h))
+
+pub ends_first : (d : Dialect) (at : Part) (c : ℕ) (cs xs : List ℕ) → xs ≡ c ∷ cs → EndsAt d at c → EndsBefore d at xs
+unfolding parts.EndsBefore
+ends_first d at c cs xs is h = rw is h
+
+pub alike_turned : (d : Dialect) (at : Part) (xs ys : List ℕ) → GoOnAlike d at xs ys → GoOnAlike d at ys xs
 unfolding parts.GoOnAlike
-alike-turned d at xs ys h = λ bs t. sym (h bs t)
+alike_turned d at xs ys h = λ bs t. sym (h bs t)
+
+-- they begin between tokens
+pub alike_tokens : (d : Dialect) (xs ys : List ℕ) → GoOnAlike d p.Between xs ys → tokens d xs ≡ tokens d ys
+unfolding parts.GoOnAlike
+alike_tokens d xs ys h = h [] g.Open
+
+pub alike_empty : (d : Dialect) (at : Part) (xs ys : List ℕ) → length xs ≡ 0 → length ys ≡ 0 → GoOnAlike d at xs ys
+unfolding parts.GoOnAlike
+alike_empty d at [] [] h k = λ bs t. refl
+alike_empty d at (x ∷ xs) ys h k = absurd (omega (arith, h))
+alike_empty d at [] (y ∷ ys) h k = absurd (omega (arith, k))

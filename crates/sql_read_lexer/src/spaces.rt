@@ -1,6 +1,6 @@
-ghost use Rattle.std.specs.Prelude.{◌≡◌, ◌<◌, IfSome, IsTrue, length};
+ghost use Rattle.std.specs.Prelude.{◌≡◌, ◌+◌, ◌<◌, IfSome, IsTrue, length};
 ghost use Rattle.sql_grammar.specs.Tokens.{tokens};
-ghost use Rattle.sql_read_lexer.specs.inside.Parts.{Carries, GoOnAlike};
+ghost use Rattle.sql_read_lexer.specs.inside.Parts.{Carries, EndsAt, EndsBefore, GoOnAlike};
 ghost use Rattle.sql_read_lexer.specs.declared.part.Part.TheVariants as part_is;
 
 use crate::part::{Part, begun, extended};
@@ -38,8 +38,25 @@ fn after_byte<'a>(
     Some((next, (xs, ys)))
 }
 
-/// What is left of a text after a space that stands behind the token at hand, where the other text ends that token too.
-#[tactic(auto, using(crate::proofs::Alike::skips))]
+/// Whether the byte ends the token at hand.
+fn ends_at(dialect: Dialect, part: Part, byte: u8) -> bool
+    ensures { IsTrue result → EndsAt dialect part byte }
+{
+    extended(dialect, part, byte).is_none()
+}
+
+/// Whether the text does, by its first byte or because it has none.
+#[tactic(auto, using(crate::proofs::Alike::ends_empty, crate::proofs::Alike::ends_first))]
+fn ends_before(dialect: Dialect, part: Part, text: &[u8]) -> bool
+    ensures { IsTrue result → EndsBefore dialect part text.now }
+{
+    match text.split_first() {
+        None => true,
+        Some((first, _)) => ends_at(dialect, part, *first),
+    }
+}
+
+/// What is left of a text after a space that ends the token at hand, where the other text ends it too.
 fn after_space<'a>(dialect: Dialect, part: Part, text: &'a [u8], other: &[u8]) -> Option<&'a [u8]>
     ensures shorter { IfSome result (λ rest. length rest.now < length text.now) }
     ensures alike { IfSome result (λ rest. GoOnAlike dialect part_is.Between rest.now other.now
@@ -49,39 +66,51 @@ fn after_space<'a>(dialect: Dialect, part: Part, text: &'a [u8], other: &[u8]) -
     if *first != 32 {
         return None;
     }
-    if extended(dialect, part, 32).is_some() {
+    if !ends_at(dialect, part, 32) {
         return None;
     }
-    if let Some((next, _)) = other.split_first() {
-        if extended(dialect, part, *next).is_some() {
-            return None;
-        }
+    if !ends_before(dialect, part, other) {
+        return None;
     }
     Some(rest)
 }
 
-/// Whether two texts differ in spaces alone, so that they have the same tokens. No is no answer: a text may lack the space between a number
-/// and a word.
+/// Where both texts stand after a byte of both, or after a space that one of them has and does without.
+#[tactic(auto, using(crate::proofs::Alike::alike_turned))]
+fn after_one<'a>(
+    dialect: Dialect,
+    part: Part,
+    a: &'a [u8],
+    b: &'a [u8],
+) -> Option<(Part, (&'a [u8], &'a [u8]))>
+    ensures shorter { IfSome result (λ p. length p.1.0.now + length p.1.1.now
+        < length a.now + length b.now) }
+    ensures alike { IfSome result (λ p. GoOnAlike dialect p.0 p.1.0.now p.1.1.now
+        → GoOnAlike dialect part a.now b.now) }
+{
+    if let Some(both) = after_byte(dialect, part, a, b) {
+        return Some(both);
+    }
+    if let Some(rest) = after_space(dialect, part, a, b) {
+        return Some((Part::Between, (rest, b)));
+    }
+    let rest = after_space(dialect, part, b, a)?;
+    Some((Part::Between, (a, rest)))
+}
+
+/// Whether two texts differ in spaces alone, so that they have the same tokens. Where a text lacks the space between a number and a word, it
+/// is not seen.
+#[tactic(auto, using(crate::proofs::Alike::alike_tokens, crate::proofs::Alike::alike_empty))]
 pub fn differ_in_spaces(dialect: Dialect, a: &str, b: &str) -> bool
     ensures { IsTrue result → tokens dialect a.now ≡ tokens dialect b.now }
 {
-    let mut a = a.as_bytes();
-    let mut b = b.as_bytes();
     let mut part = Part::Between;
-    while !a.is_empty() || !b.is_empty() {
-        if let Some((next, (xs, ys))) = after_byte(dialect, part, a, b) {
-            part = next;
-            a = xs;
-            b = ys;
-        } else if let Some(xs) = after_space(dialect, part, a, b) {
-            part = Part::Between;
-            a = xs;
-        } else if let Some(ys) = after_space(dialect, part, b, a) {
-            part = Part::Between;
-            b = ys;
-        } else {
-            return false;
-        }
+    let mut left = a.as_bytes();
+    let mut right = b.as_bytes();
+    while let Some((next, (xs, ys))) = after_one(dialect, part, left, right) {
+        part = next;
+        left = xs;
+        right = ys;
     }
-    true
+    left.is_empty() && right.is_empty()
 }

@@ -1,5 +1,6 @@
 -- Where in a token a text stands, and when two texts go on from there with the same tokens.
-use Rattle.std.specs.Prelude.{◌≡◌, ℕ, List, ◌∷◌}
+use Rattle.std.specs.Prelude.{◌≡◌, ℕ, List, [], ◌∷◌, None}
+use Rattle.std.specs.Option.{option_map}
 use Rattle.sql_dialect.specs.declared.backend.Dialect.{Dialect}
 use Rattle.sql_grammar.specs.Token as g
 use Rattle.sql_grammar.specs.Tokens as lex
@@ -44,3 +45,12 @@ GoOnAlike d at xs ys =
 -- they do so before a byte where they do after it
 unfoldable pub Carries : Dialect → Part → ℕ → Part → Type 0
 Carries d at c next = (xs ys : List ℕ) → GoOnAlike d next xs ys → GoOnAlike d at (c ∷ xs) (c ∷ ys)
+
+-- a byte ends the token at hand
+unfoldable pub EndsAt : Dialect → Part → ℕ → Type 0
+EndsAt d at c = (bs : List ℕ) → (t : g.Token) → option_map part_of (lex.extended d (state_at at bs t) c) ≡ None
+
+-- the text does, by its first byte or because it has none
+unfoldable pub EndsBefore : Dialect → Part → List ℕ → Type 0
+EndsBefore d at [] = Unit {0}
+EndsBefore d at (c ∷ cs) = EndsAt d at c
