@@ -81,27 +81,9 @@ pub fn extended(dialect: Dialect, part: Part, byte: u8) -> Option<Part>
                 None
             }
         }
-        Part::AfterBang => {
-            if byte == 61 {
-                Some(Part::Whole)
-            } else {
-                None
-            }
-        }
-        Part::AfterLess => {
-            if byte == 61 {
-                Some(Part::Whole)
-            } else {
-                None
-            }
-        }
-        Part::AfterGreater => {
-            if byte == 61 {
-                Some(Part::Whole)
-            } else {
-                None
-            }
-        }
+        Part::AfterBang => { if byte == 61 { Some(Part::Whole) } else { None } }
+        Part::AfterLess => { if byte == 61 { Some(Part::Whole) } else { None } }
+        Part::AfterGreater => { if byte == 61 { Some(Part::Whole) } else { None } }
         Part::Whole => None,
     }
 }
@@ -121,13 +103,7 @@ fn begun_name(dialect: Dialect, byte: u8) -> Option<Part>
                 None
             }
         }
-        Dialect::Mysql | Dialect::Sqlite => {
-            if byte == 63 {
-                Some(Part::Whole)
-            } else {
-                None
-            }
-        }
+        Dialect::Mysql | Dialect::Sqlite => { if byte == 63 { Some(Part::Whole) } else { None } }
         Dialect::Bracket => {
             if byte == 64 {
                 Some(Part::AfterAt)
