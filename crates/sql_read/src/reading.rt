@@ -83,7 +83,10 @@ fn is_written(alloc: Global, dialect: Dialect, tree: &Tree, text: &str) -> Resul
         ↔ (tokens dialect (text_of dialect (tree_of tree.now)) ≡ tokens dialect text.now)) }
 {
     let written = write(alloc, dialect, tree)?;
-    if written.as_str() == text || differ_in_spaces(dialect, written.as_str(), text) {
+    if written.as_str() == text {
+        return Ok(true);
+    }
+    if differ_in_spaces(dialect, written.as_str(), text) {
         return Ok(true);
     }
     let a = text_tokens(alloc, dialect, written.as_str())?;

@@ -98,8 +98,8 @@ fn after_one<'a>(
     Some((Part::Between, (a, rest)))
 }
 
-/// Whether two texts differ in spaces alone, so that they have the same tokens. Where a text lacks the space between a number and a word, it
-/// is not seen.
+/// Returns whether two texts differ in spaces alone, as `("a"."x"=$7)` and `("a"."x" = $7)` do: then they have the same tokens. False says
+/// nothing, as such texts are not always seen to be that: where `$1 AND` is `$1AND` in the other, say.
 #[tactic(auto, using(crate::proofs::Alike::alike_tokens, crate::proofs::Alike::alike_empty))]
 pub fn differ_in_spaces(dialect: Dialect, a: &str, b: &str) -> bool
     ensures { IsTrue result → tokens dialect a.now ≡ tokens dialect b.now }
