@@ -48,6 +48,8 @@ impl Drop for CombinationClause {
     }
 }
 
+// (not inlined: see `combination_copy`)
+#[inline(never)]
 fn clone_positions(
     alloc: Global,
     order: &Option<SqlList<PositionalItem>>,

@@ -6,7 +6,7 @@ ghost use Rattle.sql_pass.specs.Walks.{Walks};
 ghost use Rattle.sql_leaf.specs.Limits.{limit_offset_pieces};
 ghost use Rattle.sql_leaf.specs.Locks.{locking_pieces};
 ghost use Rattle.sql_node.specs.Pieces.{order_pieces, pieces};
-ghost use Rattle.sql_node.specs.View.{order_clause_tree, select_statement_tree, statement_tree};
+ghost use Rattle.sql_node.specs.View.{boxed_select_statement_tree, combination_clause_tree, order_clause_tree, select_statement_tree, statement_tree};
 
 use crate::{
     BoxedSelectStatement, CombinationClause, DistinctClause, FromClause, GroupByClause,
@@ -76,13 +76,40 @@ impl Statement {
         ensures { IfOk result (λ v. statement_tree v ≡ statement_tree self.now) }
     {
         match self {
-            Statement::Select(statement) => Ok(Statement::Select(statement.try_clone(alloc)?)),
-            Statement::Boxed(statement) => Ok(Statement::Boxed(statement.try_clone(alloc)?)),
-            Statement::Combination(statement) => Ok(Statement::Combination(statement.try_clone(
-                alloc,
-            )?)),
+            Statement::Select(select) => select_copy(alloc, select),
+            Statement::Boxed(select) => boxed_copy(alloc, select),
+            Statement::Combination(both) => combination_copy(alloc, both),
         }
     }
+}
+
+// (the copies of each kind are not inlined, so that the copy of what nests keeps a small frame)
+
+/// An equal statement, of a select statement.
+#[inline(never)]
+#[cycle(copy)]
+fn select_copy(alloc: Global, select: &SelectStatement) -> Result<Statement, NoMemory>
+    ensures { IfOk result (λ v. statement_tree v ≡ select_statement_tree select.now) }
+{
+    Ok(Statement::Select(select.try_clone(alloc)?))
+}
+
+/// An equal statement, of a boxed one.
+#[inline(never)]
+#[cycle(copy)]
+fn boxed_copy(alloc: Global, select: &BoxedSelectStatement) -> Result<Statement, NoMemory>
+    ensures { IfOk result (λ v. statement_tree v ≡ boxed_select_statement_tree select.now) }
+{
+    Ok(Statement::Boxed(select.try_clone(alloc)?))
+}
+
+/// An equal statement, of a combination.
+#[inline(never)]
+#[cycle(copy)]
+fn combination_copy(alloc: Global, both: &CombinationClause) -> Result<Statement, NoMemory>
+    ensures { IfOk result (λ v. statement_tree v ≡ combination_clause_tree both.now) }
+{
+    Ok(Statement::Combination(both.try_clone(alloc)?))
 }
 
 impl SelectStatement {
@@ -128,8 +155,6 @@ impl SelectStatement {
     }
 
     /// An equal statement.
-    // (not inlined: what nests keeps a small frame)
-    #[inline(never)]
     #[cycle(copy)]
     pub fn try_clone(&self, alloc: Global) -> Result<SelectStatement, NoMemory>
         ensures { IfOk result (λ v. select_statement_tree v ≡ select_statement_tree self.now) }
