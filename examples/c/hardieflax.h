@@ -79,21 +79,25 @@ uint32_t hardieflax_audit(hardieflax *handle, uint32_t dialect, const uint8_t *t
 
 /*
  * Opens a session over the schema of a document, in place of the one that the handle has. The answer is that of hardieflax_build for
- * the document, whose requests may be none. A request that nests too deep ends the call with HARDIEFLAX_NO_MEMORY: the session is open,
- * and has answered the requests before it, whose lines are the answer. On any other status but HARDIEFLAX_DONE, and where memory runs
- * out, the handle has no session and no lines.
+ * the document, whose requests may be none. Where the document has a member "tenant", which has policies, it is that of `tenant`, and each
+ * statement of the session is guarded by them. A value in them may be a place, {"value":"id"}, for which a member "values" of this
+ * document and of each further one has the value, {"id":7}: null, a truth value, a number or a text (docs/GUARD.md).
+ *
+ * A request that nests too deep ends the call with HARDIEFLAX_NO_MEMORY: the session is open, and has answered the requests before it,
+ * whose lines are the answer. On any other status but HARDIEFLAX_DONE, and where memory runs out, the handle has no session and no lines.
  */
 uint32_t hardieflax_open(hardieflax *handle, const uint8_t *document, size_t length);
 
 /*
  * Answers more requests over the session's schema: a document that declares no table, as {"schema":{"tables":[]},"requests":[..]}. The
  * lines are those that the output of one document would have which has the requests of all the session's calls, in order: an id is the
- * number, from 1, of the session's first accepted request of the same dialect and shape. Input that is no such document leaves the session
- * as it was.
+ * number, from 1, of the session's first accepted request of the same dialect and shape. In a session with policies the document's member
+ * "values" has the values for their places, so that one session serves all tenants with one text for each shape. Input that is no such
+ * document, or lacks a value, leaves the session as it was.
  *
  * A request that nests too deep ends the call with HARDIEFLAX_NO_MEMORY. The session has then answered the requests before it, whose lines
- * are the answer, and goes on: it has not counted that request, nor those after it. Where memory runs out there are no lines and the
- * session is gone, so a further call returns HARDIEFLAX_USAGE: open it again.
+ * are the answer, and goes on: it has not counted that request, nor those after it. Where memory runs out, or policies make a request too
+ * deep that is not so by itself, there are no lines and the session is gone, so a further call returns HARDIEFLAX_USAGE: open it again.
  */
 uint32_t hardieflax_next(hardieflax *handle, const uint8_t *document, size_t length);
 
@@ -102,6 +106,12 @@ void hardieflax_free(hardieflax *handle);
 
 /* The version of the library, as "0.1.0": a text that stays. CONTRIBUTING.md says what may change from one version to another. */
 const char *hardieflax_version(void);
+
+/* The toolchain that the library is proved with, as README.md names it: a text that stays. */
+const char *hardieflax_kit(void);
+
+/* The name of a status, as "BadDocument": a text that stays. It is "Unknown" for a number that no call returns. */
+const char *hardieflax_status_name(uint32_t status);
 
 #ifdef __cplusplus
 }
