@@ -84,6 +84,21 @@ again='{"schema":{"tables":[]},"requests":[{"dialect":"Pg","query":{"from":{"tab
 cat "$top/examples/filter.jsonl" "$top/examples/filter.jsonl" >"$work/twice"
 echo '{"schema":' >"$work/bad.json"
 
+# One session for the tenants 7 and 8: one text and one id for the same request, and no text for a table without a policy.
+cat >"$work/tenants.json" <<'TXT'
+{"schema":{"tables":[{"name":"posts","columns":[{"name":"id","type":"Integer"},{"name":"tenant","type":"Integer"}]},{"name":"invoices","columns":[{"name":"id","type":"Integer"}]}]},
+"tenant":[{"table":"posts","predicate":{"eq":[{"col":["posts","tenant"]},{"bind":["Integer",{"value":"tenant"}]}]}}],
+"values":{"tenant":7},
+"requests":[{"dialect":"Pg","query":{"from":{"table":"posts"}}}]}
+TXT
+eighth='{"schema":{"tables":[]},"values":{"tenant":8},"requests":[{"dialect":"Pg","query":{"from":{"table":"posts"}}},{"dialect":"Pg","query":{"from":{"table":"invoices"}}}]}'
+nobody='{"schema":{"tables":[]},"requests":[{"dialect":"Pg","query":{"from":{"table":"posts"}}}]}'
+cat >"$work/tenants.jsonl" <<'TXT'
+{"binds":[["Integer",7]],"columns":["Integer","Integer"],"id":1,"safe":true,"sql":"SELECT \"posts\".\"id\", \"posts\".\"tenant\" FROM \"posts\" WHERE (\"posts\".\"tenant\" = $1)"}
+{"binds":[["Integer",8]],"columns":["Integer","Integer"],"id":1,"safe":true,"sql":"SELECT \"posts\".\"id\", \"posts\".\"tenant\" FROM \"posts\" WHERE (\"posts\".\"tenant\" = $1)"}
+{"refused":"LacksPolicy"}
+TXT
+
 # filters COUNT: a request with so many filters
 filters() {
     awk -v count="$1" 'BEGIN {
@@ -121,6 +136,8 @@ if [ -n "$c" ]; then
             check "C, ${document##*/}" prints "${document%.json}.jsonl" "$work/main" "$word" "$document"
         done
         check 'C, a session' prints "$work/twice" "$work/main" session "$top/examples/filter.json" "$again"
+        check 'C, a session of tenants' prints "$work/tenants.jsonl" "$work/main" session "$work/tenants.json" "$eighth"
+        check 'C, a session of tenants without a value' stops "$work/tenants.jsonl" 3 "$work/main" session "$work/tenants.json" "$eighth" "$nobody"
         check 'C, no document' ends 3 "$work/main" build "$work/bad.json"
         check 'C, the deepest request in 2 MB of stack' answers small "$work/main" build "$work/deepest.json"
         check 'C, a deeper request' ends 6 small "$work/main" build "$work/deeper.json"
@@ -140,6 +157,7 @@ if command -v cargo >/dev/null && [ -e "$shared" ]; then
     check 'the tests of the Rust wrapper' [ $? = 0 ] || cat "$work/log"
     rust() { "$top/packaging/cargo.sh" "$made" run --offline --quiet --manifest-path "$top/rust/Cargo.toml" --example session -- "$@"; }
     check 'Rust, a session' prints "$work/twice" rust "$top/examples/filter.json" "$again"
+    check 'Rust, a session of tenants' prints "$work/tenants.jsonl" rust "$work/tenants.json" "$eighth"
     check 'Rust, no document' ends 3 rust "$work/bad.json"
     check 'Rust, the lines before a deeper request' stops "$work/around.jsonl" 6 rust "$work/around.json"
 else
@@ -150,6 +168,7 @@ if command -v python3 >/dev/null && [ -e "$shared" ]; then
     PYTHONDONTWRITEBYTECODE=1
     export PYTHONDONTWRITEBYTECODE
     check 'Python, a session' prints "$work/twice" python3 "$top/examples/python/main.py" "$shared" "$top/examples/filter.json" "$again"
+    check 'Python, a session of tenants' prints "$work/tenants.jsonl" python3 "$top/examples/python/main.py" "$shared" "$work/tenants.json" "$eighth"
     check 'Python, no document' ends 3 python3 "$top/examples/python/main.py" "$shared" "$work/bad.json"
     check 'Python, the lines before a deeper request' stops "$work/around.jsonl" 6 python3 "$top/examples/python/main.py" "$shared" "$work/around.json"
     check 'Python, threads' python3 "$top/tests/wrappers/threads.py" "$shared"

@@ -159,6 +159,7 @@ class Hardieflax:
     def open(self, document: bytes) -> bytes:
         """Opens a session over the document's schema, in place of an earlier one, and answers the document.
 
+        Its member `tenant` has policies, with places for the values that each document of the session gives (docs/GUARD.md).
         Where a request nests too deep the session is open, and has answered the requests before it. After any other error there is none.
         """
         return self._call("open", document)

@@ -171,8 +171,9 @@ impl Hardieflax {
         self.answer(status)
     }
 
-    /// Opens a session over the document's schema, in place of an earlier one, and answers the document. Where a request nests too deep the
-    /// session is open, and has answered the requests before it. After any other error there is none.
+    /// Opens a session over the document's schema, in place of an earlier one, and answers the document. Its member `tenant` has policies, with
+    /// places for the values that each document of the session gives (`docs/GUARD.md`). Where a request nests too deep the session is open,
+    /// and has answered the requests before it. After any other error there is none.
     pub fn open(&mut self, document: &[u8]) -> Lines<'_> {
         // SAFETY: as above.
         let status = unsafe { raw::hardieflax_open(&mut self.handle, document.as_ptr(), document.len()) };

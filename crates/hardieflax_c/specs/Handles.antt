@@ -5,12 +5,11 @@ use Rattle.sql_tool_run.specs.Command.{IsOutputOf, IsOutputPrefixOf}
 use Rattle.sql_tool_run.specs.Limits.{greatest_input}
 use Rattle.sql_tool_run.specs.Run.{status_of}
 use Rattle.sql_tool_run.specs.declared.command.Command.{Command}
-use Rattle.sql_tool_run.specs.declared.command.Command.TheVariants.{Build}
 use Rattle.sql_tool_run.specs.declared.status.Status.{Status}
 use Rattle.sql_tool_run.specs.declared.status.Status.TheVariants.{Done, Usage, BadDocument, NoMemory, TooLarge}
-use Rattle.sql_tool_document.specs.Documents.{Document, document}
-use Rattle.sql_tool_session.specs.Session.{HasAnswered, followed_by}
-use Rattle.sql_tool_session.specs.Within.{HasTooDeep, before_too_deep, cut_too_deep}
+use Rattle.sql_schema.specs.Declarations.{Declarations}
+use Rattle.sql_tool_session.specs.Session.{Asked, Asking, HasAnswered, asked_by, asked_for, opened_by, opening_status, template_by, template_of}
+use Rattle.sql_tool_session.specs.Within.{HasTooDeep, before_too_deep}
 use Rattle.sql_tool_session.specs.declared.responder.Responder.{Responder}
 use Rattle.sql_tool_session.specs.declared.session.Session.{Session}
 use Rattle.hardieflax_c.specs.declared.handle.Handle.{Handle}
@@ -44,37 +43,45 @@ pub record IsAnswered (c : Command) (input : List ℕ) (old new : Handle) (statu
   pub session : session_of new ≡ session_of old
   pub sound : IsSound new
 
--- A call opens a session: on Done it has answered the document, by what the handle shows. After NoMemory there is a session only where a
--- request nests too deep, and it has answered those before it. Done comes only where none does.
+-- A call opens a session: on Done it has answered what the document asks, by what the handle shows. After NoMemory there is a session only
+-- where a request nests too deep, and it has answered those before it. Done comes only where none does. The session has the policies that
+-- the document has: without any it is answered for nobody in particular, and the status is that of `build`; with some it is answered for a
+-- tenant (the laws of `sql_tool_session`).
 pub record IsOpened (input : List ℕ) (new : Handle) (status : Status) : Type 0 where
-  pub done : status ≡ Done → (r : Responder) × (s : Session) × (d : Document) × Shows new r
-      × (session_of new ≡ Some s) × (document input ≡ Some d) × HasAnswered d r.answer.items s
-  pub deep : (s : Session) → status ≡ NoMemory → session_of new ≡ Some s → (r : Responder) × (d : Document) × Shows new r
-      × (document input ≡ Some d) × HasTooDeep d.requests × HasAnswered (cut_too_deep d) r.answer.items s
-  pub shallow : (d : Document) → status ≡ Done → document input ≡ Some d → HasTooDeep d.requests → ⊥
+  pub done : status ≡ Done → (r : Responder) × (s : Session) × (a : Asking) × Shows new r
+      × (session_of new ≡ Some s) × (opened_by input ≡ Some a) × (template_of s ≡ template_by input)
+      × HasAnswered a.document.schema (asked_for a.tenant a.document.requests) r.answer.items s
+  pub deep : (s : Session) → status ≡ NoMemory → session_of new ≡ Some s → (r : Responder) × (a : Asking) × Shows new r
+      × (opened_by input ≡ Some a) × HasTooDeep a.document.requests × (template_of s ≡ template_by input)
+      × HasAnswered a.document.schema (asked_for a.tenant (before_too_deep a.document.requests)) r.answer.items s
+  pub shallow : (a : Asking) → status ≡ Done → opened_by input ≡ Some a → HasTooDeep a.document.requests → ⊥
   pub nothing : (status ≡ Done → ⊥) → (status ≡ NoMemory → session_of new ≡ None)
       → (new.length ≡ 0) × (session_of new ≡ None)
-  pub decided : (status ≡ NoMemory) ⊎ (status ≡ status_of (Some Build) input)
+  pub decided : (status ≡ NoMemory) ⊎ (status ≡ opening_status input)
   pub sound : IsSound new
 
--- A call goes on with the session: on Done it has answered the document's requests too, by what the handle shows. After NoMemory there is
--- a session only where a request nests too deep, and it has answered those before it. Done comes only where none does.
+-- A call goes on with the session: on Done it has answered what the document asks too, by what the handle shows. After NoMemory there is
+-- a session only where a request nests too deep, and it has answered those before it. Done comes only where none does. A session keeps its
+-- policies: without any all is answered for nobody in particular, and with some for a tenant.
 pub record IsContinued (input : List ℕ) (old new : Handle) (status : Status) : Type 0 where
-  pub done : status ≡ Done → (r : Responder) × (before after : Session) × (more : Document) × Shows new r
+  pub done : status ≡ Done → (r : Responder) × (before after : Session) × (a : Asking) × Shows new r
       × (session_of old ≡ Some before) × (session_of new ≡ Some after)
-      × (document input ≡ Some more) × (length more.schema.tables ≡ 0)
-      × ((d : Document) (text : List ℕ) → HasAnswered d text before
-      → HasAnswered (followed_by d more.requests) (text ++ r.answer.items) after)
+      × (asked_by before input ≡ Some a) × (length a.document.schema.tables ≡ 0) × (after.template ≡ before.template)
+      × ((schema : Declarations) (asked : List Asked) (text : List ℕ) → HasAnswered schema asked text before
+      → HasAnswered schema (asked ++ asked_for a.tenant a.document.requests) (text ++ r.answer.items) after)
   pub deep : (after : Session) → status ≡ NoMemory → session_of new ≡ Some after
-      → (r : Responder) × (before : Session) × (more : Document) × Shows new r × (session_of old ≡ Some before)
-      × (document input ≡ Some more) × (length more.schema.tables ≡ 0) × HasTooDeep more.requests
-      × ((d : Document) (text : List ℕ) → HasAnswered d text before
-      → HasAnswered (followed_by d (before_too_deep more.requests)) (text ++ r.answer.items) after)
-  pub shallow : (more : Document) → status ≡ Done → document input ≡ Some more → HasTooDeep more.requests → ⊥
+      → (r : Responder) × (before : Session) × (a : Asking) × Shows new r × (session_of old ≡ Some before)
+      × (asked_by before input ≡ Some a) × (length a.document.schema.tables ≡ 0) × HasTooDeep a.document.requests
+      × (after.template ≡ before.template)
+      × ((schema : Declarations) (asked : List Asked) (text : List ℕ) → HasAnswered schema asked text before
+      → HasAnswered schema (asked ++ asked_for a.tenant (before_too_deep a.document.requests)) (text ++ r.answer.items) after)
+  pub shallow : (before : Session) (a : Asking) → status ≡ Done → session_of old ≡ Some before
+      → asked_by before input ≡ Some a → HasTooDeep a.document.requests → ⊥
   pub nothing : (status ≡ Done → ⊥) → (status ≡ NoMemory → session_of new ≡ None) → new.length ≡ 0
   pub usage : (status ≡ Usage) ↔ (session_of old ≡ None)
   pub bad : status ≡ BadDocument → (session_of new ≡ session_of old)
-      × ((d : Document) → document input ≡ Some d → 0 < length d.schema.tables)
+      × ((before : Session) (a : Asking) → session_of old ≡ Some before → asked_by before input ≡ Some a
+      → 0 < length a.document.schema.tables)
   pub large : status ≡ TooLarge → (session_of new ≡ session_of old) × (greatest_input < length input)
   pub too_large : ¬ (session_of old ≡ None) → greatest_input < length input → status ≡ TooLarge
   pub ends : (status ≡ Done) ⊎ ((status ≡ Usage) ⊎ ((status ≡ BadDocument) ⊎ ((status ≡ TooLarge) ⊎ (status ≡ NoMemory))))

@@ -37,3 +37,25 @@ pub(crate) const AUDITED: &str =
 
 /// A document of 38 bytes that asks for nothing.
 pub(crate) const NOTHING: &str = r#"{"schema":{"tables":[]},"requests":[]}"#;
+
+/// Opens a session with policies for the tenant 7, and asks for their posts. Of invoices nothing is said.
+pub(crate) const OPEN_TENANTS: &str =
+    r#"{"schema":{"tables":[{"name":"posts","columns":[{"name":"id","type":"Integer"},{"name":"tenant","type":"Integer"},{"name":"title","type":"Text"}]},{"name":"countries","columns":[{"name":"id","type":"Integer"}]},{"name":"invoices","columns":[{"name":"id","type":"Integer"}]}]},"tenant":[{"table":"posts","predicate":{"eq":[{"col":["posts","tenant"]},{"bind":["Integer",{"value":"tenant"}]}]}},{"table":"countries"}],"values":{"tenant":7},"requests":[{"dialect":"Pg","query":{"from":{"table":"posts"},"calls":[["select",{"col":["posts","title"]}]]}}]}"#;
+
+pub(crate) const TENANT_7_LINES: &str =
+    "{\"binds\":[[\"Integer\",7]],\"columns\":[\"Text\"],\"id\":1,\"safe\":true,\"sql\":\"SELECT \\\"posts\\\".\\\"title\\\" FROM \\\"posts\\\" WHERE (\\\"posts\\\".\\\"tenant\\\" = $1)\"}\n";
+
+/// The same request for the tenant 8, one of a table that all tenants share, and one of a table without a policy.
+pub(crate) const TENANT_8: &str =
+    r#"{"schema":{"tables":[]},"values":{"tenant":8},"requests":[{"dialect":"Pg","query":{"from":{"table":"posts"},"calls":[["select",{"col":["posts","title"]}]]}},{"dialect":"Pg","query":{"from":{"table":"countries"}}},{"dialect":"Pg","query":{"from":{"table":"invoices"}}}]}"#;
+
+/// The first line has the text and the id that the tenant 7 has, and a value of its own.
+pub(crate) const TENANT_8_LINES: &str =
+    "{\"binds\":[[\"Integer\",8]],\"columns\":[\"Text\"],\"id\":1,\"safe\":true,\"sql\":\"SELECT \\\"posts\\\".\\\"title\\\" FROM \\\"posts\\\" WHERE (\\\"posts\\\".\\\"tenant\\\" = $1)\"}\n{\"binds\":[],\"columns\":[\"Integer\"],\"id\":3,\"safe\":true,\"sql\":\"SELECT \\\"countries\\\".\\\"id\\\" FROM \\\"countries\\\"\"}\n{\"refused\":\"LacksPolicy\"}\n";
+
+/// The values of no tenant: the member is missing, its name is another, and an array, which stands for no place.
+pub(crate) const NO_TENANT: [&str; 3] = [
+    r#"{"schema":{"tables":[]},"requests":[{"dialect":"Pg","query":{"from":{"table":"posts"}}}]}"#,
+    r#"{"schema":{"tables":[]},"values":{"id":8},"requests":[{"dialect":"Pg","query":{"from":{"table":"posts"}}}]}"#,
+    r#"{"schema":{"tables":[]},"values":{"tenant":[8]},"requests":[{"dialect":"Pg","query":{"from":{"table":"posts"}}}]}"#,
+];

@@ -11,3 +11,5 @@ mod every_call;
 mod examples;
 #[cfg(test)]
 mod sessions;
+#[cfg(test)]
+mod tenants;

@@ -37,7 +37,7 @@ get_member-depth k (member l e ms) n h d is =
     at_member (slice_cmp nat_cmp k l) n e (get_member k ms) d (λ found. get_member-depth k ms n (omega arith) d found)
     (omega arith) is
 
-get-depth : (k : List ℕ) (e : Data) (n : ℕ) → depth e < suc n → Within n (get k e)
+pub get-depth : (k : List ℕ) (e : Data) (n : ℕ) → depth e < suc n → Within n (get k e)
 get-depth k null n h d is = absurd (let wrong : None ≡ Some d = is in cc)
 get-depth k (boolean b) n h d is = absurd (let wrong : None ≡ Some d = is in cc)
 get-depth k (number m) n h d is = absurd (let wrong : None ≡ Some d = is in cc)

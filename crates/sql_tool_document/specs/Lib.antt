@@ -4,6 +4,9 @@ pub mod Documents
 pub mod Guards
 pub mod Policies
 pub mod Texts
+-- The documents of a session, and places for values in its policies.
+pub mod Places
+pub mod Sessions
 pub mod Trees
 pub mod Schemas
 pub mod Queries

@@ -52,7 +52,10 @@ fn one_policy(alloc: Global, value: &Value<'_>) -> Result<NamedPolicy, Refusal>
     Ok(NamedPolicy { table, predicate })
 }
 
-fn each_policy(alloc: Global, items: &Vec<Value<'_>>) -> Result<Vec<NamedPolicy>, Refusal>
+pub(crate) fn each_policy(
+    alloc: Global,
+    items: &Vec<Value<'_>>,
+) -> Result<Vec<NamedPolicy>, Refusal>
     ensures { Gives (λ v. map named_policy_tree v.items) result
         (each policy_of (items_seen items.now.items)) }
 {

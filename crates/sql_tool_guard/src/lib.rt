@@ -14,4 +14,4 @@ mod line;
 mod tenant;
 
 pub use line::guarded_line;
-pub use tenant::{Tenant, TenantDocument, read_policies, read_tenant};
+pub use tenant::{Tenant, TenantDocument, policies_in, read_policies, read_tenant};

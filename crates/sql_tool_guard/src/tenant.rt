@@ -103,9 +103,9 @@ fn policy_in(
     Ok(Some(Policy { table, predicate }))
 }
 
-/// The policies, their names looked up in the schema. None where it lacks one of them.
+/// Returns the policies, their names looked up in the schema. None where it lacks one of them.
 #[tactic(auto, using(sql_build::proofs::Front::fronts))]
-fn policies_in(
+pub fn policies_in(
     alloc: Global,
     schema: &Schema,
     named: &[NamedPolicy],

@@ -1,3 +1,4 @@
 mod Answered
+mod Asking
 mod Calls
 mod TooDeep

@@ -2,7 +2,7 @@
 use Rattle.std.specs.Prelude.{◌<◌, List, Bool, length, nat_le, take_while}
 use Rattle.sql_build_depth.specs.Depth.{query_depth}
 use Rattle.sql_build_depth.specs.declared.depth.TheConstants.{MAX_DEPTH}
-use Rattle.sql_tool_document.specs.Documents.{Document, Request}
+use Rattle.sql_tool_document.specs.Documents.{Request}
 
 -- whether the statement nests no deeper than that
 abbrev pub fits : Request → Bool
@@ -15,7 +15,3 @@ before_too_deep rs = take_while fits rs
 -- one of them nests too deep: those before it are not all
 abbrev pub HasTooDeep : List Request → Type 0
 HasTooDeep rs = length (before_too_deep rs) < length rs
-
--- the document with these requests alone
-abbrev pub cut_too_deep : Document → Document
-cut_too_deep d = record { schema = d.schema; requests = before_too_deep d.requests }

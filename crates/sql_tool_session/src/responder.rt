@@ -1,19 +1,18 @@
-ghost use Rattle.std.specs.Prelude.{◌≡◌, ◌⊎◌, ◌↔◌, ◌++◌, ◌<◌, List, ℕ, [], Some, None, length, map, true};
+ghost use Rattle.std.specs.Prelude.{◌≡◌, ◌⊎◌, ◌↔◌, ◌++◌, ◌<◌, List, ℕ, [], Some, None, length, map, option_map, true};
 ghost use Rattle.sql_tool_run.specs.Command.{IsOutputOf, IsOutputPrefixOf, reads_source};
 ghost use Rattle.sql_tool_run.specs.Limits.{greatest_input};
 ghost use Rattle.sql_tool_run.specs.Run.{status_of};
-ghost use Rattle.sql_tool_run.specs.declared.command.Command.TheVariants.{Build};
 ghost use Rattle.sql_tool_run.specs.declared.status.Status.{Status};
-ghost use Rattle.sql_tool_document.specs.Documents.{Document, document as document_in};
+ghost use Rattle.sql_schema.specs.Declarations.{Declarations};
 ghost use Rattle.sql_tool_document.specs.Trees.{request_tree};
-ghost use Rattle.sql_tool_session.specs.Session.{HasAnswered, followed_by};
-ghost use Rattle.sql_tool_session.specs.Within.{HasTooDeep, before_too_deep, cut_too_deep};
+ghost use Rattle.sql_tool_guard.specs.Trees.{tenant_tree};
+ghost use Rattle.sql_tool_session.specs.Session.{Asked, Asking as AskingTree, HasAnswered, asked_by, asked_for, opened_by, opening_status, template_by, template_of};
+ghost use Rattle.sql_tool_session.specs.Within.{HasTooDeep, before_too_deep};
 ghost use Rattle.sql_tool_session.specs.declared.session.Session.{Session as SessionTree};
 
 use crate::call::{Reply, answer};
-use crate::session::{Session, requests};
+use crate::session::{Asking, Session};
 use crate::within::before_too_deep;
-use sql_tool_document::Request;
 use sql_tool_run::{Command, Status};
 use std::alloc::Global;
 use std::mem;
@@ -63,23 +62,30 @@ impl Responder {
 
     /// Answers the requests before the first one that nests too deep, over the session. It is Done where there is no such one, else
     /// NoMemory. Where memory runs out there is no session from then on.
-    fn go_on(&mut self, alloc: Global, session: Session, requests: &[Request]) -> Status
+    fn go_on(&mut self, alloc: Global, session: Session, asking: &Asking) -> Status
         requires { (self.old.session ≡ None) × (self.old.answer.items ≡ []) }
         ensures done { result ≡ Status.Done → (after : SessionTree) × (self.new.session ≡ Some after)
-            × ((d : Document) (text : List ℕ) → HasAnswered d text session
-            → HasAnswered (followed_by d (map request_tree requests.now))
-            (text ++ self.new.answer.items) after) }
+            × (after.template ≡ session.template)
+            × ((schema : Declarations) (asked : List Asked) (text : List ℕ)
+            → HasAnswered schema asked text session
+            → HasAnswered schema (asked ++ asked_for (option_map tenant_tree asking.now.tenant)
+            (map request_tree asking.now.requests)) (text ++ self.new.answer.items) after) }
         ensures deep { (after : SessionTree) → result ≡ Status.NoMemory
-            → self.new.session ≡ Some after → HasTooDeep (map request_tree requests.now)
-            × ((d : Document) (text : List ℕ) → HasAnswered d text session
-            → HasAnswered (followed_by d (before_too_deep (map request_tree requests.now)))
+            → self.new.session ≡ Some after → HasTooDeep (map request_tree asking.now.requests)
+            × (after.template ≡ session.template)
+            × ((schema : Declarations) (asked : List Asked) (text : List ℕ)
+            → HasAnswered schema asked text session
+            → HasAnswered schema (asked ++ asked_for (option_map tenant_tree asking.now.tenant)
+            (before_too_deep (map request_tree asking.now.requests)))
             (text ++ self.new.answer.items) after) }
-        ensures shallow { result ≡ Status.Done → HasTooDeep (map request_tree requests.now) → ⊥ }
+        ensures shallow { result ≡ Status.Done → HasTooDeep (map request_tree asking.now.requests)
+            → ⊥ }
         ensures lost { self.new.session ≡ None → self.new.answer.items ≡ [] }
         ensures status { (result ≡ Status.Done) ⊎ (result ≡ Status.NoMemory) }
     {
+        let requests = asking.requests.as_slice();
         let answered = before_too_deep(requests);
-        match session.answer(alloc, answered) {
+        match session.answer(alloc, &asking.tenant, answered) {
             Ok((session, lines)) => {
                 self.session = Some(session);
                 self.answer = lines;
@@ -93,66 +99,75 @@ impl Responder {
         }
     }
 
-    /// Opens a session over the document's schema, in place of an earlier one, with the document's output. A request that nests too deep
-    /// ends the call with NoMemory: then the session has answered the requests before it, and the answer is their lines.
+    /// Opens a session over the document's schema, in place of an earlier one, with the document's output. Where the document has policies
+    /// the session keeps them, and each of its statements is guarded by them, with the call's values at their places. A request that nests
+    /// too deep ends the call with NoMemory: then the session has answered the requests before it, and the answer is their lines.
     pub fn open(&mut self, alloc: Global, document: &[u8]) -> Status
-        ensures opened { result ≡ Status.Done → (d : Document) × (session : SessionTree)
-            × (document_in document.now ≡ Some d) × (self.new.session ≡ Some session)
-            × HasAnswered d self.new.answer.items session }
+        ensures opened { result ≡ Status.Done → (a : AskingTree) × (session : SessionTree)
+            × (opened_by document.now ≡ Some a) × (self.new.session ≡ Some session)
+            × (template_of session ≡ template_by document.now)
+            × HasAnswered a.document.schema (asked_for a.tenant a.document.requests)
+            self.new.answer.items session }
         // A session after NoMemory has answered the requests before one that nests too deep.
         ensures deep { (session : SessionTree) → result ≡ Status.NoMemory
-            → self.new.session ≡ Some session → (d : Document) × (document_in document.now ≡ Some d)
-            × HasTooDeep d.requests
-            × HasAnswered (cut_too_deep d) self.new.answer.items session }
+            → self.new.session ≡ Some session → (a : AskingTree)
+            × (opened_by document.now ≡ Some a) × HasTooDeep a.document.requests
+            × (template_of session ≡ template_by document.now)
+            × HasAnswered a.document.schema
+            (asked_for a.tenant (before_too_deep a.document.requests))
+            self.new.answer.items session }
         // Done only where no request nests too deep.
-        ensures shallow { (d : Document) → result ≡ Status.Done → document_in document.now ≡ Some d
-            → HasTooDeep d.requests → ⊥ }
+        ensures shallow { (a : AskingTree) → result ≡ Status.Done
+            → opened_by document.now ≡ Some a → HasTooDeep a.document.requests → ⊥ }
         ensures refused { (result ≡ Status.Done → ⊥)
             → (result ≡ Status.NoMemory → self.new.session ≡ None)
             → (self.new.session ≡ None) × (self.new.answer.items ≡ []) }
-        ensures status { (result ≡ Status.NoMemory)
-            ⊎ (result ≡ status_of (Some Build) document.now) }
+        ensures status { (result ≡ Status.NoMemory) ⊎ (result ≡ opening_status document.now) }
         // More bytes than the limit are always TooLarge.
         ensures too_large { greatest_input < length document.now → result ≡ Status.TooLarge }
     {
         self.session = None;
         self.answer = Vec::new(alloc);
         match Session::begin(alloc, document) {
-            Ok((session, requests)) => self.go_on(alloc, session, requests.as_slice()),
+            Ok((session, asking)) => self.go_on(alloc, session, &asking),
             Err(status) => status,
         }
     }
 
-    /// Answers the requests of a document that declares no table, over the session. A request that nests too deep ends the call with
-    /// NoMemory: then the session has answered the requests before it, the answer is their lines, and the session goes on. Where memory
-    /// runs out there is no session from then on.
+    /// Answers the requests of a document that declares no table, over the session. In a session with policies they hold with the
+    /// document's values at their places. A request that nests too deep ends the call with NoMemory: then the session has answered the
+    /// requests before it, the answer is their lines, and the session goes on. Where memory runs out there is no session from then on.
     pub fn next(&mut self, alloc: Global, document: &[u8]) -> Status
         // Usage exactly where there is no session.
         ensures usage { (result ≡ Status.Usage) ↔ (self.old.session ≡ None) }
-        // The session's answers before, and this answer, are the output of one document, with the requests before, and these.
+        // To what the session answered before, these requests and this answer are added.
         ensures done { result ≡ Status.Done → (before : SessionTree) × (after : SessionTree)
-            × (more : Document) × (self.old.session ≡ Some before)
-            × (self.new.session ≡ Some after) × (document_in document.now ≡ Some more)
-            × (length more.schema.tables ≡ 0)
-            × ((d : Document) (text : List ℕ) → HasAnswered d text before
-            → HasAnswered (followed_by d more.requests) (text ++ self.new.answer.items) after) }
+            × (a : AskingTree) × (self.old.session ≡ Some before)
+            × (self.new.session ≡ Some after) × (asked_by before document.now ≡ Some a)
+            × (length a.document.schema.tables ≡ 0) × (after.template ≡ before.template)
+            × ((schema : Declarations) (asked : List Asked) (text : List ℕ)
+            → HasAnswered schema asked text before
+            → HasAnswered schema (asked ++ asked_for a.tenant a.document.requests)
+            (text ++ self.new.answer.items) after) }
         // A session after NoMemory has answered the requests before one that nests too deep.
         ensures deep { (after : SessionTree) → result ≡ Status.NoMemory
             → self.new.session ≡ Some after → (before : SessionTree)
-            × (more : Document) × (self.old.session ≡ Some before)
-            × (document_in document.now ≡ Some more) × (length more.schema.tables ≡ 0)
-            × HasTooDeep more.requests
-            × ((d : Document) (text : List ℕ) → HasAnswered d text before
-            → HasAnswered (followed_by d (before_too_deep more.requests))
+            × (a : AskingTree) × (self.old.session ≡ Some before)
+            × (asked_by before document.now ≡ Some a) × (length a.document.schema.tables ≡ 0)
+            × HasTooDeep a.document.requests × (after.template ≡ before.template)
+            × ((schema : Declarations) (asked : List Asked) (text : List ℕ)
+            → HasAnswered schema asked text before
+            → HasAnswered schema (asked ++ asked_for a.tenant (before_too_deep a.document.requests))
             (text ++ self.new.answer.items) after) }
         // Done only where no request nests too deep.
-        ensures shallow { (more : Document) → result ≡ Status.Done
-            → document_in document.now ≡ Some more → HasTooDeep more.requests → ⊥ }
+        ensures shallow { (before : SessionTree) (a : AskingTree) → result ≡ Status.Done
+            → self.old.session ≡ Some before → asked_by before document.now ≡ Some a
+            → HasTooDeep a.document.requests → ⊥ }
         ensures nothing { (result ≡ Status.Done → ⊥)
             → (result ≡ Status.NoMemory → self.new.session ≡ None) → self.new.answer.items ≡ [] }
         ensures bad { result ≡ Status.BadDocument → (self.new.session ≡ self.old.session)
-            × ((d : Document) → document_in document.now ≡ Some d
-            → 0 < length d.schema.tables) }
+            × ((before : SessionTree) (a : AskingTree) → self.old.session ≡ Some before
+            → asked_by before document.now ≡ Some a → 0 < length a.document.schema.tables) }
         ensures large { result ≡ Status.TooLarge → (self.new.session ≡ self.old.session)
             × (greatest_input < length document.now) }
         // Where there is a session, more bytes than the limit are always TooLarge.
@@ -166,8 +181,8 @@ impl Responder {
         let Some(session) = mem::replace(&mut self.session, None) else {
             return Status::Usage;
         };
-        match requests(alloc, document) {
-            Ok(more) => self.go_on(alloc, session, more.as_slice()),
+        match session.asking(alloc, document) {
+            Ok(asking) => self.go_on(alloc, session, &asking),
             Err(Status::NoMemory) => Status::NoMemory,
             Err(status) => {
                 self.session = Some(session);

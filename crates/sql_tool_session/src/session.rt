@@ -1,16 +1,19 @@
-ghost use Rattle.std.specs.Prelude.{◌≡◌, ◌⊎◌, ◌∷◌, ◌++◌, ◌<◌, ◌≤◌, ◌+◌, List, ℕ, [], Some, IfOk, IfErr, IsErrOf, OnOk, length, map, string_bytes};
+ghost use Rattle.std.specs.Prelude.{◌≡◌, ◌⊎◌, ◌∷◌, ◌++◌, ◌<◌, ◌≤◌, ◌+◌, List, ℕ, [], Some, None, IfOk, IfErr, IsErrOf, OnOk, length, map, option_map, string_bytes};
+ghost use Rattle.sql_schema.specs.Declarations.{Declarations};
 ghost use Rattle.sql_tool_run.specs.Limits.{greatest_input};
-ghost use Rattle.sql_tool_run.specs.Run.{status_of};
-ghost use Rattle.sql_tool_run.specs.declared.command.Command.TheVariants.{Build};
 ghost use Rattle.sql_tool_run.specs.declared.status.Status.{Status};
-ghost use Rattle.sql_tool_document.specs.Documents.{Document as DocumentTree, document};
-ghost use Rattle.sql_tool_document.specs.Trees.{request_tree};
-ghost use Rattle.sql_tool_build.specs.Output.{IsOutput};
-ghost use Rattle.sql_tool_session.specs.Session.{HasAnswered, followed_by, with_schema};
+ghost use Rattle.sql_tool_document.specs.Trees.{named_policy_tree, request_tree};
+ghost use Rattle.sql_tool_build.specs.Output.{StatementRequest, line_text};
+ghost use Rattle.sql_tool_build.specs.inside.Keys.{HasLine, seen_at};
+ghost use Rattle.sql_tool_guard.specs.Trees.{tenant_tree};
+ghost use Rattle.sql_tool_session.specs.Session.{Asked, Asking as AskingTree, HasAnswered, IsMade, asked_by, asked_for, opened_by, opening_status, template_by, template_of, tenant_in};
 
 use sql_schema::{Schema, SqlList};
 use sql_tool_build::{NamedRequest, StatementCache, request_line};
-use sql_tool_document::{Document, Refusal, Request, read_document};
+use sql_tool_document::{
+    Call, Document, NamedPolicy, Opening, Refusal, Request, Template, read_call, read_opening,
+};
+use sql_tool_guard::{Tenant, guarded_line, policies_in};
 use sql_tool_run::{LIMIT, Status};
 use std::alloc::{AllocError, Global};
 use std::collections::BTreeMap;
@@ -19,12 +22,21 @@ use std::num::NonZeroUsize;
 /// How many answers are kept for requests of the same dialect and shape.
 const ENTRIES: usize = 256;
 
-/// One schema, and what is known of the requests over it so far: what was compiled for them, and their ids.
+/// One schema, and what is known of the requests over it so far: what was compiled for them, and their ids. A session that was opened
+/// with policies keeps them, with their places for a tenant's values.
 #[derive(Drop)]
 pub struct Session {
     cache: StatementCache,
     seen: BTreeMap<NamedRequest, u64>,
     count: u64,
+    template: Option<Template>,
+}
+
+/// Requests, and the tenant whose rows they see, where the session has policies.
+#[derive(Drop)]
+pub(crate) struct Asking {
+    pub(crate) tenant: Option<Tenant>,
+    pub(crate) requests: SqlList<Request>,
 }
 
 /// The number after this one. After 2^64 - 1 there is none.
@@ -34,141 +46,195 @@ fn following(number: u64) -> Result<u64, AllocError>
     number.checked_add(1).ok_or(AllocError)
 }
 
+/// The line of the request with this number, for its tenant where there is one.
+fn line_for(
+    alloc: Global,
+    cache: &mut StatementCache,
+    seen: &mut BTreeMap<NamedRequest, u64>,
+    number: u64,
+    tenant: &Option<Tenant>,
+    request: &Request,
+) -> Result<String, AllocError>
+    ensures line { IfOk result (λ text. (r : StatementRequest)
+        × IsMade cache.old.schema (option_map tenant_tree tenant.now) (request_tree request.now) r
+        × HasLine cache.old.schema r number (seen_at seen.old) (seen_at seen.new)
+        (λ l. string_bytes text ≡ line_text l)) }
+    ensures schema { cache.new.schema ≡ cache.old.schema }
+{
+    match tenant {
+        None => request_line(alloc, cache, seen, number, request),
+        Some(tenant) => guarded_line(alloc, cache, seen, number, tenant, request),
+    }
+}
+
+/// The tenant by its policies, their names looked up in the schema, where there are policies; `BadDocument` where the schema lacks a
+/// name.
+fn tenant_named(
+    alloc: Global,
+    schema: &Schema,
+    policies: Option<SqlList<NamedPolicy>>,
+) -> Result<Option<Tenant>, Status>
+    ensures found { IfOk result (λ tenant. tenant_in schema.now
+        (option_map (λ qs. map named_policy_tree qs) policies) ≡ Some (option_map tenant_tree tenant)) }
+    ensures refused { IfErr result (λ status. (status ≡ Status.NoMemory)
+        ⊎ ((status ≡ Status.BadDocument) × (tenant_in schema.now
+        (option_map (λ qs. map named_policy_tree qs) policies) ≡ None))) }
+{
+    let Some(policies) = policies else {
+        return Ok(None);
+    };
+    match policies_in(alloc, schema, policies.as_slice()) {
+        Ok(Some(policies)) => Ok(Some(Tenant::Policies(SqlList::from(policies)))),
+        Ok(None) => Err(Status::BadDocument),
+        Err(AllocError) => Err(Status::NoMemory),
+    }
+}
+
 impl Session {
-    /// A session over this schema that has answered nothing.
-    pub fn new(alloc: Global, schema: Schema) -> Result<Session, AllocError>
-        ensures { IfOk result (λ session. HasAnswered (with_schema schema) [] session) }
+    /// A session over this schema, with these policies, that has answered nothing.
+    fn new(alloc: Global, schema: Schema, template: Option<Template>) -> Result<Session, AllocError>
+        ensures { IfOk result (λ session. HasAnswered schema [] [] session
+            × (session.template ≡ template)) }
     {
         let capacity = NonZeroUsize::new(ENTRIES).unwrap();
         Ok(Session {
             cache: StatementCache::new(alloc, schema, capacity)?,
             seen: BTreeMap::new(alloc),
             count: 0,
+            template,
         })
     }
 
     /// The line of one more request.
-    fn line(&mut self, alloc: Global, request: &Request) -> Result<String, AllocError>
-        ensures { IfOk result (λ line. (d : DocumentTree) (text : List ℕ)
-            → HasAnswered d text self.old
-            → HasAnswered (followed_by d (request_tree request.now ∷ []))
-            (text ++ string_bytes line) self.new) }
+    fn line(
+        &mut self,
+        alloc: Global,
+        tenant: &Option<Tenant>,
+        request: &Request,
+    ) -> Result<String, AllocError>
+        ensures line { IfOk result (λ line. (schema : Declarations) (asked : List Asked) (text : List ℕ)
+            → HasAnswered schema asked text self.old
+            → HasAnswered schema (asked ++ asked_for (option_map tenant_tree tenant.now)
+            (request_tree request.now ∷ [])) (text ++ string_bytes line) self.new) }
+        ensures template { self.new.template ≡ self.old.template }
     {
         let number = following(self.count)?;
-        let line = request_line(alloc, &mut self.cache, &mut self.seen, number, request)?;
+        let line = line_for(
+            alloc,
+            &mut self.cache,
+            &mut self.seen,
+            number,
+            tenant,
+            request,
+        )?;
         self.count = number;
         Ok(line)
     }
 
     /// The lines of these requests, in order.
-    fn lines(&mut self, alloc: Global, requests: &[Request]) -> Result<Vec<u8>, AllocError>
-        ensures { IfOk result (λ lines. (d : DocumentTree) (text : List ℕ)
-            → HasAnswered d text self.old
-            → HasAnswered (followed_by d (map request_tree requests.now))
-            (text ++ lines.items) self.new) }
+    fn lines(
+        &mut self,
+        alloc: Global,
+        tenant: &Option<Tenant>,
+        requests: &[Request],
+    ) -> Result<Vec<u8>, AllocError>
+        ensures lines { IfOk result (λ lines. (schema : Declarations) (asked : List Asked) (text : List ℕ)
+            → HasAnswered schema asked text self.old
+            → HasAnswered schema (asked ++ asked_for (option_map tenant_tree tenant.now)
+            (map request_tree requests.now)) (text ++ lines.items) self.new) }
+        ensures template { self.new.template ≡ self.old.template }
     {
         let mut lines = Vec::new(alloc);
         for request in requests {
-            let line = self.line(alloc, request)?;
+            let line = self.line(alloc, tenant, request)?;
             lines.extend_from_slice(line.as_bytes())?;
         }
         Ok(lines)
     }
 
-    /// The lines of these requests, in order, as they are in the output of one document that has the requests of all calls so far: each
-    /// id is the number of the session's first request of that dialect and shape. Where memory runs out the session is given up, since
-    /// it may know of requests whose lines are lost.
-    #[tactic(auto, using(crate::proofs::Answered::answered_output))]
-    pub fn answer(
+    /// The lines of these requests, in order, for this tenant, as they are in the output of one document that has the requests of all
+    /// calls so far: each id is the number of the session's first request of that dialect and shape. Where memory runs out the session
+    /// is given up, since it may know of requests whose lines are lost.
+    pub(crate) fn answer(
         self,
         alloc: Global,
+        tenant: &Option<Tenant>,
         requests: &[Request],
     ) -> Result<(Session, Vec<u8>), AllocError>
-        // The text that was answered before, and these lines, are the output of a document with the requests before, and these.
-        ensures answered { IfOk result (λ more. (d : DocumentTree) (text : List ℕ)
-            → HasAnswered d text self
-            → HasAnswered (followed_by d (map request_tree requests.now))
-            (text ++ more.1.items) more.0) }
-        // The answered text is the document's output.
-        ensures output { (d : DocumentTree) (text : List ℕ) (session : Session)
-            → HasAnswered d text session → IsOutput d text }
+        // To what was answered before, these requests and lines are added.
+        ensures answered { IfOk result (λ more. (schema : Declarations) (asked : List Asked)
+            (text : List ℕ) → HasAnswered schema asked text self
+            → HasAnswered schema (asked ++ asked_for (option_map tenant_tree tenant.now)
+            (map request_tree requests.now)) (text ++ more.1.items) more.0) }
+        ensures template { IfOk result (λ more. more.0.template ≡ self.template) }
     {
         let mut session = self;
-        let lines = session.lines(alloc, requests);
+        let lines = session.lines(alloc, tenant, requests);
         match lines {
             Ok(lines) => Ok((session, lines)),
             Err(error) => Err(error),
         }
     }
 
-    /// A session over the schema of the document that the bytes are, which has answered nothing, and the document's requests; or the
-    /// status with which `build` of the program ends for the bytes.
-    pub(crate) fn begin(alloc: Global, bytes: &[u8]) -> Result<(Session, SqlList<Request>), Status>
-        ensures begun { IfOk result (λ first. (d : DocumentTree)
-            × (document bytes.now ≡ Some d) × (d.requests ≡ map request_tree first.1)
-            × HasAnswered (with_schema d.schema) [] first.0) }
+    /// A session over the schema of the document that the bytes are, with its policies, which has answered nothing, and what the
+    /// document asks; or the status with which the opening ends.
+    #[tactic(auto, using(crate::proofs::Asking::opened_is, crate::proofs::Asking::opened_lost, crate::proofs::Asking::opened_none))]
+    pub(crate) fn begin(alloc: Global, bytes: &[u8]) -> Result<(Session, Asking), Status>
+        ensures begun { IfOk result (λ first. (a : AskingTree)
+            × (opened_by bytes.now ≡ Some a) × (a.document.requests ≡ map request_tree first.1.requests)
+            × (a.tenant ≡ option_map tenant_tree first.1.tenant)
+            × (template_of first.0 ≡ template_by bytes.now)
+            × HasAnswered a.document.schema [] [] first.0) }
         ensures too_large { greatest_input < length bytes.now → IsErrOf result Status.TooLarge }
-        ensures done { OnOk result (status_of (Some Build) bytes.now ≡ Status.Done) }
+        ensures done { OnOk result (opening_status bytes.now ≡ Status.Done) }
         ensures refused { IfErr result (λ status. (status ≡ Status.Done → ⊥)
-            × ((status ≡ Status.NoMemory) ⊎ (status ≡ status_of (Some Build) bytes.now))) }
+            × ((status ≡ Status.NoMemory) ⊎ (status ≡ opening_status bytes.now))) }
     {
         if bytes.len() > LIMIT {
             return Err(Status::TooLarge);
         }
-        let Document { schema, requests } = match read_document(alloc, bytes) {
-            Ok(document) => document,
+        let Opening { call, template } = match read_opening(alloc, bytes) {
+            Ok(opening) => opening,
             Err(Refusal::NoMemory) => return Err(Status::NoMemory),
             Err(Refusal::NotADocument) => return Err(Status::BadDocument),
         };
-        match Session::new(alloc, schema) {
-            Ok(session) => Ok((session, requests)),
+        let Call { document, policies } = call;
+        let Document { schema, requests } = document;
+        let tenant = tenant_named(alloc, &schema, policies)?;
+        match Session::new(alloc, schema, template) {
+            Ok(session) => Ok((session, Asking { tenant, requests })),
             Err(AllocError) => Err(Status::NoMemory),
         }
     }
 
-    /// A session over the schema of the document that the bytes are, with the document's output; or the status with which `build` of the
-    /// program ends for them.
-    pub fn open(alloc: Global, bytes: &[u8]) -> Result<(Session, Vec<u8>), Status>
-        ensures opened { IfOk result (λ first. (d : DocumentTree)
-            × (document bytes.now ≡ Some d) × HasAnswered d first.1.items first.0) }
+    /// What is asked by the document that the bytes are, which declares no table, since the session has its own; or `TooLarge` for more
+    /// than `LIMIT` bytes, or `BadDocument`.
+    #[tactic(auto, using(crate::proofs::Asking::asked_is, crate::proofs::Asking::asked_document, crate::proofs::Asking::asked_lost, crate::proofs::Asking::asked_none))]
+    pub(crate) fn asking(&self, alloc: Global, bytes: &[u8]) -> Result<Asking, Status>
+        ensures read { IfOk result (λ asking. (a : AskingTree)
+            × (asked_by self.now bytes.now ≡ Some a) × (length a.document.schema.tables ≡ 0)
+            × (a.document.requests ≡ map request_tree asking.requests)
+            × (a.tenant ≡ option_map tenant_tree asking.tenant)) }
         ensures too_large { greatest_input < length bytes.now → IsErrOf result Status.TooLarge }
-        ensures done { OnOk result (status_of (Some Build) bytes.now ≡ Status.Done) }
-        ensures refused { IfErr result (λ status. (status ≡ Status.Done → ⊥)
-            × ((status ≡ Status.NoMemory) ⊎ (status ≡ status_of (Some Build) bytes.now))) }
+        ensures refused { IfErr result (λ status. (status ≡ Status.NoMemory)
+            ⊎ (((status ≡ Status.TooLarge) × (greatest_input < length bytes.now))
+            ⊎ ((status ≡ Status.BadDocument) × (length bytes.now ≤ greatest_input)
+            × ((a : AskingTree) → asked_by self.now bytes.now ≡ Some a
+            → 0 < length a.document.schema.tables)))) }
     {
-        let (session, requests) = match Session::begin(alloc, bytes) {
-            Ok(first) => first,
-            Err(status) => return Err(status),
-        };
-        match session.answer(alloc, requests.as_slice()) {
-            Ok(first) => Ok(first),
-            Err(AllocError) => Err(Status::NoMemory),
+        if bytes.len() > LIMIT {
+            return Err(Status::TooLarge);
         }
-    }
-}
-
-/// The requests of the document that the bytes are, which declares no table, since the session has its own; or `TooLarge` for more than
-/// `LIMIT` bytes, or `BadDocument`.
-pub fn requests(alloc: Global, bytes: &[u8]) -> Result<SqlList<Request>, Status>
-    ensures read { IfOk result (λ requests. (d : DocumentTree)
-        × (document bytes.now ≡ Some d) × (length d.schema.tables ≡ 0)
-        × (d.requests ≡ map request_tree requests)) }
-    ensures too_large { greatest_input < length bytes.now → IsErrOf result Status.TooLarge }
-    ensures refused { IfErr result (λ status. (status ≡ Status.NoMemory)
-        ⊎ (((status ≡ Status.TooLarge) × (greatest_input < length bytes.now))
-        ⊎ ((status ≡ Status.BadDocument) × (length bytes.now ≤ greatest_input)
-        × ((d : DocumentTree) → document bytes.now ≡ Some d
-        → 0 < length d.schema.tables)))) }
-{
-    if bytes.len() > LIMIT {
-        return Err(Status::TooLarge);
-    }
-    match read_document(alloc, bytes) {
-        Ok(Document { schema, requests }) => match schema.tables().len() {
-            0 => Ok(requests),
-            _ => Err(Status::BadDocument),
-        },
-        Err(Refusal::NoMemory) => Err(Status::NoMemory),
-        Err(Refusal::NotADocument) => Err(Status::BadDocument),
+        let Call { document, policies } = match read_call(alloc, &self.template, bytes) {
+            Ok(call) => call,
+            Err(Refusal::NoMemory) => return Err(Status::NoMemory),
+            Err(Refusal::NotADocument) => return Err(Status::BadDocument),
+        };
+        let Document { schema, requests } = document;
+        if schema.tables().len() > 0 {
+            return Err(Status::BadDocument);
+        }
+        let tenant = tenant_named(alloc, self.cache.schema(), policies)?;
+        Ok(Asking { tenant, requests })
     }
 }

@@ -1,23 +1,18 @@
 //! The program's commands over bytes in memory, and sessions.
 
-use crate::examples::{FILTER, FILTERED, MORE, MORE_LINES, READ, TEXT};
+use crate::examples::{
+    FILTER, MORE, MORE_LINES, OPEN_TENANTS, READ, TENANT_8, TENANT_8_LINES, TEXT,
+};
 use sql_test_kit::is;
-use sql_tool_series::series_schema;
-use sql_tool_session::{Command, Dialect, Request, Responder, Session, Status, answer, requests};
+use sql_tool_document::{Call, Opening, Template, read_call, read_opening};
+use sql_tool_guard::policies_in;
+use sql_tool_session::{Command, Dialect, Responder, Status, answer};
 use std::alloc::Global;
 use std::test::Fail;
 
 pub(crate) fn every_call(alloc: Global) -> Result<(), Fail> {
     answered(alloc)?;
-    match requests(alloc, MORE.as_bytes()) {
-        Ok(more) => {
-            let told = opened(alloc, more.as_slice());
-            drop(more);
-            told?;
-        }
-        Err(status) => Err(status.name())?,
-    }
-    going_on(alloc, Session::new(alloc, series_schema(alloc)?)?, &[], "")?;
+    opened(alloc)?;
     let mut responder = Responder::new(alloc);
     let told = responding(alloc, &mut responder);
     drop(responder);
@@ -30,26 +25,34 @@ fn answered(alloc: Global) -> Result<(), Fail> {
     is(reply.lines.as_slice() == READ.as_bytes(), "a line")
 }
 
-fn opened(alloc: Global, more: &[Request]) -> Result<(), Fail> {
-    match Session::open(alloc, FILTER.as_bytes()) {
-        Ok((session, lines)) => {
-            let is_answered = lines.as_slice() == FILTERED.as_bytes();
-            drop(lines);
-            going_on(alloc, session, more, MORE_LINES)?;
-            is(is_answered, "the lines")
+/// A document that opens a session with policies, and one that follows it.
+fn opened(alloc: Global) -> Result<(), Fail> {
+    let Opening { call, template } = read_opening(alloc, OPEN_TENANTS.as_bytes())?;
+    let told = named(alloc, &call);
+    drop(call);
+    told?;
+    let told = followed(alloc, &template);
+    drop(template);
+    told
+}
+
+fn named(alloc: Global, call: &Call) -> Result<(), Fail> {
+    match &call.policies {
+        Some(named) => {
+            let found = policies_in(alloc, &call.document.schema, named.as_slice())?;
+            let is_found = found.is_some();
+            drop(found);
+            is(is_found, "tables of the schema")
         }
-        Err(status) => Err(status.name())?,
+        None => is(false, "policies"),
     }
 }
 
-fn going_on(alloc: Global, session: Session, more: &[Request], wanted: &str) -> Result<(), Fail> {
-    match Session::answer(session, alloc, more) {
-        Ok((session, lines)) => {
-            drop(session);
-            is(lines.as_slice() == wanted.as_bytes(), "more lines")
-        }
-        Err(error) => Err(error)?,
-    }
+fn followed(alloc: Global, template: &Option<Template>) -> Result<(), Fail> {
+    let call = read_call(alloc, template, TENANT_8.as_bytes())?;
+    let is_guarded = call.policies.is_some();
+    drop(call);
+    is(is_guarded, "the policies of a call")
 }
 
 fn is_done(status: Status) -> Result<(), Fail> {
@@ -62,6 +65,12 @@ fn responding(alloc: Global, responder: &mut Responder) -> Result<(), Fail> {
     is(
         responder.answer().as_slice() == MORE_LINES.as_bytes(),
         "the lines of more",
+    )?;
+    is_done(Responder::open(responder, alloc, OPEN_TENANTS.as_bytes()))?;
+    is_done(responder.next(alloc, TENANT_8.as_bytes()))?;
+    is(
+        responder.answer().as_slice() == TENANT_8_LINES.as_bytes(),
+        "the lines of a tenant",
     )?;
     is_done(responder.ask(alloc, Command::Read(Dialect::Pg), TEXT.as_bytes()))
 }
