@@ -7,18 +7,20 @@ use Rattle.std.proofs.lemmas.List.Folds.{length-prefix_len}
 use Rattle.std.specs.List.{prefix_len}
 use Rattle.serde_json.specs.Data.{Data}
 use Rattle.sql_schema.specs.Declarations.{Declarations}
-use Rattle.sql_tool_build.proofs.Once.{same-lines}
-use Rattle.sql_tool_build.specs.Output.{AreLines, IsOutput, Line, StatementRequest, lines_text}
-use Rattle.sql_tool_document.specs.Documents.{Document, Request}
+use Rattle.sql_tool_build.specs.Output.{Line, StatementRequest, lines_text}
+use Rattle.sql_tool_document.specs.Documents.{Request}
 use Rattle.sql_tool_guard.proofs.Once.{one-request}
 use Rattle.sql_tool_guard.specs.Tenants.{Tenant}
+use Rattle.sql_tool_ids.proofs.Few.{same-after}
+use Rattle.sql_tool_ids.specs.Memory.{AreLinesAfter, no_memory}
+use Rattle.sql_tool_ids.specs.declared.seen.TheConstants.{MAX_SHAPES}
 use Rattle.sql_tool_run.specs.Limits.{greatest_input}
-use Rattle.sql_tool_session.proofs.Answered.{plain_output}
+use Rattle.sql_tool_session.proofs.Answered.{answered_lines}
 use Rattle.sql_tool_session.specs.Session.{AreMade, Asked, Asking, HasAnswered, IsMade, asked_for, template_of}
 use Rattle.sql_tool_session.specs.Within.{HasTooDeep, before_too_deep, fits}
 use Rattle.sql_tool_session.specs.declared.responder.Responder.{Responder}
 use Rattle.sql_tool_session.specs.declared.session.Session.{Session}
-use Rattle.sql_tool_talk.specs.Talk.{AreAnswered, AreAnsweredBy, IsOutputSo, Opened, Talk, after, answer_text, asking_error, depth_error, error, error_in, followed_by, heard, opened_as, plain, requests_of, session_after}
+use Rattle.sql_tool_talk.specs.Talk.{AreAnswered, AreAnsweredBy, IsOutputSo, Opened, Talk, after, answer_text, asking_error, depth_error, error, error_in, followed_by, heard, opened_as, requests_of, session_after}
 use Rattle.sql_tool_talk.specs.declared.remark.Remark.{Remark}
 use Rattle.sql_tool_talk.specs.declared.remark.Remark.TheVariants.{BadDocument, TooDeep, TooLarge}
 use Rattle.sql_tool_talk.specs.inside.Talkers.{Knows, Told}
@@ -69,9 +71,10 @@ same-made schema (a ∷ more) (r ∷ rs) (p ∷ ps) first second =
 
 one-answer : (schema : Declarations) (asked : List Asked) (a b : List ℕ) → AreAnsweredBy schema asked a
     → AreAnsweredBy schema asked b → a ≡ b
-one-answer schema asked a b (rs, ls, made, lines, is) (ps, ks, also, others, it) =
+one-answer schema asked a b (ls, (rs, made, lines), is) (ks, (ps, also, others), it) =
     let requests = same-made schema asked rs ps made also in
-    is ∙ ap lines_text (same-lines schema [] ps ls ks (subst (λ x. AreLines schema [] x ls) requests lines) others) ∙ sym it
+    let first = subst (λ x. AreLinesAfter MAX_SHAPES schema no_memory x ls) requests lines in
+    is ∙ ap lines_text (same-after MAX_SHAPES schema no_memory ps ls ks first others) ∙ sym it
 
 one-output-so : (o : Option Opened) (a b : List ℕ) → IsOutputSo o a → IsOutputSo o b → a ≡ b
 one-output-so None a b p q = p ∙ sym q
@@ -103,12 +106,6 @@ pub one-list : (lines : List (List ℕ)) (text output : List ℕ) (o : Opened) �
 one-list lines text output o p is =
     subst (λ x. IsOutputSo x output) is (talk-output None [] lines text output refl p)
 
-pub one-document : (lines : List (List ℕ)) (text output : List ℕ) (d : Document) → Talk None [] lines text output
-    → session_after None lines ≡ Some (plain d) → IsOutput d output
-one-document lines text output d p is =
-    let (rs, ls, made, are, it) = one-list lines text output (plain d) p is in
-    plain_output d output rs made ls are it
-
 -- ---- one line
 
 pub short : (line : List ℕ) → length line ≤ greatest_input → nat_lt greatest_input (length line) ≡ false
@@ -137,8 +134,7 @@ error-long o line many = if-true _ (Some TooLarge) (error_in o line) (long line 
 
 pub knows-output : (r : Responder) (o : Option Opened) (output : List ℕ) → Knows r o output → IsOutputSo o output
 knows-output r None output h = h.1
-knows-output r (Some o) output (s, is, template, has) =
-    let (rs, made, (ls, lines, tells, it)) = has.written in (rs, ls, made, lines, it)
+knows-output r (Some o) output (s, is, template, has) = answered_lines o.schema o.asked output s has
 
 told-more : (old new : Responder) (lines : List (List ℕ)) (text line own said : List ℕ) → Told old lines text
     → ((o : Option Opened) (output : List ℕ) → Knows old o output

@@ -3,14 +3,14 @@ use Rattle.std.specs.Prelude.{◌≡◌, ℕ, List, [], ◌∷◌, ◌++◌, len
 use Rattle.std.specs.Str.{bytes_eq}
 use Rattle.serde_json.specs.Data.{Data}
 use Rattle.sql_schema.specs.Declarations.{Declarations}
-use Rattle.sql_tool_document.specs.Documents.{Document, Request}
+use Rattle.sql_tool_document.specs.Documents.{Request}
 use Rattle.sql_tool_document.specs.Scalar.{◌>>=◌}
 use Rattle.sql_tool_document.specs.Sessions.{call_in}
-use Rattle.sql_tool_build.specs.Output.{AreLines, Line, StatementRequest, lines_text}
+use Rattle.sql_tool_build.specs.Output.{Line, lines_text}
 use Rattle.sql_tool_run.specs.Limits.{greatest_input}
 use Rattle.sql_tool_run.specs.declared.status.Status.{Status}
 use Rattle.sql_tool_run.specs.declared.status.Status.TheVariants as status
-use Rattle.sql_tool_session.specs.Session.{AreMade, Asked, Asking, asked_for, asking_in, opened_by, template_by}
+use Rattle.sql_tool_session.specs.Session.{AreLinesOf, Asked, Asking, asked_for, asking_in, opened_by, template_by}
 use Rattle.sql_tool_session.specs.Within.{before_too_deep}
 use Rattle.sql_tool_lines.specs.declared.listener.Stop.{Stop}
 use Rattle.sql_tool_lines.specs.declared.listener.Stop.TheVariants.{ReadFault, WriteFault, NoMemory}
@@ -108,8 +108,7 @@ answer_text lines o = lines ++ remark_line o ++ 10 ∷ []
 
 -- the lines of what is made of requests, with ids counted over all
 abbrev pub AreAnsweredBy : Declarations → List Asked → List ℕ → Type 0
-AreAnsweredBy schema asked output =
-    (rs : List StatementRequest) × (ls : List Line) × AreMade schema asked rs × AreLines schema [] rs ls × (output ≡ lines_text ls)
+AreAnsweredBy schema asked output = (ls : List Line) × AreLinesOf schema asked ls × (output ≡ lines_text ls)
 
 -- the lines of all requests of a session, none where there is no session
 abbrev pub IsOutputSo : Option Opened → List ℕ → Type 0
@@ -127,7 +126,3 @@ Talk o output (line ∷ lines) text whole =
 -- The lines of a conversation, from its first, are answered by this text.
 abbrev pub AreAnswered : List (List ℕ) → List ℕ → Type 0
 AreAnswered lines text = (output : List ℕ) × Talk None [] lines text output
-
--- a session without policies that has answered a document's requests
-abbrev pub plain : Document → Opened
-plain d = record { schema = d.schema; template = None; asked = asked_for None d.requests }

@@ -1,16 +1,20 @@
-ghost use Rattle.std.specs.Prelude.{◌≡◌, List, ℕ, [], Some, None};
+ghost use Rattle.std.specs.Prelude.{◌≡◌, ◌<◌, List, ℕ, [], Some, None};
 ghost use Rattle.sql_schema.specs.Declarations.{Declarations};
 ghost use Rattle.sql_tool_document.specs.Documents.{Document};
-ghost use Rattle.sql_tool_build.specs.Output.{AreLines, IsOutput, Line, StatementRequest};
-ghost use Rattle.sql_tool_build.specs.Shared.{OneIdServes, OneShapeOneId};
+ghost use Rattle.sql_tool_build.specs.Output.{IsOutput, Line, lines_text};
+ghost use Rattle.sql_tool_build.specs.Shared.{OneIdServes};
+ghost use Rattle.sql_tool_ids.specs.Memory.{own_ids};
+ghost use Rattle.sql_tool_ids.specs.declared.seen.TheConstants.{MAX_SHAPES};
+ghost use Rattle.sql_tool_session.specs.Session.{AreLinesOf, Asked, asked_for};
 ghost use Rattle.sql_tool_stream.specs.Causes.{HasRisen};
 ghost use Rattle.sql_tool_lines.specs.Conversation.{Conversed};
 ghost use Rattle.sql_tool_lines.specs.Turns.{Adds, Event};
 ghost use Rattle.sql_tool_lines.specs.declared.listener.Stop.TheVariants as stop;
-ghost use Rattle.sql_tool_talk.specs.Talk.{AreAnswered, AreAnsweredBy, Opened, Talk, plain, session_after};
+ghost use Rattle.sql_tool_talk.specs.Talk.{AreAnswered, AreAnsweredBy, Opened, Talk, session_after};
 
 use crate::talker::Talker;
 use sql_tool_lines::{Peer, Stop, converse};
+use sql_tool_session::answers_are_outputs;
 use std::alloc::Global;
 
 /// Answers the lines of a peer, each before the next read: the first line is a document, whose schema the session has from then on, and
@@ -31,16 +35,13 @@ pub fn talk<P: Peer>(alloc: Global, peer: &mut P) -> Result<(), Stop>
     ensures one_list { (lines : List (List ℕ)) (text output : List ℕ) (o : Opened)
         → Talk None [] lines text output → session_after None lines ≡ Some o
         → AreAnsweredBy o.schema o.asked output }
-    // Without policies they are the output of one document: that with the requests of all lines.
-    ensures one_document { (lines : List (List ℕ)) (text output : List ℕ) (d : Document)
-        → Talk None [] lines text output → session_after None lines ≡ Some (plain d)
-        → IsOutput d output }
     // Of two lines of one id, what was prepared for the one statement serves for the other.
-    ensures one_id { (schema : Declarations) (rs : List StatementRequest) (ls : List Line)
-        → AreLines schema [] rs ls → OneIdServes ls }
-    // Two lines of one dialect and of statements of one shape have one id, or both have none.
-    ensures one_shape { (schema : Declarations) (rs : List StatementRequest) (ls : List Line)
-        → AreLines schema [] rs ls → OneShapeOneId ls }
+    ensures one_id { (schema : Declarations) (asked : List Asked) (ls : List Line)
+        → AreLinesOf schema asked ls → OneIdServes ls }
+    // While fewer ids were given than are kept, and without policies, they are the output of one document: that with all requests.
+    ensures one_document { (d : Document) (ls : List Line)
+        → AreLinesOf d.schema (asked_for None d.requests) ls → own_ids 1 ls < MAX_SHAPES
+        → IsOutput d (lines_text ls) }
     // It stops for a fault only where the peer counted one, and does where the peer counted one.
     ensures read_fault { result ≡ Err stop.ReadFault
         → HasRisen (P.read_faults peer.old) (P.read_faults peer.new) }
@@ -51,5 +52,6 @@ pub fn talk<P: Peer>(alloc: Global, peer: &mut P) -> Result<(), Stop>
     ensures no_write_fault { (result ≡ Err stop.WriteFault → ⊥)
         → P.write_faults peer.new ≡ P.write_faults peer.old }
 {
+    answers_are_outputs();
     converse(alloc, peer, &mut Talker::new(alloc))
 }
