@@ -1,4 +1,4 @@
-use Rattle.std.proofs.Common.{◌≡◌, ◌∙◌, ◌+◌, List, [], ◌∷◌, ◌++◌, drop, take, append-nil, refl, ap, subst, sym}
+use Rattle.std.proofs.Common.{rules, ◌≡◌, ◌∙◌, ◌+◌, List, [], ◌∷◌, ◌++◌, drop, take, append-nil, refl, ap, subst, sym}
 use Rattle.sql_tool_lines.specs.Lines.{ended_after, unended_after}
 use Rattle.sql_tool_lines.specs.inside.Parts.{Holds, MovesSome}
 use Rattle.sql_tool_lines.specs.declared.listener.Stop.TheVariants.{NoMemory}
@@ -22,6 +22,7 @@ loop-end-init g c = (
 pub loop-end-preserved : goal.loop-end-preserved
 loop-end-preserved g c =
     let A = g.L.Listener.Answers in
+    let limit : c.LIMIT.result ≡ g.L.Listener.LIMIT = search rules in
     let (es, text, adds, writes, held, took, same, other) = c.loop-end.invariant in
     let (fs, more, added, wrote, fresh, moved) = c.in-Ok-answer.ensures.answered in
     let rest = c.loop-end.rest.now in
@@ -36,7 +37,10 @@ loop-end-preserved g c =
       λ begun holds.
           let (now, lines, is, so, left, before) = took begun holds in
           let line = now ++ take end rest in
-          let full = subst (λ p. Holds g.L.Listener.LIMIT c.extend.new.self (now ++ p)) c.before-in-Some.ensures (c.in-Ok.ensures now is) in (
+          let full =
+          subst (λ n. Holds n c.extend.new.self line) limit
+          (subst (λ p. Holds c.LIMIT.result c.extend.new.self (now ++ p)) c.before-in-Some.ensures
+          (c.in-Ok.ensures now (subst (λ n. Holds n c.loop-end.part now) (sym limit) is))) in (
             [],
             lines ++ line ∷ [],
             fresh,
@@ -52,6 +56,7 @@ loop-end-preserved g c =
 pub returns-in-Err-clause-stopped : goal.returns-in-Err-clause-stopped
 returns-in-Err-clause-stopped g c =
     let A = g.L.Listener.Answers in
+    let limit : c.LIMIT.result ≡ g.L.Listener.LIMIT = search rules in
     let (es, text, adds, writes, held, took, same, other) = c.loop-end.invariant in
     let (fs, more, added, wrote, some) = c.in-Err.ensures.stopped in
     let rest = c.loop-end.rest.now in
@@ -65,7 +70,10 @@ returns-in-Err-clause-stopped g c =
       λ begun holds.
           let (now, lines, is, so, left, before) = took begun holds in
           let line = now ++ take end rest in
-          let full = subst (λ p. Holds g.L.Listener.LIMIT c.extend.new.self (now ++ p)) c.before-in-Some.ensures (c.in-Ok.ensures now is) in
+          let full =
+          subst (λ n. Holds n c.extend.new.self line) limit
+          (subst (λ p. Holds c.LIMIT.result c.extend.new.self (now ++ p)) c.before-in-Some.ensures
+          (c.in-Ok.ensures now (subst (λ n. Holds n c.loop-end.part now) (sym limit) is))) in
           let all =
           ended-next lines (ended_after begun c.args.piece.now) now rest (drop (end + 1) rest) end so (found now).0 refl in
           subst (λ ls. MovesSome A c.args.listener.now ls (text ++ more) c.in-Err.stop) (sym all)
