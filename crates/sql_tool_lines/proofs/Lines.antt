@@ -1,8 +1,8 @@
 -- The lines of bytes that come in pieces.
-use Rattle.std.proofs.Common.{◌≡◌, ◌∙◌, ◌≤◌, ◌<◌, ◌+◌, ℕ, Bool, true, false, cond, List, [], ◌∷◌, ◌++◌, length, take, drop, get_or, refl, ap, sym, append_assoc, append-nil}
+use Rattle.std.proofs.Common.{◌≡◌, ◌∙◌, ◌≤◌, ◌<◌, ◌+◌, ℕ, true, false, cond, List, [], ◌∷◌, ◌++◌, length, take, drop, get_or, refl, ap, sym, append_assoc}
 use Rattle.std.proofs.lemmas.List.{at_drop_more, at_drop_all, take_all, take_more}
-use Rattle.std.specs.Prelude.{◌==◌, if◌then◌else◌}
-use Rattle.sql_tool_lines.specs.Lines.{all_lines, ended, ended_after, last_line, unended, unended_after}
+use Rattle.std.specs.Prelude.{◌==◌}
+use Rattle.sql_tool_lines.specs.Lines.{ended_after, last_line, unended_after}
 
 pub ended-append : (begun xs ys : List ℕ)
     → ended_after begun (xs ++ ys) ≡ ended_after begun xs ++ ended_after (unended_after begun xs) ys

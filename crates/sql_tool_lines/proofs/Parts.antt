@@ -1,12 +1,12 @@
 -- A line that has not ended, and what the functions inside `converse` come to.
-use Rattle.std.proofs.Common.{◌≡◌, ◌≢◌, ◌∙◌, ◌<◌, ◌≤◌, ◌+◌, ◌-◌, ℕ, Bool, true, false, List, [], ◌∷◌, ◌++◌, length, length-append, Option, Result, Ok, Err, refl, ap, sym, subst, append_assoc, append-nil, arith}
+use Rattle.std.proofs.Common.{◌≡◌, ◌∙◌, ◌<◌, ◌≤◌, ◌-◌, ℕ, true, false, List, [], ◌∷◌, ◌++◌, length, length-append, Option, Result, Ok, Err, refl, ap, sym, subst, append_assoc, append-nil, arith}
 use Rattle.std.specs.Prelude.{IfErr, OnOk}
 use Rattle.sql_tool_lines.specs.Conversation.{Conversed, HasStopped, Moves}
 use Rattle.sql_tool_lines.specs.Lines.{all_lines, ended, ended_after, last_line, unended, unended_after}
 use Rattle.sql_tool_lines.specs.Turns.{Adds, AreWrites, Event, Read, read_in, written_in}
 use Rattle.sql_tool_lines.specs.inside.Parts.{Goes, Holds, HoldsBytes, MovesSome}
 use Rattle.sql_tool_lines.specs.declared.listener.Stop.{Stop}
-use Rattle.sql_tool_lines.specs.declared.listener.Stop.TheVariants.{NoMemory, ReadFault, WriteFault}
+use Rattle.sql_tool_lines.specs.declared.listener.Stop.TheVariants.{NoMemory}
 use Rattle.sql_tool_lines.specs.declared.part.Part.{Part}
 use Rattle.sql_tool_lines.proofs.Lines.{ended-append, unended-append}
 use Rattle.sql_tool_lines.proofs.Turns.{Adds-turn, turn-contains, turn-prompt, turn-read, turn-written}

@@ -1,7 +1,7 @@
 -- Events after events.
-use Rattle.std.proofs.Common.{◌≡◌, ◌∙◌, ◌<◌, ℕ, List, [], ◌∷◌, ◌++◌, length, Option, None, Some, refl, ap, sym, subst, append_assoc, append-nil, arith}
+use Rattle.std.proofs.Common.{◌≡◌, ◌∙◌, ℕ, List, [], ◌∷◌, ◌++◌, Option, None, Some, refl, ap, sym, subst, append_assoc, append-nil, arith}
 use Rattle.std.specs.List.{Contains}
-use Rattle.std.proofs.lemmas.List.Elements.{Contains-append_left, Contains-append_right}
+use Rattle.std.proofs.lemmas.List.Elements.{Contains-append_right}
 use Rattle.sql_tool_lines.specs.Conversation.{IsPrompt}
 use Rattle.sql_tool_lines.specs.Lines.{ended}
 use Rattle.sql_tool_lines.specs.Turns.{Adds, AreWrites, Event, Read, Wrote, read_in, written_in}

@@ -1,4 +1,4 @@
-use Rattle.std.proofs.Common.{rules, ◌≡◌, ◌∙◌, List, [], ◌∷◌, ◌++◌, take, append-nil, ap, subst, sym}
+use Rattle.std.proofs.Common.{rules, ◌≡◌, ◌∙◌, [], take, append-nil, ap, subst, sym}
 use Rattle.sql_tool_lines.specs.Turns.{Adds}
 use Rattle.sql_tool_lines.specs.declared.listener.Stop.TheVariants.{NoMemory, ReadFault}
 use Rattle.sql_tool_lines.proofs.Parts.{finished, goes-rests, stopped, went-on}

@@ -1,4 +1,4 @@
-use Rattle.std.proofs.Common.{rules, ◌≡◌, ◌∙◌, ◌+◌, List, [], ◌∷◌, ◌++◌, drop, take, append-nil, refl, ap, subst, sym}
+use Rattle.std.proofs.Common.{rules, ◌≡◌, ◌∙◌, ◌+◌, [], ◌∷◌, ◌++◌, drop, take, append-nil, refl, ap, subst, sym}
 use Rattle.sql_tool_lines.specs.Lines.{ended_after, unended_after}
 use Rattle.sql_tool_lines.specs.inside.Parts.{Holds, MovesSome}
 use Rattle.sql_tool_lines.specs.declared.listener.Stop.TheVariants.{NoMemory}

@@ -1,6 +1,6 @@
 use Rattle.std.proofs.Common.{◌≡◌, ◌∙◌, ◌-◌, ℕ, List, [], ◌∷◌, ◌++◌, length, take, drop, refl, sym, ap, append_assoc, append-nil, take-append-drop}
 use Rattle.std.proofs.lemmas.List.{take_rest}
-use Rattle.sql_tool_lines.specs.Turns.{Event, Wrote}
+use Rattle.sql_tool_lines.specs.Turns.{Wrote}
 use Rattle.sql_tool_lines.proofs.Turns.{Adds-trans, writes-append}
 use Rattle.sql_tool_lines.proofs.writing.write_all.Goals as goal
 
