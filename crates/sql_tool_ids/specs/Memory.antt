@@ -1,6 +1,6 @@
 -- The ids of a session. It remembers the shapes of its requests until so many have an id that it forgets them all. An id is the number of a
 -- request, and numbers go on, so no id is given to two shapes; a shape that was forgotten gets another one.
-use Rattle.std.specs.Prelude.{◌≡◌, ℕ, ◌+◌, List, [], ◌∷◌, ◌++◌, map, length, Bool, false, nat_eq, nat_le, Option, None, Some, if◌then◌else◌}
+use Rattle.std.specs.Prelude.{ℕ, ◌+◌, List, [], ◌∷◌, ◌++◌, map, length, Bool, false, nat_eq, nat_le, Option, None, Some, if◌then◌else◌}
 use Rattle.sql_schema.specs.Declarations.{Declarations}
 use Rattle.sql_tool_build.specs.Ids.{RequestShape}
 use Rattle.sql_tool_build.specs.Output.{IsLine, Line, StatementRequest, line_shape}
