@@ -57,7 +57,10 @@ INNER: dict[str, set[str]] = {
     "sql_types": {"*"},
     # parts of `run`
     "sql_tool_audit": {"*"},
-    "sql_tool_document": {"*"},
+    "sql_tool_document": {
+        "Document", "Guard", "Guarded", "NamedPolicy", "Policed", "Request", "Texts", "depth_changes_nothing", "dialect", "dialect_name",
+        "read_document", "read_guarded", "read_policed", "read_texts", "type_name",
+    },
     "sql_tool_generate": {"*"},
     "sql_guard": {"count_predicates"},
     "sql_tool_guard": {"*"},

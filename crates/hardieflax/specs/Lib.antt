@@ -196,6 +196,8 @@ pub use Rattle.sql_tool_run.specs.Status as Statuses
 pub use Rattle.sql_tool_run.specs.declared.command.Command
 pub use Rattle.sql_tool_run.specs.declared.status.Status
 pub use Rattle.sql_tool_document.specs.Documents
+pub use Rattle.sql_tool_document.specs.Giving
+pub use Rattle.sql_tool_document.specs.declared.refusal.Refusal
 pub use Rattle.sql_tool_generate.specs.Summary
 pub use Rattle.sql_tool_build.specs.Output
 pub use Rattle.sql_tool_build.specs.Shared as SharedIds

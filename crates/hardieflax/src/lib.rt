@@ -36,13 +36,13 @@ pub use sql_pass::{
 
 // Expressions, sources, clauses and statements.
 pub use sql_expr::{
-    Alias, AliasedField, BoxedLimitOffset, BoxedSelectStatement, CombinationClause, Comparison,
-    Direction, DistinctClause, Expr, ExpressionMethods, FromClause, GroupByClause, HavingClause,
-    InValues, Join, JoinKind, JoinOn, JoinRhs, LimitOffsetClause, LockMode, LockingClause, Logic,
-    Marks, Modifier, OnClauseWrapper, OrderClause, OrderColumn, OrderDecorator, OrderItem,
-    PositionalItem, SelectClause, SelectStatement, Source, Statement, TableSource, Tablesample,
-    TablesampleMethod, Unary, WhereAnd, WhereClause, WhereOr, count, count_star, exists, not,
-    value,
+    Alias, AliasedField, AsExpression, AsInExpression, BoxedLimitOffset, BoxedSelectStatement,
+    CombinationClause, Comparison, Direction, DistinctClause, Expr, ExpressionMethods, FromClause,
+    GroupByClause, HavingClause, InValues, IntoExpressions, IntoJoinRhs, IntoOrder, IntoOrderItem,
+    Join, JoinKind, JoinOn, JoinRhs, LimitOffsetClause, LockMode, LockingClause, Logic, Marks,
+    Modifier, OnClauseWrapper, OrderClause, OrderColumn, OrderDecorator, OrderItem, PositionalItem,
+    SelectClause, SelectStatement, Source, Statement, TableSource, Tablesample, TablesampleMethod,
+    Unary, WhereAnd, WhereClause, WhereOr, count, count_star, exists, list, not, order_by, value,
 };
 
 // Aliases, joins and default selections.
@@ -133,6 +133,11 @@ pub mod tree {
 // The audit: which tables and columns a text uses.
 pub use sql_audit::{AuditError, AuditReport, ColumnUse, audit};
 pub use sql_audit_law::{accepted_are_reported, one_answer as one_audit_answer};
+
+/// The schema of a document of the program, so that both share one declaration of their tables.
+pub mod documents {
+    pub use sql_tool_document::{Refusal, read_schema};
+}
 
 /// Queries as documents write them, and the statements that they stand for over a schema.
 pub mod syntax {

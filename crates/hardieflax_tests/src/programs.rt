@@ -5,6 +5,8 @@ ghost use Rattle.std.specs.Io.KnownBytes.{Appends, IsAtEnd};
 ghost use Rattle.hardieflax.specs.Causes.{HasRisen};
 ghost use Rattle.hardieflax.specs.Command.{Command as CommandName};
 ghost use Rattle.hardieflax.specs.Commands.{IsDone, command_of};
+ghost use Rattle.hardieflax.specs.Documents.{schema_in};
+ghost use Rattle.hardieflax.specs.Giving.{Gives};
 ghost use Rattle.hardieflax.specs.QueryStatements.{expr_in, statement_in};
 ghost use Rattle.hardieflax.specs.Runs.{Outcome, Took};
 ghost use Rattle.hardieflax.specs.SyntaxForm.TheVariants.{Select};
@@ -12,6 +14,7 @@ ghost use Rattle.hardieflax.specs.SyntaxForms.{stand};
 ghost use Rattle.hardieflax.specs.SyntaxViews as syntax;
 ghost use Rattle.hardieflax.specs.View.{expr_tree, statement_tree};
 
+use hardieflax::documents::{Refusal, read_schema};
 use hardieflax::program::{Sink, Source, Status, run};
 use hardieflax::syntax::{
     Call, Expr as WrittenExpr, Query, all_stand, expression, is_expr_too_deep, is_too_deep,
@@ -101,4 +104,11 @@ pub fn is_deep_with(query: &Query, more: usize) -> bool {
 /// The same of an expression.
 pub fn is_deep_expression(expr: &WrittenExpr) -> bool {
     is_expr_too_deep(expr)
+}
+
+/// Returns the schema of a document.
+pub fn schema_of_document(alloc: Global, bytes: &[u8]) -> Result<Schema, Refusal>
+    ensures { Gives (λ s. s) result (schema_in bytes.now) }
+{
+    read_schema(alloc, bytes)
 }

@@ -13,10 +13,10 @@ ghost use Rattle.hardieflax.specs.View.{expr_tree, source_tree};
 
 use hardieflax::{
     Alias, AliasFields, AliasSource, AppearsInFromClause, AppendSelection, Count, Expr,
-    InternalJoinDsl, JoinDsl, JoinKind, JoinOnDsl, JoinRhs, JoinTo, NewAlias, NewOnClauseWrapper,
-    NewTableSource, NoMemory, OnClauseWrapper, OnlyDsl, Plus, QuerySource, Schema, Side,
-    SizeRestrictedColumn, Source, Table, TableNotEqual, TableSource, TablesampleDsl, ToInnerJoin,
-    pick,
+    InternalJoinDsl, IntoJoinRhs, JoinDsl, JoinKind, JoinOnDsl, JoinRhs, JoinTo, NewAlias,
+    NewOnClauseWrapper, NewTableSource, NoMemory, OnClauseWrapper, OnlyDsl, Plus, QuerySource,
+    Schema, Side, SizeRestrictedColumn, Source, Table, TableNotEqual, TableSource, TablesampleDsl,
+    ToInnerJoin, pick,
 };
 use std::alloc::Global;
 
@@ -109,6 +109,13 @@ pub fn inner_joined<S: JoinDsl>(
         ≡ joined_by schema.now Inner (S.side left) (side_tree rhs)) }
 {
     left.inner_join(alloc, schema, rhs)
+}
+
+/// Returns the right side of a join.
+pub fn right_side<R: IntoJoinRhs>(of: R) -> JoinRhs
+    ensures { side_tree result ≡ R.side of }
+{
+    of.into_join_rhs()
 }
 
 /// `("users" INNER JOIN "posts" ON a)`.

@@ -3,10 +3,12 @@ ghost use Rattle.sql_expr.specs.Joining.{side_tree};
 ghost use Rattle.sql_node.specs.View.{expr_tree, in_values_tree, order_item_tree, source_tree, statement_tree};
 ghost use Rattle.sql_build_syntax.specs.Forms.{stands};
 ghost use Rattle.sql_build_syntax.specs.View as written;
-ghost use Rattle.sql_build.specs.Built.{call_in, calls_in, directed, expr_in, exprs_in, items_in, maybe_in, membership_in, side_of, source_in, start_in, statement_in};
+ghost use Rattle.sql_build.specs.Built.{call_in, calls_in, directed, expr_in, exprs_in, items_in, maybe_in, membership_in, side_of, source_in, statement_in};
 ghost use Rattle.sql_build.specs.Made.{form_of};
 ghost use Rattle.sql_build.specs.Named.{both, only_where};
+ghost use Rattle.sql_build.specs.inside.Replaced.{started_in};
 
+use crate::replaced::is_replaced;
 use crate::{call, name, operator, source};
 use sql_build_depth::{is_expr_too_deep, is_too_deep, is_too_deep_restricted};
 use sql_build_syntax::{Call, Membership, Query, QueryStart};
@@ -251,17 +253,18 @@ impl Builder<'_> {
         }
     }
 
+    /// What a query begins with. The default selection is not made where a call replaces it.
     #[cycle(build)]
     #[tactic(auto, using(sql_build_syntax::proofs::Trees::opens_query_start))]
-    fn start(self, start: &QueryStart) -> Result<Option<Statement>, NoMemory>
+    fn start(self, start: &QueryStart, replaced: bool) -> Result<Option<Statement>, NoMemory>
         ensures { IfOk result (λ o. option_map statement_tree o
-            ≡ start_in self.entry.schema.now self.entry.dialect
+            ≡ started_in replaced self.entry.schema.now self.entry.dialect
             (written.query_start_tree start.now)) }
     {
         match start {
             QueryStart::From(source) => {
                 let source = self.source(source)?;
-                source::from(self.alloc, source)
+                source::from(self.alloc, source, replaced)
             }
             QueryStart::Select(selection) => {
                 let selection = self.expr(selection)?;
@@ -271,15 +274,16 @@ impl Builder<'_> {
     }
 
     #[cycle(build)]
-    #[tactic(auto, using(sql_build_syntax::proofs::Trees::opens_query))]
+    #[tactic(auto, using(sql_build_syntax::proofs::Trees::opens_query, crate::proofs::Overriding::query_alike))]
     fn query(self, query: &Query) -> Result<Option<Statement>, NoMemory>
         ensures { IfOk result (λ o. option_map statement_tree o
             ≡ statement_in self.entry.schema.now self.entry.dialect
             (written.query_tree query.now)) }
     {
-        match self.start(&query.start)? {
+        let calls = query.calls.as_slice();
+        match self.start(&query.start, is_replaced(calls))? {
             None => Ok(None),
-            Some(start) => self.calls(query.calls.as_slice(), start),
+            Some(start) => self.calls(calls, start),
         }
     }
 

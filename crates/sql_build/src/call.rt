@@ -1,5 +1,7 @@
 //! Calls on a statement of any form. None where the statement's form lacks the call.
 //!
+//! None is inlined into the builder, which would then clear the places of all calls' values for each one.
+//!
 //! A statement is dropped by a call of `drop`: where it is dropped in place, the checker takes each form of a clause with each
 //! of all others, which takes minutes.
 #![tactic(auto, using(crate::proofs::Standing::standing))]
@@ -23,6 +25,7 @@ use sql_schema::{NoMemory, Schema};
 use sql_select::{PositionalOrderDsl, Query as _, QueryDsl};
 use std::alloc::Global;
 
+#[inline(never)]
 pub(crate) fn plain(
     alloc: Global,
     call: PlainCall,
@@ -68,6 +71,7 @@ fn clause_with(
     }
 }
 
+#[inline(never)]
 pub(crate) fn clause(
     alloc: Global,
     call: ClauseCall,
@@ -110,6 +114,7 @@ fn join_with(
     }
 }
 
+#[inline(never)]
 pub(crate) fn join(
     alloc: Global,
     schema: &Schema,
@@ -151,6 +156,7 @@ fn find_with(
     }
 }
 
+#[inline(never)]
 pub(crate) fn find(
     alloc: Global,
     key: Option<Vec<Expr>>,
@@ -181,6 +187,7 @@ fn order_with(items: Vec<OrderItem>, statement: Statement) -> Option<Statement>
     }
 }
 
+#[inline(never)]
 pub(crate) fn order(items: Option<Vec<OrderItem>>, statement: Statement) -> Option<Statement>
     ensures { option_map statement_tree result
         ≡ only_where
@@ -218,6 +225,7 @@ fn then_order_by_with(
     }
 }
 
+#[inline(never)]
 pub(crate) fn then_order_by(
     alloc: Global,
     items: Option<Vec<OrderItem>>,
@@ -235,6 +243,7 @@ pub(crate) fn then_order_by(
     }
 }
 
+#[inline(never)]
 pub(crate) fn limit(limit: i64, statement: Statement) -> Statement
     ensures { statement_tree result ≡ limited limit (statement_tree statement) }
 {
@@ -245,6 +254,7 @@ pub(crate) fn limit(limit: i64, statement: Statement) -> Statement
     }
 }
 
+#[inline(never)]
 pub(crate) fn offset(offset: i64, statement: Statement) -> Statement
     ensures { statement_tree result ≡ offset_by offset (statement_tree statement) }
 {
@@ -255,6 +265,7 @@ pub(crate) fn offset(offset: i64, statement: Statement) -> Statement
     }
 }
 
+#[inline(never)]
 pub(crate) fn into_boxed(dialect: Dialect, statement: Statement) -> Option<Statement>
     ensures { option_map statement_tree result
         ≡ only_where (Some (boxed_for dialect (statement_tree statement)))
@@ -287,6 +298,7 @@ fn combine_with(
     }
 }
 
+#[inline(never)]
 pub(crate) fn combine(
     alloc: Global,
     combinator: Combinator,
@@ -307,6 +319,7 @@ pub(crate) fn combine(
     }
 }
 
+#[inline(never)]
 pub(crate) fn positional_order_by(
     alloc: Global,
     places: &[PositionalItem],

@@ -7,6 +7,7 @@ mod call;
 mod combination;
 mod name;
 mod operator;
+mod replaced;
 mod select;
 mod source;
 

@@ -1,13 +1,17 @@
 ghost use Rattle.std.specs.Prelude.{◌≡◌, IfOk, None, Some, option_map};
 ghost use Rattle.sql_expr.specs.Joining.{side_tree};
-ghost use Rattle.sql_node.specs.View.{expr_tree, source_tree, statement_tree};
-ghost use Rattle.sql_select.specs.Clauses.{only};
-ghost use Rattle.sql_select.specs.Simple.{simple};
+ghost use Rattle.sql_node.specs.Tree.{from as from_source};
+ghost use Rattle.sql_node.specs.View.{expr_tree, select_statement_tree, source_tree, statement_tree};
+ghost use Rattle.sql_select.specs.Clauses.{changed, only};
 ghost use Rattle.sql_source.specs.Joins.{alone, joined_by};
 ghost use Rattle.sql_build.specs.Built.{side_of};
 ghost use Rattle.sql_build.specs.Named.{both};
+ghost use Rattle.sql_build.specs.inside.Replaced.{begun};
 
-use sql_expr::{Expr, JoinKind, JoinRhs, OnClauseWrapper, Source, Statement};
+use sql_expr::{
+    Expr, FromClause, JoinKind, JoinRhs, OnClauseWrapper, SelectStatement, Source, Statement,
+    count_star,
+};
 use sql_schema::{NoMemory, Schema};
 use sql_select::{AsQuery, Query as _, select};
 use sql_source::JoinDsl;
@@ -71,15 +75,40 @@ pub(crate) fn joined(
     Ok(Some(joined_source(alloc, schema, kind, left, right)?))
 }
 
-/// `SELECT .. FROM "users"`.
+/// A statement that reads this source.
+#[tactic(auto, using(sql_node::proofs::Trees::opens_select_statement, sql_node::proofs::Trees::opens_from_clause))]
+fn reading(mut statement: SelectStatement, source: Source) -> SelectStatement
+    ensures { select_statement_tree result
+        ≡ changed (λ c. record c { source = from_source (source_tree source) })
+        (select_statement_tree statement) }
+{
+    statement.from = FromClause::FromClause(source);
+    statement
+}
+
+/// `SELECT .. FROM "users"`: of all columns, or where another selection is to stand in its place, of none of them.
+fn begin(alloc: Global, source: Source, replaced: bool) -> Result<SelectStatement, NoMemory>
+    ensures { IfOk result (λ s. select_statement_tree s ≡ begun replaced (source_tree source)) }
+{
+    if replaced {
+        return Ok(reading(select(count_star()), source));
+    }
+    source.as_query(alloc)
+}
+
+/// `SELECT .. FROM "users"`. The selection of all columns is not made where it is replaced later.
 #[tactic(auto, using(sql_node::proofs::Trees::opens_statement))]
-pub(crate) fn from(alloc: Global, source: Option<Source>) -> Result<Option<Statement>, NoMemory>
+pub(crate) fn from(
+    alloc: Global,
+    source: Option<Source>,
+    replaced: bool,
+) -> Result<Option<Statement>, NoMemory>
     ensures { IfOk result (λ o. option_map statement_tree o
-        ≡ option_map simple (option_map source_tree source)) }
+        ≡ option_map (begun replaced) (option_map source_tree source)) }
 {
     match source {
         None => Ok(None),
-        Some(source) => Ok(Some(source.as_query(alloc)?.into_statement())),
+        Some(source) => Ok(Some(begin(alloc, source, replaced)?.into_statement())),
     }
 }
 

@@ -11,6 +11,7 @@
 #![tactic(auto)]
 
 mod call;
+mod debug;
 mod expr;
 mod form;
 mod name;

@@ -18,7 +18,7 @@ use std::alloc::Global;
 use std::sync::ledger::Ledger;
 
 /// The answer of `fused`.
-#[derive(Drop)]
+#[derive(Debug, Drop, PartialEq, Eq)]
 pub struct FusedAnswer {
     /// The text: `SELECT "users"."id" FROM "users" WHERE ("users"."id" = $1)`.
     pub sql: SqlText,

@@ -31,7 +31,7 @@ use std::marker::Brand;
 use std::sync::ledger::{Blank, Ledger};
 
 /// The answer of `compile` for a statement that breaks no rule.
-#[derive(Drop)]
+#[derive(Debug, Drop, PartialEq, Eq)]
 pub struct Built {
     /// The text: `SELECT "users"."id" FROM "users" WHERE ("users"."id" = $1)`.
     pub sql: SqlText,
@@ -43,6 +43,40 @@ pub struct Built {
     pub safe: bool,
     /// The key by which a cache finds the statement, where it has an id.
     pub id: Option<QueryKey>,
+}
+
+fn clone_binds(alloc: Global, binds: &[Bound]) -> Result<SqlList<Bound>, NoMemory>
+    ensures { IfOk result (λ l. l ≡ binds.now) }
+{
+    let mut all = Vec::new(alloc);
+    for bound in binds {
+        all.push(bound.try_clone(alloc)?)?;
+    }
+    Ok(SqlList::from(all))
+}
+
+fn clone_id(alloc: Global, id: &Option<QueryKey>) -> Result<Option<QueryKey>, NoMemory>
+    ensures { IfOk result (λ i. i ≡ id.now) }
+{
+    match id {
+        None => Ok(None),
+        Some(key) => Ok(Some(key.try_clone(alloc)?)),
+    }
+}
+
+impl Built {
+    /// Returns an equal answer.
+    pub fn try_clone(&self, alloc: Global) -> Result<Built, NoMemory>
+        ensures { IfOk result (λ b. b ≡ self.now) }
+    {
+        Ok(Built {
+            sql: self.sql.try_clone(alloc)?,
+            binds: clone_binds(alloc, self.binds.as_slice())?,
+            sql_types: SqlList::from(Vec::from_slice(alloc, self.sql_types.as_slice())?),
+            safe: self.safe,
+            id: clone_id(alloc, &self.id)?,
+        })
+    }
 }
 
 /// The types that there are.

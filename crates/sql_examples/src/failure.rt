@@ -1,4 +1,5 @@
-use hardieflax::{CompileError, PassError, SchemaError};
+use hardieflax::documents::Refusal;
+use hardieflax::{CompileError, PassError, RestrictError, SchemaError};
 use std::alloc::AllocError;
 use std::io;
 use thiserror::Error;
@@ -14,6 +15,10 @@ pub enum Failure {
     Refused(#[from] CompileError),
     #[error("no line for debugging")]
     Shown(PassError),
+    #[error(transparent)]
+    Document(#[from] Refusal),
+    #[error(transparent)]
+    Restricted(#[from] RestrictError),
     #[error(transparent)]
     Output(#[from] io::Error),
     #[error(transparent)]

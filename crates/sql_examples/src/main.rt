@@ -1,14 +1,16 @@
-//! Two callers of Hardieflax, over the crate `hardieflax` alone: one compiles a statement that it builds by calls, the other has
-//! a backend and a part of a statement of its own. The program prints what they give.
+//! Callers of Hardieflax, over the crate `hardieflax` alone: one compiles a statement that it builds by calls, one has a backend and a part
+//! of a statement of its own, and a gallery has a statement of each kind. The program prints what they give.
 #![tactic(auto)]
 
 mod failure;
+mod gallery;
 mod layer;
 mod maria;
 mod readme;
 mod report;
 
 use failure::Failure;
+use gallery::gallery;
 use hardieflax::{
     Backend, Base, Bracket, Identifier, Mysql, Pg, QueryBuilder, QueryFragment, Schema,
     SchemaBuilder, Sqlite, StatementCache, debug_query,
@@ -23,7 +25,8 @@ fn main(rt: HostRuntime) -> Result<(), Failure> {
     statements(&rt)?;
     reports(&rt)?;
     cached(&rt)?;
-    parts(&rt)
+    parts(&rt)?;
+    gallery(&rt)
 }
 
 /// One statement, as each dialect has it.

@@ -2,8 +2,8 @@
 
 use crate::failure::Failure;
 use hardieflax::{
-    AsQuery, Backend, Base, ColumnDecl, Expr, ExpressionMethods, NoMemory, Query, QueryDsl, Schema,
-    SchemaBuilder, SqlList, SqlText, SqlType, Statement, TableDecl, compile, value,
+    AsQuery, Backend, Base, ColumnDecl, ExpressionMethods, NoMemory, Query, QueryDsl, Schema,
+    SchemaBuilder, SqlList, SqlText, SqlType, Statement, TableDecl, compile,
 };
 use std::alloc::Global;
 
@@ -45,10 +45,11 @@ pub fn ten_named_sean(alloc: Global, schema: &Schema) -> Result<Statement, Failu
     let name = users
         .column(alloc, "name")?
         .ok_or(Failure::Missing("column"))?;
-    let sean = value(alloc, &"Sean")?.ok_or(Failure::Missing("single value"))?;
-    let is_sean = Expr::Column(name).eq(alloc, sean)?;
-    let query = users.try_clone(alloc)?.as_query(alloc)?;
-    Ok(query.filter(alloc, is_sean)?.limit(10).into_statement())
+    let query = users
+        .as_query(alloc)?
+        .filter(alloc, name.eq(alloc, "Sean")?)?
+        .limit(10);
+    Ok(query.into_statement())
 }
 
 /// That statement's text, as the backend has it.

@@ -10,7 +10,7 @@ ghost use Rattle.sql_examples.specs.declared.report.ReportError.TheVariants.{Ref
 
 use hardieflax::{
     AsQuery, Built, Column, CompileError, Expr, ExpressionMethods, NoMemory, Pg, Query, QueryDsl,
-    Schema, Statement, Table, compile, value,
+    Schema, Statement, Table, compile,
 };
 use std::alloc::{AllocError, Global};
 use thiserror::Error;
@@ -71,15 +71,12 @@ fn of_name(alloc: Global, users: &Table, column: Column, name: &str) -> Result<S
     ensures { IfOk result (λ s. statement_tree s ≡ first_ten users.now name.now column) }
 {
     let condition = name_is(alloc, column, name)?;
-    let query = users.try_clone(alloc)?.as_query(alloc)?;
+    let query = users.as_query(alloc)?;
     Ok(query.filter(alloc, condition)?.limit(10).into_statement())
 }
 
 fn name_is(alloc: Global, column: Column, name: &str) -> Result<Expr, NoMemory>
     ensures { IfOk result (λ e. expr_tree e ≡ is_text name.now column) }
 {
-    match value(alloc, &name)? {
-        Some(name) => Expr::Column(column).eq(alloc, name),
-        None => unreachable!(),
-    }
+    column.eq(alloc, name)
 }

@@ -1,5 +1,7 @@
 -- The expressions that calls make (diesel, `ExpressionMethods`, `BoolExpressionMethods`, `WhereAnd`, `WhereOr`).
-use Rattle.std.specs.Prelude.{ℕ, Option, Some, None, List}
+use Rattle.std.specs.Prelude.{ℕ, Option, Some, None, List, false}
+use Rattle.sql_schema.specs.declared.types.Base.{Base}
+use Rattle.sql_pass.specs.declared.value.Value.{Value}
 use Rattle.sql_pass.specs.declared.value.Bound.{Bound}
 use Rattle.sql_pass.specs.declared.value.Bound.TheVariants.{Value as OneValue, List as ManyValues}
 use Rattle.sql_schema.specs.Columns.{DeclaredColumn, column_of}
@@ -17,6 +19,10 @@ beside by (an_expr old) e = joined by old e
 abbrev pub value_of : Bound → Option Expr
 value_of (OneValue t v) = Some (value t v)
 value_of (ManyValues t vs) = None
+
+-- a value, to be bound under the type of that base which has no NULL
+abbrev pub bound_as : Base → Value → Expr
+bound_as base v = value (record { base = base; nullable = false }) v
 
 abbrev pub of_table : Option (List ℕ) → TableDecl → ColumnDecl → Option DeclaredColumn
 of_table None t c = Some (column_of t c)

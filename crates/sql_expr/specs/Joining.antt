@@ -20,6 +20,10 @@ abbrev pub side_tree : JoinRhs → Side
 side_tree (rhs.Source s) = record { source = source_tree s; on = None }
 side_tree (rhs.On w) = wrapper_tree w
 
+-- a source that has no condition of its own
+abbrev pub without_condition : t.Source → Side
+without_condition s = record { source = s; on = None }
+
 abbrev pub on_pieces : Dialect → Option t.Expr → List Piece
 on_pieces d None = []
 on_pieces d (Some e) = one (Text (codes " ON ")) ++ expr_pieces d e

@@ -6,6 +6,7 @@ ghost use Rattle.sql_node.specs.Tree as tree;
 ghost use Rattle.sql_node.specs.View.{expr_tree, statement_tree};
 ghost use Rattle.sql_expr.specs.Calls.{value_of};
 
+use crate::as_expression::AsExpression;
 use sql_node::{Expr, Statement};
 use sql_pass::{Bound, ToSql};
 use sql_schema::NoMemory;
@@ -26,16 +27,18 @@ pub(crate) fn boxed_pair(
 }
 
 /// `NOT (a)`.
-pub fn not(alloc: Global, operand: Expr) -> Result<Expr, NoMemory>
-    ensures { IfOk result (λ e. expr_tree e ≡ tree.unary by.Not (expr_tree operand)) }
+pub fn not<T: AsExpression>(alloc: Global, operand: T) -> Result<Expr, NoMemory>
+    ensures { IfOk result (λ e. expr_tree e ≡ tree.unary by.Not (T.expression operand)) }
 {
+    let operand = operand.as_expression(alloc)?;
     Ok(Expr::Not(Box::new(alloc, operand)?))
 }
 
 /// `COUNT(a)`: the number of rows in which it is not NULL.
-pub fn count(alloc: Global, operand: Expr) -> Result<Expr, NoMemory>
-    ensures { IfOk result (λ e. expr_tree e ≡ tree.count (expr_tree operand)) }
+pub fn count<T: AsExpression>(alloc: Global, operand: T) -> Result<Expr, NoMemory>
+    ensures { IfOk result (λ e. expr_tree e ≡ tree.count (T.expression operand)) }
 {
+    let operand = operand.as_expression(alloc)?;
     Ok(Expr::Count(Box::new(alloc, operand)?))
 }
 

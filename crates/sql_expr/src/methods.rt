@@ -10,6 +10,8 @@ ghost use Rattle.sql_leaf.specs.declared.operator.Comparison.TheVariants as comp
 ghost use Rattle.sql_leaf.specs.declared.operator.Logic.TheVariants as logic;
 ghost use Rattle.sql_expr.specs.Calls.{bare_column};
 
+use crate::as_expression::AsExpression;
+use crate::as_in_expression::AsInExpression;
 use crate::calls::boxed_pair;
 use sql_leaf::Direction;
 use sql_node::{Expr, InValues, OrderItem};
@@ -22,44 +24,44 @@ pub trait ExpressionMethods: Sized {
     ghost expression: { Self → tree.Expr };
 
     /// `(a = b)`: whether both are equal.
-    fn eq(self, alloc: Global, other: Expr) -> Result<Expr, NoMemory>
+    fn eq<T: AsExpression>(self, alloc: Global, other: T) -> Result<Expr, NoMemory>
         ensures { IfOk result (λ e. expr_tree e
-            ≡ tree.compared comparison.Eq (expression self) (expr_tree other)) };
+            ≡ tree.compared comparison.Eq (expression self) (T.expression other)) };
 
     /// `(a != b)`: whether they differ.
-    fn ne(self, alloc: Global, other: Expr) -> Result<Expr, NoMemory>
+    fn ne<T: AsExpression>(self, alloc: Global, other: T) -> Result<Expr, NoMemory>
         ensures { IfOk result (λ e. expr_tree e
-            ≡ tree.compared comparison.Ne (expression self) (expr_tree other)) };
+            ≡ tree.compared comparison.Ne (expression self) (T.expression other)) };
 
     /// `(a > b)`: whether it is greater.
-    fn gt(self, alloc: Global, other: Expr) -> Result<Expr, NoMemory>
+    fn gt<T: AsExpression>(self, alloc: Global, other: T) -> Result<Expr, NoMemory>
         ensures { IfOk result (λ e. expr_tree e
-            ≡ tree.compared comparison.Gt (expression self) (expr_tree other)) };
+            ≡ tree.compared comparison.Gt (expression self) (T.expression other)) };
 
     /// `(a >= b)`: whether it is greater or equal.
-    fn ge(self, alloc: Global, other: Expr) -> Result<Expr, NoMemory>
+    fn ge<T: AsExpression>(self, alloc: Global, other: T) -> Result<Expr, NoMemory>
         ensures { IfOk result (λ e. expr_tree e
-            ≡ tree.compared comparison.Ge (expression self) (expr_tree other)) };
+            ≡ tree.compared comparison.Ge (expression self) (T.expression other)) };
 
     /// `(a < b)`: whether it is less.
-    fn lt(self, alloc: Global, other: Expr) -> Result<Expr, NoMemory>
+    fn lt<T: AsExpression>(self, alloc: Global, other: T) -> Result<Expr, NoMemory>
         ensures { IfOk result (λ e. expr_tree e
-            ≡ tree.compared comparison.Lt (expression self) (expr_tree other)) };
+            ≡ tree.compared comparison.Lt (expression self) (T.expression other)) };
 
     /// `(a <= b)`: whether it is less or equal.
-    fn le(self, alloc: Global, other: Expr) -> Result<Expr, NoMemory>
+    fn le<T: AsExpression>(self, alloc: Global, other: T) -> Result<Expr, NoMemory>
         ensures { IfOk result (λ e. expr_tree e
-            ≡ tree.compared comparison.Le (expression self) (expr_tree other)) };
+            ≡ tree.compared comparison.Le (expression self) (T.expression other)) };
 
     /// `(a AND b)`: whether both hold.
-    fn and(self, alloc: Global, other: Expr) -> Result<Expr, NoMemory>
+    fn and<T: AsExpression>(self, alloc: Global, other: T) -> Result<Expr, NoMemory>
         ensures { IfOk result (λ e. expr_tree e
-            ≡ tree.joined logic.And (expression self) (expr_tree other)) };
+            ≡ tree.joined logic.And (expression self) (T.expression other)) };
 
     /// `(a OR b)`: whether one of them holds.
-    fn or(self, alloc: Global, other: Expr) -> Result<Expr, NoMemory>
+    fn or<T: AsExpression>(self, alloc: Global, other: T) -> Result<Expr, NoMemory>
         ensures { IfOk result (λ e. expr_tree e
-            ≡ tree.joined logic.Or (expression self) (expr_tree other)) };
+            ≡ tree.joined logic.Or (expression self) (T.expression other)) };
 
     /// `(a IS NULL)`.
     fn is_null(self, alloc: Global) -> Result<Expr, NoMemory>
@@ -74,14 +76,14 @@ pub trait ExpressionMethods: Sized {
         ensures { IfOk result (λ e. expr_tree e ≡ tree.nullable (expression self)) };
 
     /// `(a = ANY(..))` in PostgreSQL, elsewhere `(a IN (..))`: whether it is one of them.
-    fn eq_any(self, alloc: Global, among: InValues) -> Result<Expr, NoMemory>
+    fn eq_any<T: AsInExpression>(self, alloc: Global, among: T) -> Result<Expr, NoMemory>
         ensures { IfOk result (λ e. expr_tree e
-            ≡ among_of false (expression self) (in_values_tree among)) };
+            ≡ among_of false (expression self) (T.looks_in among)) };
 
     /// `(a != ALL(..))` in PostgreSQL, elsewhere `(a NOT IN (..))`: whether it is none of them.
-    fn ne_all(self, alloc: Global, among: InValues) -> Result<Expr, NoMemory>
+    fn ne_all<T: AsInExpression>(self, alloc: Global, among: T) -> Result<Expr, NoMemory>
         ensures { IfOk result (λ e. expr_tree e
-            ≡ among_of true (expression self) (in_values_tree among)) };
+            ≡ among_of true (expression self) (T.looks_in among)) };
 
     /// `a ASC`, in an order.
     fn asc(self) -> OrderItem
@@ -92,46 +94,72 @@ pub trait ExpressionMethods: Sized {
         ensures { order_item_tree result ≡ (expression self, Direction.Desc) };
 }
 
+/// Both operands of a call.
+fn operands<T: AsExpression>(
+    alloc: Global,
+    left: Expr,
+    other: T,
+) -> Result<(Box<Expr>, Box<Expr>), NoMemory>
+    ensures left { IfOk result (λ p. p.0.value ≡ left) }
+    ensures right { IfOk result (λ p. expr_tree p.1.value ≡ T.expression other) }
+{
+    let right = other.as_expression(alloc)?;
+    boxed_pair(alloc, left, right)
+}
+
+/// What is sought, and where.
+fn sought_in<T: AsInExpression>(
+    alloc: Global,
+    sought: Expr,
+    among: T,
+) -> Result<(Box<Expr>, InValues), NoMemory>
+    ensures sought { IfOk result (λ p. p.0.value ≡ sought) }
+    ensures among { IfOk result (λ p. in_values_tree p.1 ≡ T.looks_in among) }
+{
+    let among = among.as_in_expression(alloc)?;
+    Ok((Box::new(alloc, sought)?, among))
+}
+
 impl ExpressionMethods for Expr {
     ghost expression = { expr_tree };
 
-    fn eq(self, alloc: Global, other: Expr) -> Result<Expr, NoMemory> {
-        let (left, right) = boxed_pair(alloc, self, other)?;
+    fn eq<T: AsExpression>(self, alloc: Global, other: T) -> Result<Expr, NoMemory> {
+        let (left, right) = operands(alloc, self, other)?;
         Ok(Expr::Eq(left, right))
     }
 
-    fn ne(self, alloc: Global, other: Expr) -> Result<Expr, NoMemory> {
-        let (left, right) = boxed_pair(alloc, self, other)?;
+    fn ne<T: AsExpression>(self, alloc: Global, other: T) -> Result<Expr, NoMemory> {
+        let (left, right) = operands(alloc, self, other)?;
         Ok(Expr::Ne(left, right))
     }
 
-    fn gt(self, alloc: Global, other: Expr) -> Result<Expr, NoMemory> {
-        let (left, right) = boxed_pair(alloc, self, other)?;
+    fn gt<T: AsExpression>(self, alloc: Global, other: T) -> Result<Expr, NoMemory> {
+        let (left, right) = operands(alloc, self, other)?;
         Ok(Expr::Gt(left, right))
     }
 
-    fn ge(self, alloc: Global, other: Expr) -> Result<Expr, NoMemory> {
-        let (left, right) = boxed_pair(alloc, self, other)?;
+    fn ge<T: AsExpression>(self, alloc: Global, other: T) -> Result<Expr, NoMemory> {
+        let (left, right) = operands(alloc, self, other)?;
         Ok(Expr::Ge(left, right))
     }
 
-    fn lt(self, alloc: Global, other: Expr) -> Result<Expr, NoMemory> {
-        let (left, right) = boxed_pair(alloc, self, other)?;
+    fn lt<T: AsExpression>(self, alloc: Global, other: T) -> Result<Expr, NoMemory> {
+        let (left, right) = operands(alloc, self, other)?;
         Ok(Expr::Lt(left, right))
     }
 
-    fn le(self, alloc: Global, other: Expr) -> Result<Expr, NoMemory> {
-        let (left, right) = boxed_pair(alloc, self, other)?;
+    fn le<T: AsExpression>(self, alloc: Global, other: T) -> Result<Expr, NoMemory> {
+        let (left, right) = operands(alloc, self, other)?;
         Ok(Expr::Le(left, right))
     }
 
-    fn and(self, alloc: Global, other: Expr) -> Result<Expr, NoMemory> {
-        let (left, right) = boxed_pair(alloc, self, other)?;
+    fn and<T: AsExpression>(self, alloc: Global, other: T) -> Result<Expr, NoMemory> {
+        let (left, right) = operands(alloc, self, other)?;
         Ok(Expr::And(left, right))
     }
 
-    fn or(self, alloc: Global, other: Expr) -> Result<Expr, NoMemory> {
-        let (left, right) = boxed_pair(alloc, self, other)?;
+    fn or<T: AsExpression>(self, alloc: Global, other: T) -> Result<Expr, NoMemory> {
+        let (left, right) = operands(alloc, self, other)?;
         Ok(Expr::Or(left, right))
     }
 
@@ -147,12 +175,14 @@ impl ExpressionMethods for Expr {
         Ok(Expr::Nullable(Box::new(alloc, self)?))
     }
 
-    fn eq_any(self, alloc: Global, among: InValues) -> Result<Expr, NoMemory> {
-        Ok(Expr::EqAny(Box::new(alloc, self)?, among))
+    fn eq_any<T: AsInExpression>(self, alloc: Global, among: T) -> Result<Expr, NoMemory> {
+        let (sought, among) = sought_in(alloc, self, among)?;
+        Ok(Expr::EqAny(sought, among))
     }
 
-    fn ne_all(self, alloc: Global, among: InValues) -> Result<Expr, NoMemory> {
-        Ok(Expr::NeAll(Box::new(alloc, self)?, among))
+    fn ne_all<T: AsInExpression>(self, alloc: Global, among: T) -> Result<Expr, NoMemory> {
+        let (sought, among) = sought_in(alloc, self, among)?;
+        Ok(Expr::NeAll(sought, among))
     }
 
     fn asc(self) -> OrderItem {

@@ -11,14 +11,14 @@ use sql_schema::NoMemory;
 use std::alloc::Global;
 
 /// A source with the condition on which it is to be joined.
-#[derive(Drop)]
+#[derive(Debug, Drop)]
 pub struct OnClauseWrapper {
     pub source: Source,
     pub on: Expr,
 }
 
 /// The right side of a join.
-#[derive(Drop)]
+#[derive(Debug, Drop)]
 pub enum JoinRhs {
     /// A source, whose condition is the relation that the schema declares.
     Source(Source),

@@ -20,6 +20,7 @@
 
 mod building;
 mod clause;
+mod copies;
 mod expr;
 mod flat;
 mod kind;

@@ -20,7 +20,7 @@ use std::alloc::Global;
 
 /// A table, and the predicate on its rows that says which of them are seen. Without one all are, so that a table that tenants share is
 /// named too.
-#[derive(Drop)]
+#[derive(Debug, Drop)]
 pub struct Policy {
     pub table: Table,
     pub predicate: Option<Expr>,

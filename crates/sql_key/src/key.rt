@@ -1,7 +1,8 @@
-ghost use Rattle.std.specs.Prelude.{◌≡◌};
+ghost use Rattle.std.specs.Prelude.{◌≡◌, IfOk};
 
 use sql_flat::FlatNode;
-use sql_schema::SqlList;
+use sql_schema::{NoMemory, SqlList};
+use std::alloc::Global;
 use std::marker::Model;
 
 /// The key of a statement: its flat list with its values erased.
@@ -33,6 +34,17 @@ impl From<Vec<FlatNode>> for QueryKey {
 }
 
 impl QueryKey {
+    /// Returns an equal key.
+    pub fn try_clone(&self, alloc: Global) -> Result<QueryKey, NoMemory>
+        ensures { IfOk result (λ k. k ≡ self.now) }
+    {
+        let mut all = Vec::new(alloc);
+        for node in self.nodes.as_slice() {
+            all.push(node.try_clone(alloc)?)?;
+        }
+        Ok(QueryKey::from(all))
+    }
+
     /// The nodes, borrowed.
     pub fn nodes(&self) -> &[FlatNode]
         ensures { result.now ≡ self.now }

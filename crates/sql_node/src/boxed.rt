@@ -63,6 +63,8 @@ impl Drop for BoxedSelectStatement {
 
 impl BoxedSelectStatement {
     /// An equal statement.
+    // (not inlined: what nests keeps a small frame)
+    #[inline(never)]
     #[cycle(copy)]
     pub fn try_clone(&self, alloc: Global) -> Result<BoxedSelectStatement, NoMemory>
         ensures { IfOk result (λ v. boxed_select_statement_tree v

@@ -19,6 +19,7 @@
 mod boxed;
 mod clause;
 mod combination;
+mod debug;
 mod expr;
 mod list;
 mod membership;

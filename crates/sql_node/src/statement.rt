@@ -128,6 +128,8 @@ impl SelectStatement {
     }
 
     /// An equal statement.
+    // (not inlined: what nests keeps a small frame)
+    #[inline(never)]
     #[cycle(copy)]
     pub fn try_clone(&self, alloc: Global) -> Result<SelectStatement, NoMemory>
         ensures { IfOk result (λ v. select_statement_tree v ≡ select_statement_tree self.now) }

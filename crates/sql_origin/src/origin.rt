@@ -12,7 +12,7 @@ use sql_schema::{Column, NoMemory, SqlText, Table};
 use std::alloc::Global;
 
 /// The origin of a leaf of a source or of a column: a table, or an alias of one.
-#[derive(Clone, Copy)]
+#[derive(Debug, Clone, Copy)]
 pub struct Origin<'s> {
     /// The alias's name, where it is one.
     pub alias: Option<&'s str>,

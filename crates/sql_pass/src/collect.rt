@@ -10,7 +10,9 @@ use crate::value::BoundRef;
 use sql_dialect::{Backend, NoMemory};
 use sql_schema::SqlType;
 use std::alloc::{AllocError, Global};
+use std::fmt;
 use std::marker::Model;
+use thiserror::Error;
 
 /// The type of what was bound: of a value, or of each value of a list.
 #[derive(Debug, Clone, Copy, PartialEq, Eq)]
@@ -20,10 +22,12 @@ pub enum BindType {
 }
 
 /// Why a collector takes no further value. It then holds what it held.
-#[derive(Debug, Clone, Copy, PartialEq, Eq)]
+#[derive(Debug, Clone, Copy, PartialEq, Eq, Error)]
 pub enum CollectError {
     /// The list, or an element of it, is longer than 2147483647: its length has four bytes.
+    #[error("TooLong")]
     TooLong,
+    #[error("NoMemory")]
     NoMemory,
 }
 
@@ -124,6 +128,12 @@ impl<DB: Backend> RawBytesBindCollector<DB> {
         self.binds.push(bytes)?;
         self.metadata.push(ty).unwrap();
         Ok(())
+    }
+}
+
+impl<DB: Backend> fmt::Debug for RawBytesBindCollector<DB> {
+    fn fmt<W: fmt::Write>(&self, f: &mut fmt::Formatter<W>) -> fmt::Result {
+        f.write_str("RawBytesBindCollector { .. }")
     }
 }
 

@@ -10,14 +10,19 @@ use crate::collect::{BindCollector, CollectError, RawBytesBindCollector};
 use crate::value::{Bound, BoundRef};
 use sql_dialect::{Backend, BindError, QueryBuilder};
 use std::alloc::{AllocError, Global};
+use std::fmt;
+use thiserror::Error;
 
 /// Why a push was refused. The pass then holds what the pushes before it gave.
-#[derive(Debug, Clone, Copy, PartialEq, Eq)]
+#[derive(Debug, Clone, Copy, PartialEq, Eq, Error)]
 pub enum PassError {
+    #[error("NoMemory")]
     NoMemory,
     /// The builder's dialect numbers its placeholders, and the last number is taken.
+    #[error("TooManyBinds")]
     TooManyBinds,
     /// A list, or an element of one, is longer than the collector's form of a list can say: than 2147483647.
+    #[error("TooLong")]
     TooLong,
 }
 
@@ -29,6 +34,18 @@ pub enum AstPass<DB: Backend> {
     IsSafe(bool, DB),
     DebugBinds(Vec<Bound>, DB),
     IsNoop(bool, DB),
+}
+
+impl<DB: Backend> fmt::Debug for AstPass<DB> {
+    fn fmt<W: fmt::Write>(&self, f: &mut fmt::Formatter<W>) -> fmt::Result {
+        f.write_str(match self {
+            AstPass::ToSql(_, _) => "ToSql(..)",
+            AstPass::CollectBinds(_, _) => "CollectBinds(..)",
+            AstPass::IsSafe(_, _) => "IsSafe(..)",
+            AstPass::DebugBinds(_, _) => "DebugBinds(..)",
+            AstPass::IsNoop(_, _) => "IsNoop(..)",
+        })
+    }
 }
 
 impl<DB: Backend> AstPass<DB> {

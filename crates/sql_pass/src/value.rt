@@ -58,6 +58,13 @@ fn clone_values(alloc: Global, values: &[Value]) -> Result<Vec<Value>, AllocErro
 }
 
 impl Bound {
+    /// Returns an equal value, or list of values.
+    pub fn try_clone(&self, alloc: Global) -> Result<Bound, AllocError>
+        ensures { IfOk result (λ b. b ≡ self.now) }
+    {
+        self.view().to_bound(alloc)
+    }
+
     /// The same value, borrowed.
     pub fn view(&self) -> BoundRef<'_>
         ensures { bound_of result ≡ self.now }

@@ -9,6 +9,7 @@ ghost use Rattle.sql_raw.specs.Boxed.{appended, boxed_pieces, boxed_query, boxed
 use sql_dialect::{Backend, NoMemory};
 use sql_pass::{AstPass, Bound, PassError, QueryFragment};
 use std::alloc::Global;
+use std::fmt;
 use std::marker::PhantomData;
 
 /// A raw query of one backend that takes more text and more values, and stays of one type: `SELECT 1` with ` + $1` and 5.
@@ -20,6 +21,12 @@ pub struct BoxedSqlQuery<DB, Q> {
     sql: String,
     binds: Vec<Bound>,
     backend: PhantomData<DB>,
+}
+
+impl<DB, Q> fmt::Debug for BoxedSqlQuery<DB, Q> {
+    fn fmt<W: fmt::Write>(&self, f: &mut fmt::Formatter<W>) -> fmt::Result {
+        f.write_str("BoxedSqlQuery { .. }")
+    }
 }
 
 impl<DB: Backend, Q: Drop> BoxedSqlQuery<DB, Q> {

@@ -16,7 +16,7 @@ use std::alloc::Global;
 ///
 /// It comes from `read` alone, so its brackets nest no deeper than `MAX_DEPTH`, and each walk over it, its drop among them, ends
 /// within the stack.
-#[derive(Drop)]
+#[derive(Debug, Drop)]
 pub struct Tree {
     pub(crate) query: Box<Query>,
 }

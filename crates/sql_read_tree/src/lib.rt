@@ -6,6 +6,7 @@
 #![tactic(auto)]
 
 mod count;
+mod debug;
 mod names;
 mod parts;
 mod tree;

@@ -6,7 +6,7 @@ use std::alloc::Global;
 use std::marker::Model;
 
 /// The names of a path, at least one: `"schema"."table"."column"`.
-#[derive(Drop)]
+#[derive(Debug, Drop)]
 pub struct Names {
     last: String,
     // from the last but one to the first

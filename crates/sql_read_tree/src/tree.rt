@@ -164,7 +164,7 @@ pub enum Distinctness {
 }
 
 /// An element of the order of a combination: a column by its place, as its digits.
-#[derive(Drop)]
+#[derive(Debug, Drop)]
 pub enum Place {
     At(String, Direction),
 }

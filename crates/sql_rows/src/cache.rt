@@ -35,6 +35,7 @@ use sql_rules_check::any_unknown_name;
 use sql_rules_law::{accepted_are_read, names_one_leaf};
 use sql_schema::{NoMemory, Schema, SqlList, SqlText, SqlType};
 use std::alloc::{AllocError, Global};
+use std::fmt;
 use std::marker::Model;
 use std::num::NonZeroUsize;
 
@@ -96,6 +97,12 @@ pub struct StatementCache {
     schema: Schema,
     kept: LruCache<NamedRequest, Kept>,
     hits: u64,
+}
+
+impl fmt::Debug for StatementCache {
+    fn fmt<W: fmt::Write>(&self, f: &mut fmt::Formatter<W>) -> fmt::Result {
+        f.write_str("StatementCache { .. }")
+    }
 }
 
 impl Model for StatementCache {

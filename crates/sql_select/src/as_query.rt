@@ -82,6 +82,14 @@ impl AsQuery for Table {
     }
 }
 
+impl AsQuery for &Table {
+    ghost source = { λ t. tree.of_table t.now false None };
+
+    fn as_query(self, alloc: Global) -> Result<SelectStatement, NoMemory> {
+        self.try_clone(alloc)?.as_query(alloc)
+    }
+}
+
 impl AsQuery for TableSource {
     ghost source = { λ t. tree.of_table t.table t.only t.sample };
 

@@ -19,8 +19,8 @@ use crate::methods::{
 use crate::query::Query;
 use sql_dialect::Backend;
 use sql_expr::{
-    BoxedSelectStatement, CombinationClause, Expr, JoinKind, JoinRhs, LockMode, Modifier,
-    OrderItem, SelectStatement, Source, count_star,
+    BoxedSelectStatement, CombinationClause, Expr, IntoJoinRhs, JoinKind, JoinRhs, LockMode,
+    Modifier, OrderItem, SelectStatement, Source, count_star,
 };
 use sql_schema::{NoMemory, Schema};
 use std::alloc::Global;
@@ -65,17 +65,18 @@ pub trait QueryDsl: Query {
     }
 
     /// ` FROM ("users" INNER JOIN "posts" ON ..)`. As `JoinWithImplicitOnClause`.
-    final fn inner_join(
+    final fn inner_join<R: IntoJoinRhs>(
         self,
         alloc: Global,
         schema: &Schema,
-        rhs: JoinRhs,
+        rhs: R,
     ) -> Result<Self, NoMemory>
     where
         Self: JoinWithImplicitOnClause,
         ensures { IfOk result (λ s. Self.statement s
-            ≡ joined schema.now join_kind.Inner (side_tree rhs) (Self.statement self)) }
+            ≡ joined schema.now join_kind.Inner (R.side rhs) (Self.statement self)) }
     {
+        let rhs = rhs.into_join_rhs();
         JoinWithImplicitOnClause::join_with_implicit_on_clause(
             self,
             alloc,
@@ -86,17 +87,18 @@ pub trait QueryDsl: Query {
     }
 
     /// ` FROM ("users" LEFT OUTER JOIN "posts" ON ..)`. As `JoinWithImplicitOnClause`.
-    final fn left_outer_join(
+    final fn left_outer_join<R: IntoJoinRhs>(
         self,
         alloc: Global,
         schema: &Schema,
-        rhs: JoinRhs,
+        rhs: R,
     ) -> Result<Self, NoMemory>
     where
         Self: JoinWithImplicitOnClause,
         ensures { IfOk result (λ s. Self.statement s
-            ≡ joined schema.now join_kind.LeftOuter (side_tree rhs) (Self.statement self)) }
+            ≡ joined schema.now join_kind.LeftOuter (R.side rhs) (Self.statement self)) }
     {
+        let rhs = rhs.into_join_rhs();
         JoinWithImplicitOnClause::join_with_implicit_on_clause(
             self,
             alloc,
@@ -107,11 +109,16 @@ pub trait QueryDsl: Query {
     }
 
     /// The same as `left_outer_join`.
-    final fn left_join(self, alloc: Global, schema: &Schema, rhs: JoinRhs) -> Result<Self, NoMemory>
+    final fn left_join<R: IntoJoinRhs>(
+        self,
+        alloc: Global,
+        schema: &Schema,
+        rhs: R,
+    ) -> Result<Self, NoMemory>
     where
         Self: JoinWithImplicitOnClause,
         ensures { IfOk result (λ s. Self.statement s
-            ≡ joined schema.now join_kind.LeftOuter (side_tree rhs) (Self.statement self)) }
+            ≡ joined schema.now join_kind.LeftOuter (R.side rhs) (Self.statement self)) }
     {
         self.left_outer_join(alloc, schema, rhs)
     }

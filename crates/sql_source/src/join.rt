@@ -10,7 +10,7 @@ ghost use Rattle.sql_expr.specs.Joining.{Side, side_tree, wrapper_tree};
 ghost use Rattle.sql_source.specs.Joins.{all_inner, alone, inner_sides, joined_by, joined_with, on_for};
 
 use crate::relation::implicit_on;
-use sql_expr::{JoinRhs, OnClauseWrapper};
+use sql_expr::{IntoJoinRhs, JoinRhs, OnClauseWrapper};
 use sql_leaf::JoinKind;
 use sql_node::{Expr, Join, JoinOn, Source};
 use sql_schema::{NoMemory, Schema};
@@ -50,19 +50,34 @@ pub trait JoinDsl: Sized {
 
     /// `("users" INNER JOIN "posts" ON ("posts"."user_id" = "users"."id"))`. Without a condition of its own, the right side is
     /// joined on the relation that the schema declares; where there is none, the join has no condition.
-    fn inner_join(self, alloc: Global, schema: &Schema, rhs: JoinRhs) -> Result<Self, NoMemory>
+    fn inner_join<R: IntoJoinRhs>(
+        self,
+        alloc: Global,
+        schema: &Schema,
+        rhs: R,
+    ) -> Result<Self, NoMemory>
         ensures { IfOk result (λ s. side s
-            ≡ joined_by schema.now kind.Inner (side self) (side_tree rhs)) };
+            ≡ joined_by schema.now kind.Inner (side self) (R.side rhs)) };
 
     /// `("users" LEFT OUTER JOIN "posts" ON ("posts"."user_id" = "users"."id"))`, on the same condition.
-    fn left_outer_join(self, alloc: Global, schema: &Schema, rhs: JoinRhs) -> Result<Self, NoMemory>
+    fn left_outer_join<R: IntoJoinRhs>(
+        self,
+        alloc: Global,
+        schema: &Schema,
+        rhs: R,
+    ) -> Result<Self, NoMemory>
         ensures { IfOk result (λ s. side s
-            ≡ joined_by schema.now kind.LeftOuter (side self) (side_tree rhs)) };
+            ≡ joined_by schema.now kind.LeftOuter (side self) (R.side rhs)) };
 
     /// The same as `left_outer_join`.
-    fn left_join(self, alloc: Global, schema: &Schema, rhs: JoinRhs) -> Result<Self, NoMemory>
+    fn left_join<R: IntoJoinRhs>(
+        self,
+        alloc: Global,
+        schema: &Schema,
+        rhs: R,
+    ) -> Result<Self, NoMemory>
         ensures { IfOk result (λ s. side s
-            ≡ joined_by schema.now kind.LeftOuter (side self) (side_tree rhs)) }
+            ≡ joined_by schema.now kind.LeftOuter (side self) (R.side rhs)) }
     {
         self.left_outer_join(alloc, schema, rhs)
     }
@@ -204,17 +219,28 @@ fn joined_to(
 impl JoinDsl for Source {
     ghost side = { λ s. alone (source_tree s) };
 
-    fn inner_join(self, alloc: Global, schema: &Schema, rhs: JoinRhs) -> Result<Source, NoMemory> {
-        joined_to(alloc, schema, self, rhs, JoinKind::Inner)
-    }
-
-    fn left_outer_join(
+    fn inner_join<R: IntoJoinRhs>(
         self,
         alloc: Global,
         schema: &Schema,
-        rhs: JoinRhs,
+        rhs: R,
     ) -> Result<Source, NoMemory> {
-        joined_to(alloc, schema, self, rhs, JoinKind::LeftOuter)
+        joined_to(alloc, schema, self, rhs.into_join_rhs(), JoinKind::Inner)
+    }
+
+    fn left_outer_join<R: IntoJoinRhs>(
+        self,
+        alloc: Global,
+        schema: &Schema,
+        rhs: R,
+    ) -> Result<Source, NoMemory> {
+        joined_to(
+            alloc,
+            schema,
+            self,
+            rhs.into_join_rhs(),
+            JoinKind::LeftOuter,
+        )
     }
 }
 
@@ -239,22 +265,28 @@ fn wrapper_joined_to(
 impl JoinDsl for OnClauseWrapper {
     ghost side = { wrapper_tree };
 
-    fn inner_join(
+    fn inner_join<R: IntoJoinRhs>(
         self,
         alloc: Global,
         schema: &Schema,
-        rhs: JoinRhs,
+        rhs: R,
     ) -> Result<OnClauseWrapper, NoMemory> {
-        wrapper_joined_to(alloc, schema, self, rhs, JoinKind::Inner)
+        wrapper_joined_to(alloc, schema, self, rhs.into_join_rhs(), JoinKind::Inner)
     }
 
-    fn left_outer_join(
+    fn left_outer_join<R: IntoJoinRhs>(
         self,
         alloc: Global,
         schema: &Schema,
-        rhs: JoinRhs,
+        rhs: R,
     ) -> Result<OnClauseWrapper, NoMemory> {
-        wrapper_joined_to(alloc, schema, self, rhs, JoinKind::LeftOuter)
+        wrapper_joined_to(
+            alloc,
+            schema,
+            self,
+            rhs.into_join_rhs(),
+            JoinKind::LeftOuter,
+        )
     }
 }
 

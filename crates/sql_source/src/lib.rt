@@ -13,6 +13,7 @@ mod appearance;
 mod count;
 mod join;
 mod laws;
+mod on_clause;
 mod relation;
 mod selection;
 mod table_source;

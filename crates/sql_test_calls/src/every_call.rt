@@ -2,6 +2,7 @@
 //! answer.
 
 mod conditions;
+mod conversions;
 mod expressions;
 mod nodes;
 mod queries;
@@ -16,6 +17,7 @@ fn every_call_once(rt: HostRuntime) -> Result<(), Fail> {
     nodes::every_call(alloc)?;
     expressions::every_call(alloc)?;
     conditions::every_call(alloc)?;
+    conversions::every_call(alloc)?;
     sources::every_call(alloc)?;
     queries::every_call(alloc)?;
     statements::every_call(alloc)

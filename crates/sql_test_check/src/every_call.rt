@@ -3,7 +3,7 @@
 
 mod flat;
 
-use sql_check::{broken, compile};
+use sql_check::{Built, broken, compile};
 use sql_dialect::Pg;
 use sql_expr::{Expr, ExpressionMethods, Statement};
 use sql_flat::{expression_nodes, flatten};
@@ -66,7 +66,8 @@ fn verdicts_of(alloc: Global, schema: &Schema, statement: &Statement) -> Result<
     is(
         built.sql.as_str() == "SELECT \"users\".\"id\" FROM \"users\"",
         "a compiled statement",
-    )
+    )?;
+    is(Built::try_clone(&built, alloc)? == built, "an equal answer")
 }
 
 fn verdicts(alloc: Global) -> Result<(), Fail> {

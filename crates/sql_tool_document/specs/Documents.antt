@@ -51,3 +51,11 @@ value_in bytes = if is_utf8 bytes then read bytes >>= without_floats else None
 -- the document that the bytes are
 unfoldable pub document : List ℕ → Option Document
 document bytes = value_in bytes >>= document_of
+
+-- the schema of a document, whatever else the document has
+unfoldable pub schema_at : Data → Option Declarations
+schema_at d = get (codes "schema") d >>= schema_of
+
+-- the schema of the document that the bytes are
+unfoldable pub schema_in : List ℕ → Option Declarations
+schema_in bytes = value_in bytes >>= schema_at

@@ -1,5 +1,5 @@
 ghost use Rattle.std.specs.Prelude.{◌≡◌, map};
-ghost use Rattle.sql_tool_document.specs.Documents.{request_of, document_of, document};
+ghost use Rattle.sql_tool_document.specs.Documents.{request_of, document_of, document, schema_at, schema_in};
 ghost use Rattle.sql_tool_document.specs.Members.{each};
 ghost use Rattle.sql_tool_document.specs.Giving.{Gives};
 ghost use Rattle.sql_tool_document.specs.Trees.{request_tree, document_tree};
@@ -76,4 +76,23 @@ pub fn read_document(alloc: Global, bytes: &[u8]) -> Result<Document, Refusal>
     let mut scratch = Scratch::new(alloc);
     let value = json(alloc, bytes, &mut scratch)?;
     whole(alloc, &value)
+}
+
+#[tactic(auto, unfolding(crate::specs::Documents::schema_at))]
+fn schema_of(alloc: Global, value: &Value<'_>) -> Result<Schema, Refusal>
+    ensures { Gives (λ s. s) result (schema_at (seen value.now)) }
+{
+    let declarations = get(value, "schema").ok_or(Refusal::NotADocument)?;
+    schema(alloc, declarations)
+}
+
+/// Returns the schema of the document that the bytes are, whatever else it has, else `NotADocument`; or `NoMemory`. So a program and
+/// documents share one declaration of their tables: `{"schema":{"tables":[..]}}`.
+#[tactic(auto, unfolding(crate::specs::Documents::schema_in))]
+pub fn read_schema(alloc: Global, bytes: &[u8]) -> Result<Schema, Refusal>
+    ensures { Gives (λ s. s) result (schema_in bytes.now) }
+{
+    let mut scratch = Scratch::new(alloc);
+    let value = json(alloc, bytes, &mut scratch)?;
+    schema_of(alloc, &value)
 }

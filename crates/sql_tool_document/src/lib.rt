@@ -30,7 +30,7 @@ mod texts;
 mod value;
 mod whole;
 
-pub use document::{Document, Request, read_document};
+pub use document::{Document, Request, read_document, read_schema};
 pub use guard::{Guard, Guarded, read_guarded};
 pub use names::{dialect, dialect_name, type_name};
 pub use policy::{NamedPolicy, Policed, read_policed};

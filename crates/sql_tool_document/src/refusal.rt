@@ -2,13 +2,16 @@ ghost use Rattle.std.specs.Prelude.{◌≡◌};
 ghost use Rattle.sql_tool_document.specs.declared.refusal.Refusal.TheVariants.{NoMemory};
 
 use std::alloc::{AllocError, AllocFailed};
+use thiserror::Error;
 
-/// Why there is no document.
-#[derive(Debug, Clone, Copy, PartialEq, Eq)]
+/// Why there is no document. A message is the variant's name.
+#[derive(Debug, Error, Clone, Copy, PartialEq, Eq)]
 pub enum Refusal {
     /// Out of memory, whatever the bytes are.
+    #[error("NoMemory")]
     NoMemory,
     /// The bytes are no JSON, no JSON of a document's form, or no schema can have its declarations.
+    #[error("NotADocument")]
     NotADocument,
 }
 

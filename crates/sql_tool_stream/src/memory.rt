@@ -11,7 +11,7 @@ use std::marker::Model;
 use std::num::NonZeroUsize;
 
 /// A source over memory, which gives at most `piece` bytes a call and fails at the calls that `failing` names.
-#[derive(Drop)]
+#[derive(Debug, Drop)]
 pub struct MemorySource {
     bytes: Vec<u8>,
     at: usize,
@@ -97,7 +97,7 @@ impl Source for MemorySource {
 
 /// A sink over memory, which takes at most `piece` bytes a call and fails at the calls that `failing` names, and
 /// where no room is left.
-#[derive(Drop)]
+#[derive(Debug, Drop)]
 pub struct MemorySink {
     bytes: Vec<u8>,
     room: usize,

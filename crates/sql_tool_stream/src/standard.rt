@@ -1,6 +1,7 @@
 ghost use Rattle.std.specs.Prelude.{◌≡◌, None};
 
 use crate::outside::{Failed, Sink, Source};
+use std::fmt;
 use std::io::{Lock, Read, StdinLock, StdoutLock, Write};
 
 /// A reader of std, whose failures are counted. Its bytes are known where the reader's are.
@@ -8,6 +9,12 @@ use std::io::{Lock, Read, StdinLock, StdoutLock, Write};
 pub struct CountedReader<R> {
     inner: R,
     faults: u64,
+}
+
+impl<R> fmt::Debug for CountedReader<R> {
+    fn fmt<W: fmt::Write>(&self, f: &mut fmt::Formatter<W>) -> fmt::Result {
+        f.write_str("CountedReader { .. }")
+    }
 }
 
 impl<R: Read> CountedReader<R> {
@@ -53,6 +60,12 @@ impl<R: Read> Source for CountedReader<R> {
 pub struct StdSink {
     inner: StdoutLock<'static>,
     faults: u64,
+}
+
+impl fmt::Debug for StdSink {
+    fn fmt<W: fmt::Write>(&self, f: &mut fmt::Formatter<W>) -> fmt::Result {
+        f.write_str("StdSink { .. }")
+    }
 }
 
 impl StdSink {

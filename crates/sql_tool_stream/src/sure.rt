@@ -4,7 +4,7 @@ use crate::outside::{Failed, Sink, Source, give};
 use std::marker::Model;
 
 /// A source over memory that never fails.
-#[derive(Drop)]
+#[derive(Debug, Drop)]
 pub struct SureSource {
     bytes: Vec<u8>,
     at: usize,

@@ -34,6 +34,10 @@ fn pushes<DB: Backend>(alloc: Global, backend: &DB, wanted: &str) -> Result<(), 
 }
 
 fn numbers(alloc: Global) -> Result<(), Fail> {
+    let bound = 1i16.bound(alloc)?;
+    is(Bound::try_clone(&bound, alloc)? == bound, "an equal bind")?;
+    let value = Value::SmallInt(1);
+    is(Value::try_clone(&value, alloc)? == value, "an equal value")?;
     is(
         matches!(1i16.bound(alloc)?, Bound::Value(_, Value::SmallInt(1))),
         "a SmallInt",

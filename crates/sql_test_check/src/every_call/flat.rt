@@ -6,10 +6,10 @@ use crate::flat::end_at;
 use sql_check::{Built, CompileError, Steps, compile_by, compile_flat_by, fused};
 use sql_dialect::Pg;
 use sql_expr::Statement;
-use sql_flat::{Flat, FlatKind, expression_nodes, flatten};
+use sql_flat::{Flat, FlatKind, FlatNode, expression_nodes, flatten};
 use sql_flat_back::Unflatten;
 use sql_flat_text::write_flat;
-use sql_key::{erased_kind, flat_query_id};
+use sql_key::{QueryKey, erased_kind, flat_query_id};
 use sql_pass::Value;
 use sql_rows::{StatementCache, compile_sound_by};
 use sql_rules_check::{Names, broken_but_the_last};
@@ -42,11 +42,27 @@ fn told_of(alloc: Global, statement: &Statement) -> Result<(), Fail> {
 
 fn of_list(alloc: Global, schema: &Schema, flat: &Flat) -> Result<(), Fail> {
     gives(alloc, flat.unflatten(alloc), IDS)?;
-    is(flat_query_id(alloc, flat)?.is_some(), "an id")?;
+    match flat_query_id(alloc, flat)? {
+        Some(key) => is(QueryKey::try_clone(&key, alloc)? == key, "an equal key")?,
+        None => is(false, "an id")?,
+    }
+    copies_of_nodes(alloc, flat)?;
     let broken = broken_but_the_last(alloc, &Pg, schema, flat)?;
     is(broken.is_empty(), "no rule broken")?;
     let blank = Blank::new(1);
     counted::<Brand>(alloc, flat, blank)
+}
+
+/// Fails where a node's copy is another.
+fn copies_of_nodes(alloc: Global, flat: &Flat) -> Result<(), Fail> {
+    for node in flat.nodes() {
+        is(FlatNode::try_clone(node, alloc)? == *node, "an equal node")?;
+        is(
+            FlatKind::try_clone(&node.kind, alloc)? == node.kind,
+            "an equal kind",
+        )?;
+    }
+    Ok(())
 }
 
 /// Checks what is written and told where the caller counts the steps.

@@ -10,7 +10,7 @@ use sql_tool_build::{
     NamedRequest, Names, StatementCache, compile_cached_for, refusal_line, request_id,
     request_line, statement_line,
 };
-use sql_tool_document::{Document, Request, read_document};
+use sql_tool_document::{Document, Request, read_document, read_schema};
 use sql_tool_series::{Form, Named, series_schema};
 use std::alloc::Global;
 use std::collections::BTreeMap;
@@ -29,6 +29,8 @@ pub(crate) fn every_call(alloc: Global) -> Result<(), Fail> {
         refused.as_str() == "{\"refused\":\"EmptyList\"}\n",
         "a refusal",
     )?;
+    let schema = read_schema(alloc, FILTER.as_bytes())?;
+    is(!schema.tables().is_empty(), "a schema")?;
     of_document(alloc)?;
     let statement = by_id(alloc)?;
     let told = of_statement(alloc, &statement);
