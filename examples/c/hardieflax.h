@@ -91,7 +91,8 @@ uint32_t hardieflax_open(hardieflax *handle, const uint8_t *document, size_t len
 /*
  * Answers more requests over the session's schema: a document that declares no table, as {"schema":{"tables":[]},"requests":[..]}. The
  * lines are those that the output of one document would have which has the requests of all the session's calls, in order: an id is the
- * number, from 1, of the session's first accepted request of the same dialect and shape. In a session with policies the document's member
+ * number, from 1, of the session's first accepted request of the same dialect and shape. Once 16384 shapes have an id all are forgotten: a
+ * shape that comes again then has a new id, and no id is ever given to another shape. In a session with policies the document's member
  * "values" has the values for their places, so that one session serves all tenants with one text for each shape. Input that is no such
  * document, or lacks a value, leaves the session as it was.
  *
