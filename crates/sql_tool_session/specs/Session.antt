@@ -116,7 +116,7 @@ AreLinesOf schema asked ls =
 
 -- Over the schema the session has answered these requests, by this text, and knows how many they are. The text is their lines
 -- (`answers_are_outputs`); `AreWrittenAfter` also says that the session finds their ids.
-pub record HasAnswered (schema : Declarations) (asked : List Asked) (text : List ℕ) (s : Session) : Type 0 where
-  pub schema : s.cache.schema ≡ schema
+pub record HasAnswered (declared : Declarations) (asked : List Asked) (text : List ℕ) (s : Session) : Type 0 where
+  pub schema : s.cache.schema ≡ declared
   pub count : s.count ≡ length asked
-  pub written : (rs : List StatementRequest) × AreMade schema asked rs × AreWrittenAfter MAX_SHAPES schema s.seen rs text
+  pub written : (rs : List StatementRequest) × AreMade declared asked rs × AreWrittenAfter MAX_SHAPES declared s.seen rs text

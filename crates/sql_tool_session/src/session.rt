@@ -93,7 +93,6 @@ fn tenant_named(
 
 impl Session {
     /// A session over this schema, with these policies, that has answered nothing.
-    #[tactic(auto, using(crate::proofs::Answered::first_written))]
     fn new(alloc: Global, schema: Schema, template: Option<Template>) -> Result<Session, AllocError>
         ensures { IfOk result (λ session. HasAnswered schema [] [] session
             × (session.template ≡ template)) }

@@ -1,4 +1,5 @@
-use Rattle.std.proofs.Common.{◌≡◌, ◌++◌, subst, sym}
+use Rattle.std.proofs.Common.{◌≡◌, ◌++◌, option_map, subst, sym}
+use Rattle.sql_tool_guard.specs.Trees.{tenant_tree}
 use Rattle.sql_tool_session.specs.Session.{HasAnswered, asked_for}
 use Rattle.sql_tool_session.specs.Within.{HasTooDeep, before_too_deep}
 use Rattle.sql_tool_session.proofs.responder.Responder.next.Goals as goal
@@ -18,7 +19,7 @@ returns-in-Ok-clause-done c = λ ended.
       kept,
       λ schema asked text has.
           subst (λ t. HasAnswered schema (asked ++ asked_for t a.document.requests) (text ++ answer) after) (sym tenant)
-          (subst (λ rs. HasAnswered schema (asked ++ asked_for _ rs) (text ++ answer) after) (sym same)
+          (subst (λ rs. HasAnswered schema (asked ++ asked_for (option_map tenant_tree c.in-Ok.asking.tenant) rs) (text ++ answer) after) (sym same)
           (grows schema asked text has)),
     )
 
@@ -37,6 +38,6 @@ returns-in-Ok-clause-deep c = λ after ended new.
       λ schema asked text has.
           subst (λ t. HasAnswered schema (asked ++ asked_for t (before_too_deep a.document.requests)) (text ++ answer) after)
           (sym tenant)
-          (subst (λ rs. HasAnswered schema (asked ++ asked_for _ (before_too_deep rs)) (text ++ answer) after) (sym same)
+          (subst (λ rs. HasAnswered schema (asked ++ asked_for (option_map tenant_tree c.in-Ok.asking.tenant) (before_too_deep rs)) (text ++ answer) after) (sym same)
           (grows schema asked text has)),
     )

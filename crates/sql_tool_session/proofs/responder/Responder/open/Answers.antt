@@ -1,5 +1,6 @@
 use Rattle.std.proofs.Common.{◌≡◌, ◌∙◌, [], map, option_map, ap, subst, sym}
 use Rattle.sql_tool_document.specs.Trees.{template_tree}
+use Rattle.sql_tool_guard.specs.Trees.{tenant_tree}
 use Rattle.sql_tool_session.specs.Session.{HasAnswered, asked_for}
 use Rattle.sql_tool_session.specs.Within.{HasTooDeep, before_too_deep}
 use Rattle.sql_tool_session.proofs.responder.Responder.open.Goals as goal
@@ -15,7 +16,7 @@ returns-in-Ok-clause-opened c = λ ended.
       new,
       ap (option_map template_tree) same ∙ kept,
       subst (λ t. HasAnswered a.document.schema (asked_for t a.document.requests) text after) (sym tenant)
-          (subst (λ rs. HasAnswered a.document.schema (asked_for _ rs) text after) (sym asked)
+          (subst (λ rs. HasAnswered a.document.schema (asked_for (option_map tenant_tree c.in-Ok.asking.tenant) rs) text after) (sym asked)
           (grows a.document.schema [] [] has)),
     )
 
@@ -29,6 +30,6 @@ returns-in-Ok-clause-deep c = λ after ended new.
       subst HasTooDeep (sym asked) deep,
       ap (option_map template_tree) same ∙ kept,
       subst (λ t. HasAnswered a.document.schema (asked_for t (before_too_deep a.document.requests)) text after) (sym tenant)
-          (subst (λ rs. HasAnswered a.document.schema (asked_for _ (before_too_deep rs)) text after) (sym asked)
+          (subst (λ rs. HasAnswered a.document.schema (asked_for (option_map tenant_tree c.in-Ok.asking.tenant) (before_too_deep rs)) text after) (sym asked)
           (grows a.document.schema [] [] has)),
     )

@@ -32,7 +32,7 @@ loop-request-preserved c =
     let added = ap (λ u. l.lines.items ++ u) c.as_bytes.ensures.value in (
       c.line.ensures.template ∙ l.invariant.0,
       λ schema asked text has.
-          let one = c.in_ok-line.ensures schema (asked ++ asked_for tenant some) (text ++ l.lines.items) (l.invariant.1 schema asked text has) in
+          let one = c.in_ok-line.ensures.line schema (asked ++ asked_for tenant some) (text ++ l.lines.items) (l.invariant.1 schema asked text has) in
           let longer =
           subst (λ (x : List Asked). HasAnswered schema x ((text ++ l.lines.items) ++ line) c.line.new.self)
           (asked_more tenant asked some (request_tree item ∷ []) ∙ ap (λ rs. asked ++ asked_for tenant rs) next) one in
