@@ -1,5 +1,5 @@
 -- Lines after lines.
-use Rattle.std.proofs.Common.{◌≡◌, ◌∙◌, ◌<◌, ◌≤◌, ℕ, Bool, true, false, cond, List, [], ◌∷◌, ◌++◌, length, Option, None, Some, refl, ap, sym, subst, append_assoc, append-nil, arith}
+use Rattle.std.proofs.Common.{◌≡◌, ◌∙◌, ◌<◌, ◌≤◌, ℕ, Bool, true, false, cond, List, [], ◌∷◌, ◌++◌, length, Option, None, Some, Result, Ok, Err, refl, ap, sym, subst, append_assoc, append-nil, arith}
 use Rattle.std.specs.Prelude.{nat_lt, nat_eq, take_while, option_map}
 use Rattle.std.proofs.lemmas.Bool.Decides.{nat_tests}
 use Rattle.std.proofs.lemmas.List.{append_cancel_left, take_all}
@@ -20,6 +20,11 @@ use Rattle.sql_tool_session.specs.Session.{AreMade, Asked, Asking, HasAnswered, 
 use Rattle.sql_tool_session.specs.Within.{HasTooDeep, before_too_deep, fits}
 use Rattle.sql_tool_session.specs.declared.responder.Responder.{Responder}
 use Rattle.sql_tool_session.specs.declared.session.Session.{Session}
+use Rattle.sql_tool_lines.proofs.Turns.{prompt-weaker}
+use Rattle.sql_tool_lines.specs.Conversation.{Conversed}
+use Rattle.sql_tool_lines.specs.Lines.{all_lines}
+use Rattle.sql_tool_lines.specs.Turns.{Event, read_in, written_in}
+use Rattle.sql_tool_lines.specs.declared.listener.Stop.{Stop}
 use Rattle.sql_tool_talk.specs.Talk.{AreAnswered, AreAnsweredBy, IsOutputSo, Opened, Talk, after, answer_text, asking_error, depth_error, error, error_in, followed_by, heard, opened_as, requests_of, session_after}
 use Rattle.sql_tool_talk.specs.declared.remark.Remark.{Remark}
 use Rattle.sql_tool_talk.specs.declared.remark.Remark.TheVariants.{BadDocument, TooDeep, TooLarge}
@@ -247,3 +252,34 @@ goes-on-bad s (Some a) declares =
       if-false _ (asked_for a.tenant (before_too_deep a.document.requests)) [] tables,
       if-false _ (depth_error a.document.requests) (Some BadDocument) tables,
     )
+
+-- ---- a whole conversation
+
+-- what a talker has told of lines answers them
+pub told-answers : (r : Responder) (lines : List (List ℕ)) (text : List ℕ) → Told r lines text → AreAnswered lines text
+told-answers r lines text (output, talk, knows) = (output, talk)
+
+-- before the first line
+pub told-nothing : (r : Responder) → Knows r None [] → Told r [] []
+told-nothing r knows = ([], (refl, refl), knows)
+
+pub conversed-so : {T : Type 0} (Answered Done : List (List ℕ) → List ℕ → Type 0) (es : List Event) (result : Result T Stop)
+    → ((lines : List (List ℕ)) (text : List ℕ) → Answered lines text → AreAnswered lines text)
+    → ((lines : List (List ℕ)) (text : List ℕ) → Done lines text → AreAnswered lines text)
+    → Conversed {T = T} Answered Done es result → Conversed {T = T} AreAnswered AreAnswered es result
+conversed-so Answered Done es (Ok x) some all h = record {
+  prompt = prompt-weaker Answered AreAnswered some [] [] es h.prompt;
+  ends = (h.ends.0, all (all_lines (read_in es)) (written_in es) h.ends.1);
+}
+conversed-so Answered Done es (Err e) some all h = record {
+  prompt = prompt-weaker Answered AreAnswered some [] [] es h.prompt;
+  ends = record {
+    some = h.ends.some;
+    later = h.ends.later;
+    rest = h.ends.rest;
+    lines = h.ends.lines;
+    answered = some h.ends.some (written_in es ++ h.ends.rest) h.ends.answered;
+    whole = h.ends.whole;
+    read = h.ends.read;
+  };
+}

@@ -14,7 +14,6 @@ ghost use Rattle.sql_tool_talk.specs.Talk.{AreAnswered, AreAnsweredBy, Opened, T
 
 use crate::talker::Talker;
 use sql_tool_lines::{Peer, Stop, converse};
-use sql_tool_session::answers_are_outputs;
 use std::alloc::Global;
 
 /// Answers the lines of a peer, each before the next read: the first line is a document, whose schema the session has from then on, and
@@ -52,6 +51,5 @@ pub fn talk<P: Peer>(alloc: Global, peer: &mut P) -> Result<(), Stop>
     ensures no_write_fault { (result ≡ Err stop.WriteFault → ⊥)
         → P.write_faults peer.new ≡ P.write_faults peer.old }
 {
-    answers_are_outputs();
     converse(alloc, peer, &mut Talker::new(alloc))
 }
