@@ -11,7 +11,7 @@ use std::test::Fail;
 
 /// Gives the input a byte at a time, and fails at the read or the write with this number, from 1. It takes a byte at a time.
 #[derive(Drop)]
-struct Script {
+pub(crate) struct Script {
     input: Vec<u8>,
     reads: usize,
     writes: usize,
@@ -67,7 +67,11 @@ impl Peer for Script {
 }
 
 /// The filter's document, as a line, and a line that is none.
-fn script(alloc: Global, failing_read: usize, failing_write: usize) -> Result<Script, Fail> {
+pub(crate) fn script(
+    alloc: Global,
+    failing_read: usize,
+    failing_write: usize,
+) -> Result<Script, Fail> {
     let mut input = Vec::from_slice(alloc, FILTER.as_bytes())?;
     input.extend_from_slice(b"\nx")?;
     Ok(Script {
