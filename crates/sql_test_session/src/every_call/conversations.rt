@@ -4,7 +4,7 @@ ghost use Rattle.std.specs.Prelude.{ℕ, List};
 
 use crate::conversations::script;
 use sql_test_kit::is;
-use sql_tool_lines::Listener;
+use sql_tool_lines::{Listener, converse};
 use sql_tool_session::Status;
 use sql_tool_talk::{ending, talk};
 use std::alloc::{AllocError, Global};
@@ -39,5 +39,9 @@ pub(crate) fn every_call(alloc: Global) -> Result<(), Fail> {
     let line = Listener::hear(&mut echo, alloc, b"line")?;
     is(line.as_slice() == b"line", "a line")?;
     let long = Listener::hear_long(&mut echo, alloc)?;
-    is(long.as_slice() == b"long", "a long line")
+    is(long.as_slice() == b"long", "a long line")?;
+    let mut script = script(alloc, 0, 0)?;
+    let status = ending(converse(alloc, &mut script, &mut echo));
+    drop(script);
+    is(status == Status::Done, status.name())
 }
