@@ -58,8 +58,9 @@ INNER: dict[str, set[str]] = {
     # parts of `run`
     "sql_tool_audit": {"*"},
     "sql_tool_document": {
-        "Document", "Guard", "Guarded", "NamedPolicy", "Policed", "Request", "Texts", "depth_changes_nothing", "dialect", "dialect_name",
-        "read_document", "read_guarded", "read_policed", "read_texts", "type_name",
+        "Call", "Document", "Guard", "Guarded", "NamedPolicy", "Opening", "Policed", "Request", "Template", "Texts",
+        "depth_changes_nothing", "dialect", "dialect_name", "read_call", "read_document", "read_guarded", "read_opening", "read_policed",
+        "read_texts", "type_name",
     },
     "sql_tool_generate": {"*"},
     "sql_guard": {"count_predicates"},
