@@ -17,6 +17,7 @@ use Rattle.sql_schema.specs.Declarations.{Declarations}
 use Rattle.sql_schema.specs.Refusals.{least_refusal}
 use Rattle.sql_dialect.specs.declared.backend.Dialect.TheVariants.{Pg}
 use Rattle.sql_rules.specs.Lists.{Each}
+use Rattle.sql_dialect.specs.declared.backend.Dialect.{Dialect}
 use Rattle.sql_rules_law.proofs.Lists.{each_append}
 use Rattle.sql_rows.specs.declared.cache.RequestKey.{RequestKey}
 use Rattle.sql_rows.specs.contracts.cache.NamedRequestOrd.TheImpl as key_ord
@@ -26,7 +27,7 @@ use Rattle.sql_tool_build.proofs.Ids.{LineKnown, judged-known}
 use Rattle.sql_tool_build.proofs.Keys.{blind}
 use Rattle.sql_tool_build.proofs.Lines.{line-found, line-kept, text-more}
 use Rattle.sql_tool_build.specs.Ids.{RequestShape}
-use Rattle.sql_tool_build.specs.Judgement.{Judgement, Judges, refuses}
+use Rattle.sql_tool_build.specs.Judgement.{Judgement, Judges, Made, refuses, unmade}
 use Rattle.sql_tool_build.specs.Output.{IsLine, Line, StatementRequest, line_shape, line_text}
 use Rattle.sql_tool_build.specs.inside.Keys.{HasLine, IsKept, id_found, index_from, line_found, line_key, request_key, same_key, seen_at}
 use Rattle.sql_tool_ids.proofs.Few.{after-length, after-more, lines-length, lines-more}
@@ -146,6 +147,14 @@ counted schema old new m h n number (Some k) kept sorted = by (seen_at old k) re
         (λ q. kept-some (seen_at old) (seen_at new) k n kept q ∙ found-again old k p at q)
         ∙ h.count ∙ sym (ap (λ b. cond b (m.count + 1) m.count) (not-own p (length m.shapes) few))
 
+abbrev IsJudged : Declarations → Line → Type 0
+IsJudged schema l = (d : Dialect) × (m : Made) × Judges schema d m l.judgement
+
+all-named : (schema : Declarations) (ls : List Line) → Each (IsJudged schema) ls → Each (LineKnown schema) ls
+all-named schema [] all = tt
+all-named schema (l ∷ ls) all =
+    let (d, m, judged) = all.0 in (judged-known schema l.dialect d m l.judgement judged l.id, all-named schema ls all.1)
+
 module _ (schema : Declarations) (old new : Seen) (m : Memory) (h : Remembers schema old m) (n : ℕ) (number : n ≡ 1 + length m.shapes) (r : StatementRequest) (j : Judgement) (judged : Judges schema r.dialect r.statement j) where
   abbrev the_line : Line
   the_line = line_found (seen_at old) n r.dialect j
@@ -156,16 +165,15 @@ module _ (schema : Declarations) (old new : Seen) (m : Memory) (h : Remembers sc
   line-is : least_refusal schema ≡ None → IsLine schema m.shapes r the_line
   line-is sound =
       subst (λ xs. IsLine schema xs r the_line) h.shapes
-      (line-found schema (seen_at old) (seen_at new) h.lines n after-lines h.tells sound h.named r j judged)
+      (line-found schema (seen_at old) (seen_at new) h.lines n after-lines h.tells sound
+      (all-named schema h.lines h.judged) r j judged)
 
   remembers-more : IsKept (seen_at old) (seen_at new) n (request_key r.dialect j) → IsSorted new
       → Remembers schema new (learnt m the_line)
   remembers-more kept sorted = record {
     lines = h.lines ++ the_line ∷ [];
     shapes = map-append line_shape h.lines (the_line ∷ []) ∙ ap (λ xs. xs ++ line_shape the_line ∷ []) h.shapes;
-    named =
-        each_append (LineKnown schema) h.lines (the_line ∷ []) h.named
-        (judged-known schema r.dialect r.dialect r.statement j judged the_line.id, tt);
+    judged = each_append (IsJudged schema) h.lines (the_line ∷ []) h.judged ((r.dialect, r.statement, judged), tt);
     tells = line-kept schema (seen_at old) (seen_at new) h.lines n after-lines h.tells r.dialect j kept;
     count = counted schema old new m h n number (request_key r.dialect j) kept sorted;
     sorted = sorted;
@@ -184,9 +192,9 @@ blank-shapes : (xs : List (Option RequestShape)) → map line_shape (blanks xs) 
 blank-shapes [] = refl
 blank-shapes (x ∷ xs) = ap (λ ys. None ∷ ys) (blank-shapes xs)
 
-blank-named : (schema : Declarations) (xs : List (Option RequestShape)) → Each (LineKnown schema) (blanks xs)
-blank-named schema [] = tt
-blank-named schema (x ∷ xs) = (λ k is. absurd (none_some k is), blank-named schema xs)
+blank-judged : (schema : Declarations) (xs : List (Option RequestShape)) → Each (IsJudged schema) (blanks xs)
+blank-judged schema [] = tt
+blank-judged schema (x ∷ xs) = ((Pg, unmade [], refl), blank-judged schema xs)
 
 blank-index : (n : ℕ) (xs : List (Option RequestShape)) (q : RequestKey) → index_from n (map line_key (blanks xs)) q ≡ None
 blank-index n [] q = refl
@@ -197,7 +205,7 @@ pub remembers-none : (schema : Declarations) (seen : Seen) (m : Memory) → IsEm
 remembers-none schema seen m none sorted = record {
   lines = blanks m.shapes;
   shapes = blank-shapes m.shapes;
-  named = blank-named schema m.shapes;
+  judged = blank-judged schema m.shapes;
   tells = λ q. ap (lookup (is_at ((key_ord.ghosts).cmp q))) none ∙ sym (blank-index 1 m.shapes q);
   count = ap length none;
   sorted = sorted;
