@@ -6,6 +6,7 @@
   those of functions, methods and traits, and what an impl says of its type, as `ghost pieces`.
 - Its users, `hardieflax_tests` and `sql_examples`, name no library but `hardieflax`. `hardieflax_tests` calls each function that it exports,
   and names each trait.
+- Each type that it exports has `Debug`.
 
 Ends with 'N passed, M failed'. It reads files as `rt fmt` lays them out: items start a line, and their members have four columns before them.
 """
@@ -322,6 +323,18 @@ def check_calls(check: Check, libraries: dict[str, Exports], exports: Exports) -
             check.that(bool(re.search(rf"\b{name}\b", tests)), f"{TESTS} names {key}")
 
 
+def check_debug(check: Check, libraries: dict[str, Exports], passed_on: set[Item]) -> None:
+    """Each type that the facade exports prints: its `Debug` is derived or written."""
+    for crate in libraries:
+        code = "\n".join(text for _, text in code_of(crate))
+        declared = re.findall(r"^((?:#\[[^\]]*\]\n)*)pub (?:struct|enum) (\w+)", code, re.M)
+        written = set(re.findall(r"\bDebug\s+for (\w+)", code))
+        for attributes, name in declared:
+            if (crate, name) in passed_on:
+                derived = re.search(r"derive\([^)]*\bDebug\b", attributes) is not None
+                check.that(derived or name in written, f"{name} of {crate}: to have Debug")
+
+
 def main() -> int:
     """Makes all checks, and tells how many hold."""
     libraries = {crate: exports_of(crate) for crate in libraries_below(FACADE)}
@@ -331,6 +344,7 @@ def main() -> int:
     check_words(check, libraries, set(exports.values()))
     check_users(check, libraries)
     check_calls(check, libraries, exports)
+    check_debug(check, libraries, set(exports.values()))
     print(f"{check.passed} passed, {check.failed} failed")
     return 1 if check.failed else 0
 

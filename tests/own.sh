@@ -6,7 +6,7 @@ top=$(cd "$(dirname "$0")/.." && pwd) || exit 1
 work=$(mktemp -d) || exit 1
 trap 'rm -rf "$work"' EXIT
 cd "$work" || exit 1
-git init -q own && "$top/packaging/bring.py" own && cd own && rt new crates/first start_io >/dev/null || exit 1
+git init -q own && "$top/packaging/bring.py" own && cd own && mkdir -p crates/first/src || exit 1
 echo "first: hardieflax anyhow" >>crates.txt
 python3 - "$top/docs/USING.md" crates/first/src/main.rt <<'END'
 import pathlib, re, sys

@@ -29,6 +29,7 @@ is_reading = schema_of("reading.schema.json")
 # what `guard`, `tenant` and `audit` read and write
 is_guarded, is_guarded_answer = (each.evolve(schema=each.schema["$defs"]["GUARDED"]) for each in (is_document, is_answer))
 is_policed, is_policed_answer = (each.evolve(schema=each.schema["$defs"]["POLICED"]) for each in (is_document, is_answer))
+is_opening = is_document.evolve(schema=is_document.schema["$defs"]["OPENING"])
 is_audited, is_audited_answer = (each.evolve(schema=each.schema["$defs"]["AUDITED"]) for each in (is_document, is_answer))
 
 
@@ -452,6 +453,12 @@ for name, text in POLICIES:
     expect(name, valid(is_policed, text), True)
 for name, text in NO_POLICIES:
     expect(name, valid(is_policed, text), False)
+# what opens a session: a document without policies, one with them, and with places in them, as docs/GUARD.md shows
+for name, text in [("the least document", schema('{"tables":[]}')), *POLICIES]:
+    expect(f"{name} opens a session", valid(is_opening, text), True)
+for number, text in enumerate((top / "docs/GUARD.md").read_text().split("```json\n")[1:], 1):
+    expect(f"docs/GUARD.md, document {number}", valid(is_opening, text.split("```")[0]), True)
+expect("policies that are a place", valid(is_opening, '{"schema":{"tables":[]},"tenant":{"value":"all"},"requests":[]}'), False)
 for name, text in [*AUDITS, *AUDITS_NOT_FOR_A_SCHEMA]:
     expect(name, valid(is_audited, text), True)
 for name, text in NO_AUDITS:
