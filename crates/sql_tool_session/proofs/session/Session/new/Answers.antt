@@ -1,4 +1,4 @@
-use Rattle.std.proofs.Common.{◌≡◌, ap, refl}
+use Rattle.std.proofs.Common.{ap, refl}
 use Rattle.sql_rows.specs.Entries.{Entries}
 use Rattle.sql_tool_session.proofs.Answered.{first_written}
 use Rattle.sql_tool_session.proofs.session.Session.new.Goals as goal
