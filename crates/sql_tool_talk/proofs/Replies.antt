@@ -121,8 +121,8 @@ module _ (line : List ℕ) (old new : Responder) (said : Option Remark) where
   told-next Done other usage done deep shallow nothing bad is (Some o) output (s, had, template, answered) =
       let (before, now, a, was, has, read, none, kept, grows) = done refl in
       let asked = asked-so o output s before a had was template answered read in
-      let (these, no) = goes-on o a (asking_of (Some o) line) asked none (shallow before a refl was read) in (
-        is ∙ sym no,
+      let (these, quiet) = goes-on o a (asking_of (Some o) line) asked none (shallow before a refl was read) in (
+        is ∙ sym quiet,
         grown o output s before now (asked_for a.tenant a.document.requests) had was has kept template answered grows these,
       )
   told-next Usage other usage done deep shallow nothing bad is (Some o) output knows = absurd is
@@ -130,12 +130,12 @@ module _ (line : List ℕ) (old new : Responder) (said : Option Remark) where
       let (kept, declares) = bad refl in
       let empty : new.answer.items ≡ [] =
       nothing (λ e. (let wrong : BadDocument ≡ Done = e in cc)) (λ e. absurd (let wrong : BadDocument ≡ NoMemory = e in cc)) in
-      let (none, no) =
+      let (none, quiet) =
       goes-on-bad o (asking_of (Some o) line) (λ a read. declares s a had (asks o s output line template answered ∙ read)) in
       let requests : o.asked ≡ o.asked ++ requests_of (asking_of (Some o) line) =
       sym (ap (λ x. o.asked ++ x) none ∙ append-nil o.asked) in
       let text : output ≡ output ++ new.answer.items = sym (ap (λ x. output ++ x) empty ∙ append-nil output) in (
-        is ∙ sym no,
+        is ∙ sym quiet,
         (
           s,
           kept ∙ had,

@@ -255,10 +255,6 @@ goes-on-bad s (Some a) declares =
 
 -- ---- a whole conversation
 
--- what a talker has told of lines answers them
-pub told-answers : (r : Responder) (lines : List (List ℕ)) (text : List ℕ) → Told r lines text → AreAnswered lines text
-told-answers r lines text (output, talk, knows) = (output, talk)
-
 -- before the first line
 pub told-nothing : (r : Responder) → Knows r None [] → Told r [] []
 told-nothing r knows = ([], (refl, refl), knows)

@@ -1,17 +1,17 @@
 use Rattle.std.proofs.Common.{◌≡◌, List, ℕ}
 use Rattle.sql_tool_session.proofs.Answered.{lines_one_id, lines_output}
-use Rattle.sql_tool_talk.proofs.Talks.{conversed-so, one-list, one-text, told-answers, told-nothing}
+use Rattle.sql_tool_talk.proofs.Talks.{conversed-so, one-list, one-text, told-nothing}
 use Rattle.sql_tool_talk.proofs.conversation.talk.Goals as goal
 
 pub converse-requires : goal.converse-requires
-converse-requires g c = told-nothing _ c.new.ensures
+converse-requires g c = told-nothing c.new.result.responder c.new.ensures
 
 pub returns-clause-conversed : goal.returns-clause-conversed
 returns-clause-conversed g c =
     let (es, adds, went) = c.converse.ensures.conversed in (
       es,
       adds,
-      conversed-so _ _ es _ (λ lines text told. told-answers _ lines text told.1) (λ lines text told. told-answers _ lines text told) went,
+      conversed-so _ _ es _ (λ lines text told. (told.1.0, told.1.1)) (λ lines text told. (told.0, told.1)) went,
     )
 
 pub returns-clause-one_text : goal.returns-clause-one_text
