@@ -28,7 +28,7 @@ fn raw(rt: &HostRuntime) -> Result<(), Failure> {
 /// A text of the grammar is read as one tree, and written from it.
 fn reader(rt: &HostRuntime) -> Result<(), Failure> {
     let alloc = rt.alloc();
-    let text = r#"select "users"."id" from "users" where ("users"."name" = $1)"#;
+    let text = r#"SELECT   "users"."id" FROM "users" WHERE ("users"."name"=$1)"#;
     match read(alloc, Dialect::Pg, text) {
         Ok(tree) => {
             let written = write(alloc, Dialect::Pg, &tree)?;
