@@ -78,7 +78,7 @@ one-made t (Some s) a b (inl (e, some, is, made)) (inr (may, also)) = absurd (no
 one-made t (Some s) a b (inr (may, made)) (inl (f, known, it, also)) = absurd (not-both t s f known it may)
 one-made t (Some s) a b (inr (may, made)) (inr (too, also)) = made ∙ sym also
 
-pub one-request : (schema : Declarations) (t : Tenant) (q : Request) (a b : StatementRequest) → IsGuarded schema t q a
+one-request : (schema : Declarations) (t : Tenant) (q : Request) (a b : StatementRequest) → IsGuarded schema t q a
     → IsGuarded schema t q b → a ≡ b
 one-request schema t q a b first second =
     let dialects = first.dialect ∙ sym second.dialect in

@@ -1,31 +1,30 @@
 -- Lines after lines.
 use Rattle.std.proofs.Common.{◌≡◌, ◌∙◌, ◌<◌, ◌≤◌, ℕ, Bool, true, false, cond, List, [], ◌∷◌, ◌++◌, length, Option, None, Some, Result, Ok, Err, refl, ap, sym, subst, append_assoc, append-nil, arith}
-use Rattle.std.specs.Prelude.{nat_lt, nat_eq, take_while, option_map}
+use Rattle.std.specs.Prelude.{nat_lt, nat_eq, option_map}
 use Rattle.std.proofs.lemmas.Bool.Decides.{nat_tests}
 use Rattle.std.proofs.lemmas.List.{append_cancel_left, take_all}
 use Rattle.std.proofs.lemmas.List.Folds.{length-prefix_len}
 use Rattle.std.specs.List.{prefix_len}
 use Rattle.serde_json.specs.Data.{Data}
 use Rattle.sql_schema.specs.Declarations.{Declarations}
-use Rattle.sql_tool_build.specs.Output.{Line, StatementRequest, lines_text}
+use Rattle.sql_tool_build.specs.Output.{StatementRequest, lines_text}
 use Rattle.sql_tool_document.specs.Documents.{Request}
-use Rattle.sql_tool_guard.proofs.Once.{one-request}
+use Rattle.sql_tool_talk.proofs.Requests.{one-request}
 use Rattle.sql_tool_guard.specs.Tenants.{Tenant}
 use Rattle.sql_tool_ids.proofs.Few.{same-after}
 use Rattle.sql_tool_ids.specs.Memory.{AreLinesAfter, no_memory}
 use Rattle.sql_tool_ids.specs.declared.seen.TheConstants.{MAX_SHAPES}
 use Rattle.sql_tool_run.specs.Limits.{greatest_input}
 use Rattle.sql_tool_session.proofs.Answered.{answered_lines}
-use Rattle.sql_tool_session.specs.Session.{AreMade, Asked, Asking, HasAnswered, IsMade, asked_for, template_of}
+use Rattle.sql_tool_session.specs.Session.{AreMade, Asked, Asking, IsMade, asked_for}
 use Rattle.sql_tool_session.specs.Within.{HasTooDeep, before_too_deep, fits}
 use Rattle.sql_tool_session.specs.declared.responder.Responder.{Responder}
-use Rattle.sql_tool_session.specs.declared.session.Session.{Session}
 use Rattle.sql_tool_lines.proofs.Turns.{prompt-weaker}
 use Rattle.sql_tool_lines.specs.Conversation.{Conversed}
 use Rattle.sql_tool_lines.specs.Lines.{all_lines}
 use Rattle.sql_tool_lines.specs.Turns.{Event, read_in, written_in}
 use Rattle.sql_tool_lines.specs.declared.listener.Stop.{Stop}
-use Rattle.sql_tool_talk.specs.Talk.{AreAnswered, AreAnsweredBy, IsOutputSo, Opened, Talk, after, answer_text, asking_error, depth_error, error, error_in, followed_by, heard, opened_as, requests_of, session_after}
+use Rattle.sql_tool_talk.specs.Talk.{AreAnswered, AreAnsweredBy, IsOutputSo, Opened, Talk, after, answer_text, asking_error, depth_error, error, error_in, heard, opened_as, requests_of, session_after}
 use Rattle.sql_tool_talk.specs.declared.remark.Remark.{Remark}
 use Rattle.sql_tool_talk.specs.declared.remark.Remark.TheVariants.{BadDocument, TooDeep, TooLarge}
 use Rattle.sql_tool_talk.specs.inside.Talkers.{Knows, Told}

@@ -1,4 +1,3 @@
-use Rattle.std.proofs.Common.{◌≡◌, List, ℕ}
 use Rattle.sql_tool_session.proofs.Answered.{lines_one_id, lines_output}
 use Rattle.sql_tool_talk.proofs.Talks.{conversed-so, one-list, one-text, told-nothing}
 use Rattle.sql_tool_talk.proofs.conversation.talk.Goals as goal
