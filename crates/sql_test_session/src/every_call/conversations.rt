@@ -31,17 +31,17 @@ impl Listener for Echo {
 }
 
 pub(crate) fn every_call(alloc: Global) -> Result<(), Fail> {
-    let mut script = script(alloc, 0, 0)?;
-    let status = ending(talk(alloc, &mut script));
-    drop(script);
+    let mut first = script(alloc, 0, 0)?;
+    let status = ending(talk(alloc, &mut first));
+    drop(first);
     is(status == Status::Done, status.name())?;
     let mut echo = Echo {};
     let line = Listener::hear(&mut echo, alloc, b"line")?;
-    is(line.as_slice() == b"line", "a line")?;
+    is(line.as_slice() == b"line".as_slice(), "a line")?;
     let long = Listener::hear_long(&mut echo, alloc)?;
-    is(long.as_slice() == b"long", "a long line")?;
-    let mut script = script(alloc, 0, 0)?;
-    let status = ending(converse(alloc, &mut script, &mut echo));
-    drop(script);
+    is(long.as_slice() == b"long".as_slice(), "a long line")?;
+    let mut second = script(alloc, 0, 0)?;
+    let status = ending(converse(alloc, &mut second, &mut echo));
+    drop(second);
     is(status == Status::Done, status.name())
 }
