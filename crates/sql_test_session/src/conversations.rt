@@ -67,7 +67,7 @@ impl Peer for Script {
 }
 
 /// The filter's document, as a line, and a line that is none.
-pub(crate) fn script(
+pub(crate) fn two_lines(
     alloc: Global,
     failing_read: usize,
     failing_write: usize,
@@ -98,7 +98,7 @@ fn has_written(script: &Script, more: &str) -> Result<(), Fail> {
 #[test]
 fn a_byte_at_a_time(rt: HostRuntime) -> Result<(), Fail> {
     let alloc = rt.alloc();
-    let mut script = script(alloc, 0, 0)?;
+    let mut script = two_lines(alloc, 0, 0)?;
     is(talk(alloc, &mut script) == Ok(()), "not done")?;
     has_written(&script, "\n{\"error\":\"BadDocument\"}\n\n")
 }
@@ -106,7 +106,7 @@ fn a_byte_at_a_time(rt: HostRuntime) -> Result<(), Fail> {
 #[test]
 fn a_read_fails(rt: HostRuntime) -> Result<(), Fail> {
     let alloc = rt.alloc();
-    let mut script = script(alloc, FILTER.len() + 2, 0)?;
+    let mut script = two_lines(alloc, FILTER.len() + 2, 0)?;
     is(
         talk(alloc, &mut script) == Err(Stop::ReadFault),
         "no fault of a read",
@@ -117,7 +117,7 @@ fn a_read_fails(rt: HostRuntime) -> Result<(), Fail> {
 #[test]
 fn a_write_fails(rt: HostRuntime) -> Result<(), Fail> {
     let alloc = rt.alloc();
-    let mut script = script(alloc, 0, FILTERED.len() + 5)?;
+    let mut script = two_lines(alloc, 0, FILTERED.len() + 5)?;
     is(
         talk(alloc, &mut script) == Err(Stop::WriteFault),
         "no fault of a write",

@@ -2,7 +2,7 @@
 
 ghost use Rattle.std.specs.Prelude.{ℕ, List};
 
-use crate::conversations::script;
+use crate::conversations::two_lines;
 use sql_test_kit::is;
 use sql_tool_lines::{Listener, converse};
 use sql_tool_session::Status;
@@ -31,7 +31,7 @@ impl Listener for Echo {
 }
 
 pub(crate) fn every_call(alloc: Global) -> Result<(), Fail> {
-    let mut first = script(alloc, 0, 0)?;
+    let mut first = two_lines(alloc, 0, 0)?;
     let status = ending(talk(alloc, &mut first));
     drop(first);
     is(status == Status::Done, status.name())?;
@@ -40,7 +40,7 @@ pub(crate) fn every_call(alloc: Global) -> Result<(), Fail> {
     is(line.as_slice() == b"line".as_slice(), "a line")?;
     let long = Listener::hear_long(&mut echo, alloc)?;
     is(long.as_slice() == b"long".as_slice(), "a long line")?;
-    let mut second = script(alloc, 0, 0)?;
+    let mut second = two_lines(alloc, 0, 0)?;
     let status = ending(converse(alloc, &mut second, &mut echo));
     drop(second);
     is(status == Status::Done, status.name())
