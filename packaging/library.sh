@@ -1,7 +1,7 @@
 #!/bin/sh
 # Makes the library of the packages, libhardieflax, static and shared, in a folder: library.sh VERSION FOLDER ARCHIVE..
 # The archives are that of crates/hardieflax_c and the kit's liblibc_c.a, by which it allocates (docs/EMBEDDING.md). Beside what these have,
-# the library has its version. The shared one exports the calls of the header and nothing else. One set of archives gives the same bytes.
+# the library has its version, the toolchain that proved it, and the names of its statuses. The shared one exports the calls of the header and nothing else. One set of archives gives the same bytes.
 set -e
 [ $# -ge 3 ] || {
     echo 'usage: library.sh VERSION FOLDER ARCHIVE..' >&2
@@ -30,7 +30,9 @@ abi_of() {
 }
 abi=$(abi_of "$version")
 
-"$c" -O2 -fPIC -I"$top/examples/c" -DHARDIEFLAX_VERSION="\"$version\"" -c -o "$members/version.o" "$top/packaging/version.c"
+# shellcheck disable=SC2016 # the toolchain's line, as README.md has it
+kit=$(sed -n 's/.*`\(rattle-kit-[^`]*\)`.*/\1/p' "$top/README.md" | head -n 1)
+"$c" -O2 -fPIC -I"$top/examples/c" -DHARDIEFLAX_VERSION="\"$version\"" -DHARDIEFLAX_KIT="\"$kit\"" -c -o "$members/version.o" "$top/packaging/version.c"
 number=0
 for archive in "$@"; do
     number=$((number + 1))
@@ -51,7 +53,7 @@ rm -f "$folder/libhardieflax.a"
 ar rcsD "$folder/libhardieflax.a" "$members"/*
 
 # The calls, as the header declares them.
-calls=$(sed -n 's/^[a-z].*[ *]\(hardieflax_[a-z]*\)(.*;$/\1/p' "$header" | sort)
+calls=$(sed -n 's/^[a-z].*[ *]\(hardieflax_[a-z_]*\)(.*;$/\1/p' "$header" | sort)
 {
     echo '{ global:'
     # shellcheck disable=SC2086 # a word for each call

@@ -144,6 +144,9 @@ if [ -n "$c" ]; then
         check 'C, the lines before a deeper request' stops "$work/around.jsonl" 6 small "$work/main" build "$work/around.json"
         check 'C, a session, the same' stops "$work/around.jsonl" 6 small "$work/main" session "$work/around.json"
     fi
+    printf '%s' "$again" >"$work/again"
+    check 'C, a program with threads compiles' "$c" "$@" -D_POSIX_C_SOURCE=199506L -pthread -I"$top/examples/c" -o "$work/threads" "$top/tests/wrappers/threads.c" \
+        "$made/libhardieflax.a" && check 'C, eight threads with a session each' "$work/threads" "$top/examples/filter.json" "$work/again"
     # So a handle may pass from thread to thread.
     check 'the library keeps nothing by thread' is_without_thread_storage
 else

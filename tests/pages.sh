@@ -71,7 +71,7 @@ for page in PAGES:
 
 for page in PAGES:
     for block in fences(page, "sh"):
-        for command, shown in re.findall(r"^\$ (.*)\n((?:[^$].*\n)*)", block, re.M):
+        for command, shown in re.findall(r"^\$ (.*)\n((?:(?!\$).*\n)*)", block, re.M):
             run = subprocess.run(["sh", "-c", command], cwd=top, capture_output=True, text=True, stdin=subprocess.DEVNULL)
             expect(page, f"{command} prints {run.stdout!r}", run.stdout == shown)
 line = subprocess.run([top / "sql_tool", "--no-build", "build"], input=(top / "examples/filter.json").read_bytes(), capture_output=True).stdout.decode()

@@ -61,6 +61,9 @@ if check 'the C example compiles' compile -o "$work/main" "$top/examples/c/main.
     check 'C, a word that it does not know' ends 2 "$work/main" biuld "$work/first"
     check 'C, a status' ends 3 "$work/main" build "$work/bad"
 fi
+printf 'second' >"$work/second"
+check 'C, a program with threads compiles' compile -pthread -o "$work/threads" "$top/tests/wrappers/threads.c" "$work/stand_in.o" &&
+    check 'C, eight threads with a handle each' "$work/threads" "$work/first" "$work/second"
 if command -v c++ >/dev/null; then
     cat >"$work/main.cc" <<'TXT'
 #include "hardieflax.h"

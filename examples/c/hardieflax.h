@@ -92,7 +92,8 @@ uint32_t hardieflax_open(hardieflax *handle, const uint8_t *document, size_t len
 /*
  * Answers more requests over the session's schema: a document that declares no table, as {"schema":{"tables":[]},"requests":[..]}. The
  * lines are those that the output of one document would have which has the requests of all the session's calls, in order: an id is the
- * number, from 1, of the session's first accepted request of the same dialect and shape. In a session with policies the document's member
+ * number, from 1, of the session's first accepted request of the same dialect and shape. Once 16384 shapes have an id all are forgotten: a
+ * shape that comes again then has a new id, and no id is ever given to another shape. In a session with policies the document's member
  * "values" has the values for their places, so that one session serves all tenants with one text for each shape. Input that is no such
  * document, or lacks a value, leaves the session as it was.
  *
@@ -107,6 +108,12 @@ void hardieflax_free(hardieflax *handle);
 
 /* The version of the library, as "0.1.0": a text that stays. CONTRIBUTING.md says what may change from one version to another. */
 const char *hardieflax_version(void);
+
+/* The toolchain that the library is proved with, as README.md names it: a text that stays. */
+const char *hardieflax_kit(void);
+
+/* The name of a status, as "BadDocument": a text that stays. It is "Unknown" for a number that no call returns. */
+const char *hardieflax_status_name(uint32_t status);
 
 #ifdef __cplusplus
 }

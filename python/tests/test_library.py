@@ -9,20 +9,23 @@ import copy
 import ctypes
 import ctypes.util
 import gc
+import json
 import os
 import pathlib
 import pickle
 import shutil
 import subprocess
+import sys
 import tempfile
 import threading
 import unittest
-from typing import Any
+from typing import Any, List
 
 import support
 from support import Users
 from hardieflax import EngineError, EngineMissing, Library, Program, Refused, Schema, Session, default_engine, query
 from hardieflax import engines
+from hardieflax.engines import Conversation, KeepsSession
 
 FOLDER = tempfile.TemporaryDirectory(prefix="hardieflax-")
 atexit.register(FOLDER.cleanup)
@@ -169,6 +172,86 @@ class Sessions(unittest.TestCase):
         self.assertEqual([user.id for user in guarded.all(query(Users))], [2])
 
 
+class Conversations(unittest.TestCase):
+    """The program that stays."""
+
+    SCHEMA = {"tables": [{"name": "t", "columns": [{"name": "id", "type": "Integer"}]}]}
+    BODY = '"requests":[{"dialect":"Pg","query":{"from":{"table":"t"}}}]'
+
+    def setUp(self) -> None:
+        self.engine = Conversation(support.needed_program())
+        self.addCleanup(self.engine.close)
+        self.asked = 0
+
+    def schema(self) -> Any:
+        self.asked += 1
+        return self.SCHEMA
+
+    def next(self, owner: object = "one", body: str = BODY) -> bytes:
+        return self.engine.next(owner, self.schema, body)
+
+    def test_one_process_answers_an_owner(self) -> None:
+        self.assertIsInstance(self.engine, KeepsSession)
+        self.assertEqual(self.next(), self.next())
+        self.assertEqual(self.asked, 1)
+        self.next("two")
+        self.next()
+        self.assertEqual(self.asked, 3)
+
+    def test_it_answers_as_build_does(self) -> None:
+        document = f'{{"schema":{json.dumps(self.SCHEMA)},{self.BODY}}}'
+        self.assertEqual(self.next(), Program(support.needed_program()).run(["build"], document.encode()))
+        self.assertEqual(self.next(body=self.BODY.replace(",", "\n,\n")), self.next())
+
+    def test_what_it_refuses_ends_nothing(self) -> None:
+        self.next()
+        for body, status in (('"requests":[1]', 3), (f'"requests":[],"more":"{"x" * 16777216}"', 7)):
+            with self.assertRaises(EngineError) as raised:
+                self.next(body=body)
+            self.assertEqual((raised.exception.status, raised.exception.answered), (status, b""))
+        self.next()
+        self.assertEqual(self.asked, 1)
+
+    def test_after_the_process_is_killed_another_is_started(self) -> None:
+        self.next()
+        process = self.engine._process
+        assert process is not None
+        process.kill()
+        process.wait()
+        with self.assertRaises(EngineError):
+            self.next()
+        self.assertTrue(self.next())
+        self.assertEqual(self.asked, 2)
+
+    def test_close(self) -> None:
+        self.next()
+        process = self.engine._process
+        assert process is not None
+        self.engine.close()
+        self.assertEqual(process.returncode, 0)
+        self.assertTrue(self.next())
+
+    def test_it_is_pickled_by_its_words(self) -> None:
+        self.next()
+        other = pickle.loads(pickle.dumps(self.engine))
+        self.addCleanup(other.close)
+        self.assertEqual(other.next("one", self.schema, self.BODY), self.next())
+
+    def test_threads_wait_in_turn(self) -> None:
+        told: List[bytes] = []
+        threads = [threading.Thread(target=lambda: told.extend(self.next() for _ in range(50))) for _ in range(8)]
+        for thread in threads:
+            thread.start()
+        for thread in threads:
+            thread.join()
+        self.assertEqual(set(told), {self.next()})
+        self.assertEqual(len(told), 400)
+
+    def test_a_program_without_the_command(self) -> None:
+        with self.assertRaisesRegex(EngineMissing, "no command session"):
+            Conversation(sys.executable, "-c", "raise SystemExit(2)")
+
+
 class Finding(unittest.TestCase):
     def setUp(self) -> None:
         self.before = dict(os.environ)
@@ -202,7 +285,7 @@ class Finding(unittest.TestCase):
 
     def test_commands(self) -> None:
         program = Program(support.needed_program())
-        self.assertEqual([program.has(each) for each in ("build", "guard", "biuld", "open")], [True, True, False, False])
+        self.assertEqual([program.has(each) for each in ("build", "guard", "session", "biuld", "open")], [True, True, True, False, False])
 
 
 if __name__ == "__main__":

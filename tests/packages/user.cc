@@ -13,5 +13,8 @@ int main() {
     std::cout.write(reinterpret_cast<const char *>(handle.bytes), static_cast<std::streamsize>(handle.length));
     std::cerr << hardieflax_version() << '\n';
     hardieflax_free(&handle);
+    if (std::string{hardieflax_kit()}.rfind("rattle-kit-", 0) != 0) return 100;
+    if (std::string{hardieflax_status_name(HARDIEFLAX_BAD_DOCUMENT)} != "BadDocument") return 101;
+    if (std::string{hardieflax_status_name(4)} != "Unknown") return 102;
     return static_cast<int>(status);
 }

@@ -136,6 +136,10 @@ uint32_t hardieflax_next(hardieflax *handle, const uint8_t *document, size_t len
 
 const char *hardieflax_version(void) { return "stand-in"; }
 
+const char *hardieflax_kit(void) { return "stand-in"; }
+
+const char *hardieflax_status_name(uint32_t status) { return status == HARDIEFLAX_DONE ? "Done" : "Unknown"; }
+
 void hardieflax_free(hardieflax *handle) {
     struct owned *owned;
     if (handle->owned == NULL)

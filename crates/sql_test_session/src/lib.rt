@@ -4,6 +4,8 @@
 #[cfg(test)]
 mod answers;
 #[cfg(test)]
+mod conversations;
+#[cfg(test)]
 mod deep;
 #[cfg(test)]
 mod every_call;

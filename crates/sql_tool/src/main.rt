@@ -2,11 +2,12 @@
 //! sums up N requests of its own; `read D` reads a text in the dialect D and writes a line with the text of its tree; `audit D` reads a schema
 //! and texts and writes a line for each text, with the tables and columns that it uses; `guard` reads a document with a tenant and writes a
 //! line for each of its requests, restricted to the tenant's rows; `tenant` reads one with policies and writes a line for each of its
-//! requests, guarded by them.
+//! requests, guarded by them; `session` reads documents, one on each line, and answers each before it reads the next.
 #![tactic(auto)]
 
 use sql_tool_run::{Status, run};
 use sql_tool_stream::{StdSink, StdSource};
+use sql_tool_talk::{Streams, ending, is_session, talk};
 use std::env;
 use std::io::ErrorKind;
 use std::process::ExitCode;
@@ -30,6 +31,10 @@ fn run_over_standard_streams(rt: &HostRuntime) -> Status {
         return Status::NoMemory;
     };
     let words: Vec<String> = words;
+    if is_session(&words) {
+        let mut streams = Streams::new(StdSource::new(rt), StdSink::new(rt));
+        return ending(talk(rt.alloc(), &mut streams));
+    }
     run(
         rt.alloc(),
         &words,

@@ -1,18 +1,22 @@
 -- A session that has answered one more request, and what its text is.
-use Rattle.std.proofs.Common.{◌≡◌, ◌∙◌, ℕ, ◌+◌, suc, List, [], ◌∷◌, ◌++◌, map, length, Option, None, Some, ap, refl, subst, sym, append_assoc, arith}
+use Rattle.std.proofs.Common.{◌≡◌, ◌∙◌, ◌≤◌, ◌<◌, ℕ, ◌+◌, suc, List, [], ◌∷◌, ◌++◌, map, length, Option, None, Some, ap, refl, subst, sym, append_assoc, arith}
 use Rattle.std.proofs.lemmas.List.{map-append}
-use Rattle.std.specs.BTreeMap.{BTreeMap, IsEmpty, is_at}
-use Rattle.std.specs.Map.{lookup}
+use Rattle.std.specs.BTreeMap.{BTreeMap, IsEmpty, btree_map_len}
 use Rattle.sql_schema.specs.Declarations.{Declarations}
 use Rattle.sql_tool_document.specs.Documents.{Document, Request}
-use Rattle.sql_tool_build.proofs.Lines.{written-more}
 use Rattle.sql_tool_build.specs.Output.{IsOutput, AreLines, Line, StatementRequest, line_text, lines_text, statement_request}
-use Rattle.sql_tool_build.specs.inside.Keys.{AreWritten, HasLine, seen_at}
+use Rattle.sql_tool_build.specs.Shared.{OneIdServes}
+use Rattle.sql_tool_build.specs.inside.Keys.{HasLine, seen_at}
 use Rattle.sql_tool_guard.specs.Output.{AreGuarded, IsGuardedOutput}
 use Rattle.sql_tool_guard.specs.Tenants.{Tenant}
 use Rattle.sql_rows.specs.declared.cache.RequestKey.{RequestKey}
-use Rattle.sql_rows.specs.contracts.cache.NamedRequestOrd.TheImpl as key_ord
-use Rattle.sql_tool_session.specs.Session.{Asked, AreMade, HasAnswered, IsMade, asked_for}
+use Rattle.sql_tool_ids.proofs.Few.{few-lines}
+use Rattle.sql_tool_ids.proofs.Placed.{one-id}
+use Rattle.sql_tool_ids.proofs.Remembering.{written-more, written-none}
+use Rattle.sql_tool_ids.specs.Memory.{own_ids}
+use Rattle.sql_tool_ids.specs.declared.seen.TheConstants.{MAX_SHAPES}
+use Rattle.sql_tool_ids.specs.inside.Remembering.{AreWrittenAfter, IsSorted}
+use Rattle.sql_tool_session.specs.Session.{Asked, AreLinesOf, AreMade, HasAnswered, IsMade, asked_for}
 use Rattle.sql_tool_session.specs.declared.session.Session.{Session}
 
 made-more : (schema : Declarations) (asked : List Asked) (rs : List StatementRequest) (a : Asked) (r : StatementRequest)
@@ -29,26 +33,32 @@ made-length schema [] (r ∷ rs) all = absurd all
 made-length schema (a ∷ more) [] all = absurd all
 made-length schema (a ∷ more) (r ∷ rs) all = ap suc (made-length schema more rs all.1)
 
--- an empty map has the lines of no requests
-pub nothing_written : (schema : Declarations) (m : BTreeMap RequestKey ℕ) → IsEmpty m → AreWritten schema (seen_at m) [] []
-nothing_written schema m empty =
-    ([], tt, λ q. ap (lookup (is_at ((key_ord.ghosts).cmp q))) empty, refl)
+-- no lines
+pub first_written : (schema : Declarations) (seen : BTreeMap RequestKey ℕ) → IsEmpty seen → IsSorted seen
+    → (rs : List StatementRequest) × AreMade schema [] rs × AreWrittenAfter MAX_SHAPES schema seen rs []
+first_written schema seen none sorted = ([], tt, written-none MAX_SHAPES schema seen none sorted)
 
 -- the lines so far, and one more
-pub written_next : (schema here : Declarations) (asked : List Asked) (f g : RequestKey → Option ℕ) (a : Asked) (n : ℕ)
+pub written_next : (schema here : Declarations) (asked : List Asked) (old new after : BTreeMap RequestKey ℕ) (a : Asked) (n : ℕ)
     (text line : List ℕ)
     → n ≡ 1 + length asked → here ≡ schema
-    → ((r : StatementRequest) × IsMade here a.tenant a.request r × HasLine here r n f g (λ l. line ≡ line_text l))
-    → ((rs : List StatementRequest) × AreMade schema asked rs × AreWritten schema f rs text)
-    → (rs : List StatementRequest) × AreMade schema (asked ++ a ∷ []) rs × AreWritten schema g rs (text ++ line)
-written_next schema here asked f g a n text line number same told (rs, made, written) =
+    → ((r : StatementRequest) × IsMade here a.tenant a.request r
+    × HasLine here r n (seen_at old) (seen_at new) (λ l. line ≡ line_text l))
+    → IsSorted new → (MAX_SHAPES ≤ btree_map_len new → IsEmpty after) → (btree_map_len new < MAX_SHAPES → after ≡ new)
+    → IsSorted after
+    → ((rs : List StatementRequest) × AreMade schema asked rs × AreWrittenAfter MAX_SHAPES schema old rs text)
+    → (rs : List StatementRequest) × AreMade schema (asked ++ a ∷ []) rs × AreWrittenAfter MAX_SHAPES schema after rs (text ++ line)
+written_next schema here asked old new after a n text line number same told sorted full stays ordered (rs, made, written) =
     let (r, is, has) =
     subst
     (λ (w : Declarations). (r : StatementRequest) × IsMade w a.tenant a.request r
-    × HasLine w r n f g (λ l. line ≡ line_text l))
+    × HasLine w r n (seen_at old) (seen_at new) (λ l. line ≡ line_text l))
     same told in
-    let counted : n ≡ 1 + length rs = omega (arith, number, made-length schema asked rs made) in
-    (rs ++ r ∷ [], made-more schema asked rs a r made is, written-more schema f g rs n text line r counted written has)
+    let counted : n ≡ 1 + length rs = omega (arith, number, made-length schema asked rs made) in (
+      rs ++ r ∷ [],
+      made-more schema asked rs a r made is,
+      written-more MAX_SHAPES schema old new after rs n text line r counted written has sorted full stays ordered,
+    )
 
 -- requests after requests
 pub asked_more : (t : Option Tenant) (asked : List Asked) (some more : List Request)
@@ -73,14 +83,24 @@ guarded_made schema t [] (r ∷ rs) all = absurd all
 guarded_made schema t (q ∷ qs) [] all = absurd all
 guarded_made schema t (q ∷ qs) (r ∷ rs) all = (all.0, guarded_made schema t qs rs all.1)
 
-pub answered_output : (d : Document) (text : List ℕ) (s : Session)
-    → HasAnswered d.schema (asked_for None d.requests) text s → IsOutput d text
-answered_output d text s has =
-    let (rs, made, (ls, lines, tells, is)) = has.written in
-    (ls, subst (λ x. AreLines d.schema [] x ls) (plain_made d.schema d.requests rs made) lines, is)
+pub answered_lines : (schema : Declarations) (asked : List Asked) (text : List ℕ) (s : Session)
+    → HasAnswered schema asked text s → (ls : List Line) × AreLinesOf schema asked ls × (text ≡ lines_text ls)
+answered_lines schema asked text s has =
+    let (rs, made, (ls, lines, keeps, is)) = has.written in (ls, (rs, made, lines), is)
 
-pub answered_guarded : (d : Document) (t : Tenant) (text : List ℕ) (s : Session)
-    → HasAnswered d.schema (asked_for (Some t) d.requests) text s → IsGuardedOutput d t text
-answered_guarded d t text s has =
-    let (rs, made, (ls, lines, tells, is)) = has.written in
-    (rs, guarded_made d.schema t d.requests rs made, (ls, lines, is))
+pub lines_one_id : (schema : Declarations) (asked : List Asked) (ls : List Line) → AreLinesOf schema asked ls → OneIdServes ls
+lines_one_id schema asked ls (rs, made, lines) = one-id MAX_SHAPES schema rs ls lines
+
+pub lines_output : (d : Document) (ls : List Line) → AreLinesOf d.schema (asked_for None d.requests) ls
+    → own_ids 1 ls < MAX_SHAPES → IsOutput d (lines_text ls)
+lines_output d ls (rs, made, lines) few = (
+  ls,
+  subst (λ x. AreLines d.schema [] x ls) (plain_made d.schema d.requests rs made)
+      (few-lines MAX_SHAPES d.schema rs ls few lines),
+  refl,
+)
+
+pub lines_guarded : (d : Document) (t : Tenant) (ls : List Line) → AreLinesOf d.schema (asked_for (Some t) d.requests) ls
+    → own_ids 1 ls < MAX_SHAPES → IsGuardedOutput d t (lines_text ls)
+lines_guarded d t ls (rs, made, lines) few =
+    (rs, guarded_made d.schema t d.requests rs made, (ls, few-lines MAX_SHAPES d.schema rs ls few lines, refl))

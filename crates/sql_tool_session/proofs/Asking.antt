@@ -1,5 +1,5 @@
 -- Who asks, in sessions with policies and without.
-use Rattle.std.proofs.Common.{◌≡◌, ◌∙◌, ◌⊎◌, ◌<◌, ◌≤◌, ℕ, List, length, codes, Option, None, Some, option_map, ap, refl, subst, sym, inl, inr}
+use Rattle.std.proofs.Common.{◌≡◌, ◌∙◌, ◌⊎◌, ◌<◌, ◌≤◌, ℕ, List, length, codes, Option, None, Some, option_map, ap, refl, sym, inl, inr}
 use Rattle.std.specs.Prelude.{nat_lt, if◌then◌else◌}
 use Rattle.std.proofs.lemmas.Bool.{le-ltb}
 use Rattle.serde_json.specs.Data.{Data}

@@ -1,4 +1,4 @@
-mod Answered
+pub mod Answered
 mod Asking
 mod Calls
 mod TooDeep

@@ -8,10 +8,12 @@ use Rattle.sql_tool_document.specs.Policies.{NamedPolicy}
 use Rattle.sql_tool_document.specs.Scalar.{◌>>=◌}
 use Rattle.sql_tool_document.specs.Sessions.{Call, call_in, opening}
 use Rattle.sql_tool_document.specs.Trees.{template_tree}
-use Rattle.sql_tool_build.specs.Output.{StatementRequest, statement_request}
-use Rattle.sql_tool_build.specs.inside.Keys.{AreWritten, seen_at}
+use Rattle.sql_tool_build.specs.Output.{Line, StatementRequest, statement_request}
 use Rattle.sql_tool_guard.specs.Output.{IsGuarded}
 use Rattle.sql_tool_guard.specs.Tenants.{Tenant, by_policies, policies_named}
+use Rattle.sql_tool_ids.specs.Memory.{AreLinesAfter, no_memory}
+use Rattle.sql_tool_ids.specs.inside.Remembering.{AreWrittenAfter}
+use Rattle.sql_tool_ids.specs.declared.seen.TheConstants.{MAX_SHAPES}
 use Rattle.sql_tool_run.specs.Limits.{greatest_input}
 use Rattle.sql_tool_run.specs.Run.{status_from, status_of}
 use Rattle.sql_tool_run.specs.declared.command.Command.TheVariants.{Build}
@@ -106,10 +108,15 @@ AreMade schema [] (r ∷ rs) = ⊥
 AreMade schema (a ∷ more) [] = ⊥
 AreMade schema (a ∷ more) (r ∷ rs) = IsMade schema a.tenant a.request r × AreMade schema more rs
 
--- Over the schema the session has answered these requests, by this text, and knows how many they are. The text is the lines of what is
--- made of them, with ids counted over all (`answers_are_outputs`); `AreWritten` also says that the session
--- finds their ids.
+-- The lines of what is made of these requests. An id is the number of a request over all of them, of the first that has the shape since all shapes
+-- were forgotten, which they are once `MAX_SHAPES` have an id.
+abbrev pub AreLinesOf : Declarations → List Asked → List Line → Type 0
+AreLinesOf schema asked ls =
+    (rs : List StatementRequest) × AreMade schema asked rs × AreLinesAfter MAX_SHAPES schema no_memory rs ls
+
+-- Over the schema the session has answered these requests, by this text, and knows how many they are. The text is their lines
+-- (`answers_are_outputs`); `AreWrittenAfter` also says that the session finds their ids.
 pub record HasAnswered (declared : Declarations) (asked : List Asked) (text : List ℕ) (s : Session) : Type 0 where
   pub schema : s.cache.schema ≡ declared
   pub count : s.count ≡ length asked
-  pub written : (rs : List StatementRequest) × AreMade declared asked rs × AreWritten declared (seen_at s.seen) rs text
+  pub written : (rs : List StatementRequest) × AreMade declared asked rs × AreWrittenAfter MAX_SHAPES declared s.seen rs text

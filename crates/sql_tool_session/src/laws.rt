@@ -1,11 +1,15 @@
 //! What is said of sessions by their definitions alone.
 
-ghost use Rattle.std.specs.Prelude.{List, ℕ, None, Some};
-ghost use Rattle.sql_tool_build.specs.Output.{IsOutput};
+ghost use Rattle.std.specs.Prelude.{◌≡◌, ◌<◌, List, ℕ, None, Some};
+ghost use Rattle.sql_schema.specs.Declarations.{Declarations};
+ghost use Rattle.sql_tool_build.specs.Output.{IsOutput, Line, lines_text};
+ghost use Rattle.sql_tool_build.specs.Shared.{OneIdServes};
 ghost use Rattle.sql_tool_document.specs.Documents.{Document};
 ghost use Rattle.sql_tool_guard.specs.Output.{IsGuardedOutput};
 ghost use Rattle.sql_tool_guard.specs.Tenants.{Tenant};
-ghost use Rattle.sql_tool_session.specs.Session.{HasAnswered, IsGuardedCall, IsGuardedOpening, IsPlainCall, IsPlainOpening, asked_for};
+ghost use Rattle.sql_tool_ids.specs.Memory.{own_ids};
+ghost use Rattle.sql_tool_ids.specs.declared.seen.TheConstants.{MAX_SHAPES};
+ghost use Rattle.sql_tool_session.specs.Session.{AreLinesOf, Asked, HasAnswered, IsGuardedCall, IsGuardedOpening, IsPlainCall, IsPlainOpening, asked_for};
 ghost use Rattle.sql_tool_session.specs.declared.session.Session.{Session};
 
 /// Without policies a session is opened as `build` reads the bytes, and so it reads what follows.
@@ -20,12 +24,19 @@ pub fn sessions_with_policies_have_tenants()
     ensures call { (session : Session) (bytes : List ℕ) → IsGuardedCall session bytes }
 {}
 
-/// What a session has answered for nobody in particular is the output of `build` for one document with all requests, and what it has
-/// answered for one tenant that of `tenant`.
+/// The text that a session has answered is the lines of its requests, and of two lines of one id, what was prepared for the one serves for the
+/// other. While fewer than `MAX_SHAPES` ids were given, what it has answered for nobody in particular is the output of `build` for one
+/// document with all requests, and what it has answered for one tenant that of `tenant`.
 pub fn answers_are_outputs()
-    ensures output { (d : Document) (text : List ℕ) (session : Session)
-        → HasAnswered d.schema (asked_for None d.requests) text session → IsOutput d text }
-    ensures guarded { (d : Document) (t : Tenant) (text : List ℕ) (session : Session)
-        → HasAnswered d.schema (asked_for (Some t) d.requests) text session
-        → IsGuardedOutput d t text }
+    ensures lines { (schema : Declarations) (asked : List Asked) (text : List ℕ)
+        (session : Session) → HasAnswered schema asked text session
+        → (ls : List Line) × AreLinesOf schema asked ls × (text ≡ lines_text ls) }
+    ensures one_id { (schema : Declarations) (asked : List Asked) (ls : List Line)
+        → AreLinesOf schema asked ls → OneIdServes ls }
+    ensures output { (d : Document) (ls : List Line)
+        → AreLinesOf d.schema (asked_for None d.requests) ls → own_ids 1 ls < MAX_SHAPES
+        → IsOutput d (lines_text ls) }
+    ensures guarded { (d : Document) (t : Tenant) (ls : List Line)
+        → AreLinesOf d.schema (asked_for (Some t) d.requests) ls → own_ids 1 ls < MAX_SHAPES
+        → IsGuardedOutput d t (lines_text ls) }
 {}

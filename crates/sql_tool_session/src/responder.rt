@@ -1,4 +1,4 @@
-ghost use Rattle.std.specs.Prelude.{◌≡◌, ◌⊎◌, ◌↔◌, ◌++◌, ◌<◌, List, ℕ, [], Some, None, length, map, option_map, true};
+ghost use Rattle.std.specs.Prelude.{◌≡◌, ◌⊎◌, ◌↔◌, ◌++◌, ◌<◌, IsSome, IsTrue, List, ℕ, [], Some, None, length, map, option_map, true};
 ghost use Rattle.sql_tool_run.specs.Command.{IsOutputOf, IsOutputPrefixOf, reads_source};
 ghost use Rattle.sql_tool_run.specs.Limits.{greatest_input};
 ghost use Rattle.sql_tool_run.specs.Run.{status_of};
@@ -40,6 +40,13 @@ impl Responder {
         ensures { result.now ≡ self.now.answer }
     {
         &self.answer
+    }
+
+    /// Returns whether there is a session: after a call that ended with NoMemory, whether a request nested too deep.
+    pub fn has_session(&self) -> bool
+        ensures { IsTrue result ↔ IsSome self.now.session }
+    {
+        self.session.is_some()
     }
 
     /// Carries out a command that reads its input, over these bytes. The session stays as it is.

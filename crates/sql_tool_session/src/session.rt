@@ -14,6 +14,7 @@ use sql_tool_document::{
     Call, Document, NamedPolicy, Opening, Refusal, Request, Template, read_call, read_opening,
 };
 use sql_tool_guard::{Tenant, guarded_line, policies_in};
+use sql_tool_ids::keep_within;
 use sql_tool_run::{LIMIT, Status};
 use std::alloc::{AllocError, Global};
 use std::collections::BTreeMap;
@@ -105,7 +106,7 @@ impl Session {
         })
     }
 
-    /// The line of one more request.
+    /// The line of one more request. Once as many shapes have an id as may, all are forgotten.
     fn line(
         &mut self,
         alloc: Global,
@@ -128,6 +129,7 @@ impl Session {
             request,
         )?;
         self.count = number;
+        keep_within(&mut self.seen);
         Ok(line)
     }
 
@@ -153,8 +155,8 @@ impl Session {
     }
 
     /// The lines of these requests, in order, for this tenant, as they are in the output of one document that has the requests of all
-    /// calls so far: each id is the number of the session's first request of that dialect and shape. Where memory runs out the session
-    /// is given up, since it may know of requests whose lines are lost.
+    /// calls so far: each id is the number of the session's first request of that dialect and shape, since all were forgotten. Where memory
+    /// runs out the session is given up, since it may know of requests whose lines are lost.
     pub(crate) fn answer(
         self,
         alloc: Global,

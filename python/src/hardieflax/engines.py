@@ -1,4 +1,4 @@
-"""What answers documents: the C library by ctypes, or else the program, run once for each batch.
+"""What answers documents: the C library by ctypes, or else the program, which stays for sessions and is run once for any other batch.
 
 Both answer the same bytes. `default_engine()` finds one, and says what to do where there is none.
 """
@@ -20,7 +20,7 @@ from .errors import EngineError, EngineMissing
 
 DIALECTS = ("Pg", "Mysql", "Sqlite", "Bracket")
 Path = Union[str, "os.PathLike[str]"]
-USAGE, BAD_DOCUMENT, NO_MEMORY, TOO_LARGE = 2, 3, 6, 7
+USAGE, BAD_DOCUMENT, WRITE_FAULT, NO_MEMORY, TOO_LARGE = 2, 3, 5, 6, 7
 # The size of an input that the program refuses is beyond 16777216.
 MOST_BYTES = 16_000_000
 
@@ -42,7 +42,7 @@ class Engine(Protocol):
 
 @runtime_checkable
 class KeepsSession(Engine, Protocol):
-    """An engine that reads a schema once: the library, and in time a program that answers over a pipe."""
+    """An engine that reads a schema once: the library, or a program that stays and answers over a pipe."""
 
     def next(self, owner: object, schema: Callable[[], Any], body: str) -> bytes:
         """The lines of requests over the schema of an owner. The engine has one session: that of the owner who asked last."""
@@ -186,6 +186,107 @@ class Program:
         return run.stdout
 
 
+_ERRORS = {"BadDocument": BAD_DOCUMENT, "TooLarge": TOO_LARGE, "TooDeep": NO_MEMORY}
+
+
+class Conversation(Program):
+    """The program, of which one process stays and answers requests over a schema, by its command `session`; for the rest it is started
+    once for each call. Threads wait in turn. The process ends with this object, or by `close`; a forked child starts its own."""
+
+    def __init__(self, *words: Path) -> None:
+        """The words that start it. EngineMissing: there is no such program, or it has no command `session`."""
+        super().__init__(*words)
+        if not self.has("session"):
+            raise EngineMissing(f"{self.words[0]} has no command session\n{MISSING}")
+        self._lock = threading.Lock()
+        self._session_of: Any = None
+        self._process: Optional[subprocess.Popen[bytes]] = None
+        self._started_by = 0
+        self._at_end: Optional[weakref.finalize[[int, subprocess.Popen[bytes]], Any]] = None
+
+    def __enter__(self) -> Conversation:
+        return self
+
+    def __exit__(self, kind: Optional[Type[BaseException]], error: Optional[BaseException], trace: Optional[TracebackType]) -> None:
+        self.close()
+
+    def __reduce__(self) -> Tuple[Type[Conversation], Tuple[str, ...]]:
+        return (Conversation, self.words)
+
+    def close(self) -> None:
+        """Ends the process, where there is one. The next question starts another."""
+        with self._lock:
+            self._end()
+
+    def next(self, owner: object, schema: Callable[[], Any], body: str) -> bytes:
+        """The lines of requests over the schema of an owner. A process is started where there is none for it."""
+        with self._lock:
+            if self._session_of is not owner or self._started_by != os.getpid():
+                self._end()
+                self._start()
+                self._ask(f'{{"schema":{json.dumps(schema(), ensure_ascii=False)},"requests":[]}}')
+                self._session_of = owner
+            return self._ask(f'{{"schema":{{"tables":[]}},{body}}}')
+
+    def _start(self) -> None:
+        try:
+            self._process = subprocess.Popen([*self.words, "session"], stdin=subprocess.PIPE, stdout=subprocess.PIPE, stderr=subprocess.DEVNULL)
+        except OSError as error:
+            raise EngineMissing(f"{self.words[0]} did not start: {error}") from error
+        self._started_by = os.getpid()
+        self._at_end = weakref.finalize(self, _end_process, self._started_by, self._process)
+
+    def _end(self) -> None:
+        self._process = self._session_of = None
+        if self._at_end is not None:
+            self._at_end()
+
+    def _ask(self, document: str) -> bytes:
+        """The answer to a line. Where the process has ended, or its answer is cut off, the next question starts another."""
+        process = self._process
+        assert process is not None and process.stdin is not None and process.stdout is not None
+        answered: List[bytes] = []
+        try:
+            # A text of JSON has no newline that is not white space.
+            process.stdin.write(document.replace("\n", " ").encode() + b"\n")
+            process.stdin.flush()
+            for line in iter(process.stdout.readline, b"\n"):
+                if not line.endswith(b"\n"):
+                    raise BrokenPipeError("the program has ended")
+                answered.append(line)
+        except BaseException as error:
+            self._session_of = None
+            if not isinstance(error, OSError):
+                raise
+            process.kill()
+            status = process.wait()
+            raise EngineError(status if status > 0 else WRITE_FAULT, detail=f"the program has ended: {error}") from error
+        if answered and answered[-1].startswith(b'{"error":'):
+            word = json.loads(answered[-1])["error"]
+            raise EngineError(_ERRORS.get(word, BAD_DOCUMENT), b"".join(answered[:-1]), word)
+        return b"".join(answered)
+
+
+def _end_process(started_by: int, process: subprocess.Popen[bytes]) -> None:
+    """Ends a process that this one has started: its input ends, so it does. A forked child closes its own ends alone."""
+    for stream in (process.stdin, process.stdout):
+        if stream is not None:
+            try:
+                stream.close()
+            except OSError:
+                pass
+    if os.getpid() == started_by:
+        process.wait()
+
+
+def _program(*words: Path) -> Program:
+    """The program, which stays where it knows how."""
+    try:
+        return Conversation(*words)
+    except EngineMissing:
+        return Program(*words)
+
+
 def lines(answered: bytes) -> List[Any]:
     """The lines of an answer. A text may hold what Unicode calls the end of a line, so they are split at byte 10 alone."""
     return [json.loads(line) for line in answered.split(b"\n")[:-1]]
@@ -198,13 +299,13 @@ def found_engine() -> Engine:
     if named_library:
         return Library(named_library)
     if named_program:
-        return Program(named_program)
+        return _program(named_program)
     for library in (own / "libhardieflax.so", own / "libhardieflax.dylib"):
         if library.exists():
             return Library(library)
     for program in (str(own / "sql_tool"), "sql_tool"):
         if shutil.which(program):
-            return Program(program)
+            return _program(program)
     installed = ctypes.util.find_library("hardieflax")
     if installed:
         return Library(installed)

@@ -1,7 +1,5 @@
-use Rattle.std.proofs.Common.{◌≡◌, ◌∙◌, ◌++◌, List, Some, map, option_map, ap, refl, subst}
-use Rattle.sql_tool_document.specs.Documents.{Request as RequestTree}
+use Rattle.std.proofs.Common.{◌≡◌, ◌∙◌, ◌++◌, Some, map, option_map, ap, refl, subst}
 use Rattle.sql_tool_document.specs.Trees.{request_tree}
-use Rattle.sql_tool_document.specs.declared.document.Request.{Request}
 use Rattle.sql_tool_guard.specs.Trees.{tenant_tree}
 use Rattle.sql_tool_session.specs.Session.{HasAnswered, asked_for}
 use Rattle.sql_tool_session.specs.Within.{HasTooDeep, before_too_deep}

@@ -1,4 +1,4 @@
-use Rattle.std.proofs.Common.{◌≡◌, ◌∙◌, [], map, option_map, ap, subst, sym}
+use Rattle.std.proofs.Common.{◌∙◌, [], option_map, ap, subst, sym}
 use Rattle.sql_tool_document.specs.Trees.{template_tree}
 use Rattle.sql_tool_guard.specs.Trees.{tenant_tree}
 use Rattle.sql_tool_session.specs.Session.{HasAnswered, asked_for}

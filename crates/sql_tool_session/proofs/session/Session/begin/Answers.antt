@@ -1,4 +1,4 @@
-use Rattle.std.proofs.Common.{◌≡◌, ◌∙◌, option_and_then, option_map, ap, refl, sym}
+use Rattle.std.proofs.Common.{◌∙◌, option_and_then, option_map, ap, refl, sym}
 use Rattle.std.proofs.lemmas.Result.{err_from_is_err_and}
 use Rattle.sql_tool_document.specs.Sessions.{Opening}
 use Rattle.sql_tool_document.specs.Trees.{opening_tree, template_tree}

@@ -1,7 +1,6 @@
 use Rattle.std.proofs.Common.{◌≡◌, ◌∙◌, ◌+◌, ◌++◌, ◌∷◌, [], length, length-append, option_map, arith}
 use Rattle.std.specs.Prelude.{string_bytes}
 use Rattle.sql_tool_document.specs.Trees.{request_tree}
-use Rattle.sql_tool_build.specs.inside.Keys.{seen_at}
 use Rattle.sql_tool_guard.specs.Trees.{tenant_tree}
 use Rattle.sql_tool_session.proofs.Answered.{written_next}
 use Rattle.sql_tool_session.specs.Session.{asked_for}
@@ -19,7 +18,8 @@ returns-clause-line c = λ schema asked text has.
     record {
       schema = c.line_for.ensures.schema ∙ has.schema;
       count = omega (arith, next, grown);
-      written = written_next schema old.cache.schema asked (seen_at old.seen) (seen_at c.line_for.new.seen)
+      written = written_next schema old.cache.schema asked old.seen c.line_for.new.seen c.keep_within.new.seen
           (record { tenant = tenant; request = item }) number text (string_bytes c.in_ok-line.line) next has.schema
-          c.in_ok-line.ensures.line has.written;
+          c.in_ok-line.ensures.line c.keep_within.ensures.was_sorted c.keep_within.ensures.full c.keep_within.ensures.kept
+          c.keep_within.ensures.sorted has.written;
     }

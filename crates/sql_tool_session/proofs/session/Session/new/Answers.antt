@@ -1,6 +1,6 @@
-use Rattle.std.proofs.Common.{◌≡◌, [], ap, refl}
+use Rattle.std.proofs.Common.{ap, refl}
 use Rattle.sql_rows.specs.Entries.{Entries}
-use Rattle.sql_tool_session.proofs.Answered.{nothing_written}
+use Rattle.sql_tool_session.proofs.Answered.{first_written}
 use Rattle.sql_tool_session.proofs.session.Session.new.Goals as goal
 
 pub returns : goal.returns
@@ -8,7 +8,7 @@ returns c = (
   record {
     schema = ap (λ (e : Entries). e.schema) c.in_ok-new.ensures;
     count = refl;
-    written = ([], tt, nothing_written c.args.schema c.new-3.result c.new-3.ensures.empty);
+    written = first_written c.args.schema c.new-3.result c.new-3.ensures.empty c.new-3.ensures.ordered;
   },
   refl,
 )
