@@ -3,7 +3,7 @@
 
     packaging/site.py FOLDER
 
-The pages are README.md, docs/*.md, python/README.md, bench/README.md, CONTRIBUTING.md and CHANGELOG.md. A page's name in backticks becomes a link
+The pages are README.md, docs/*.md, those of python/, bench/README.md, CONTRIBUTING.md and CHANGELOG.md. A page's name in backticks becomes a link
 to it. Needs Python's `markdown` (Debian: python3-markdown). Ends with 1 and says so where that is missing or a link leads nowhere.
 """
 from __future__ import annotations
@@ -22,7 +22,7 @@ except ImportError:
 TOP = pathlib.Path(__file__).resolve().parent.parent
 GROUPS = (
     ("Users", ("README.md", "docs/DOCUMENT.md", "docs/USING.md", "docs/RULES.md", "docs/GUARD.md", "docs/TEXTS.md", "docs/EMBEDDING.md",
-               "python/README.md", "docs/SERVERS.md")),
+               "python/README.md", "python/LIMITS.md", "docs/SERVERS.md")),
     ("Believers", ("docs/TRUST.md", "docs/PROMISES.md", "docs/MEANING.md", "docs/GRAMMAR.md")),
     ("Builders", ("CONTRIBUTING.md", "docs/ARCHITECTURE.md", "docs/DECISIONS.md", "bench/README.md", "CHANGELOG.md")),
 )

@@ -220,6 +220,7 @@ if [ -n "$python" ]; then
         [ -e "$script" ] || script=$bin/hardieflax
         commands wheel "$script"
         check 'Python' builds "$bin/python" "$top/tests/packages/user.py"
+        check 'the pages of the package, as a newcomer types them' quiet env HARDIEFLAX_BIN="$bin" "$python" "$top/python/tests/test_readme.py"
         site=$("$bin/python" -c 'import hardieflax, os; print(os.path.dirname(hardieflax.__file__))')
         check 'its library fits its tag' fits_system "$wheel" "$site/libhardieflax.so"
         check 'its program fits its tag' fits_system "$wheel" "$work/venv/lib/hardieflax/sql_tool"

@@ -9,10 +9,10 @@ import pathlib
 import sqlite3
 import tempfile
 import unittest
-from typing import List, Tuple
+from typing import Any, List, Tuple
 
 import support
-from hardieflax import auditing, cli
+from hardieflax import Column, Schema, Table, Text, auditing, cli
 
 try:
     import sqlglot  # noqa: F401
@@ -57,6 +57,8 @@ class Audits(unittest.TestCase):
              {("users", "id"), ("posts", "author_id"), ("posts", "stars")}),
             ("select count(*) from posts where id in (select post_id from comments)", {("posts", "id"), ("comments", "post_id")}),
             ("select id from users union select author_id from posts", {("users", "id"), ("posts", "author_id")}),
+            ("select id from posts where id in (1, 2) and stars not in (3) and title in (select name from users)",
+             {("posts", "id"), ("posts", "stars"), ("posts", "title"), ("users", "name")}),
             ("select * from comments", {("comments", each) for each in ("id", "post_id", "user_id", "body")}),
         ]
         for dialect in ("Pg", "Mysql", "Sqlite"):
@@ -65,6 +67,31 @@ class Audits(unittest.TestCase):
                     use = self.told(sql, dialect)
                     self.assertIsNone(use.refused, use.notes)
                     self.assertEqual(set(use.columns), wanted)
+        self.assertEqual(str(self.told(cases[0][0])), "q.sql:3: users (users.email, users.id, users.name) [Like is reduced to its columns; "
+                                                      "Lower is reduced to its columns]")
+        self.assertEqual(str(self.told(cases[3][0])), "q.sql:3: posts, users (posts.author_id, users.id)")
+
+    @unittest.skipUnless(HAS_SQLGLOT, "no sqlglot")
+    def test_lists_are_not_reduced(self) -> None:
+        for dialect, sql in (("Pg", "select id from users where id = any($1) and name <> all($2) and email in ('a', 'b')"),
+                             ("Pg", "select id from users where id = any(array[1, 2]) and id = any(select id from posts)"),
+                             ("Sqlite", "select id from users where id not in (1, 2) and name in (?, ?)")):
+            use = self.told(sql, dialect)
+            self.assertEqual((use.refused, use.reduced), (None, ()), sql)
+        self.assertEqual(self.told("select id from users where id in (1, active)").reduced, ("In is reduced to its columns",))
+
+    @unittest.skipUnless(HAS_SQLGLOT, "no sqlglot")
+    def test_forty_ordinary_statements(self) -> None:
+        """24 are read as they are, 14 once expressions are reduced, and 2 are refused: WITH, and a subquery in FROM."""
+        tables = {"users": "id name email active nickname created_at first_name last_name", "posts": "id user_id title", "a": "id", "b": "id",
+                  "orders": "id total status customer_id created_at archived deleted_at", "customers": "id name country",
+                  "order_items": "id price quantity", "events": "id data kind"}
+        made: List[Any] = [type(name.title(), (Table,), {column: Column(Text) for column in columns.split()}, name=name)
+                           for name, columns in tables.items()]
+        texts = list(auditing.split((support.HERE / "statements.sql").read_text(), "statements.sql"))
+        uses = auditing.audited(texts, Schema(*made), "Pg", support.engine())
+        read = [use for use in uses if use.refused is None]
+        self.assertEqual((len(uses), len(read), sum(not use.reduced for use in read)), (40, 38, 24), [str(use) for use in uses if use.refused])
 
     @unittest.skipUnless(HAS_SQLGLOT, "no sqlglot")
     def test_what_the_grammar_lacks_is_said(self) -> None:
@@ -129,6 +156,23 @@ class Commands(unittest.TestCase):
         self.assertEqual(len(self.run_command(*words, "--quiet")[1].splitlines()), 1)
         self.assertEqual(json.loads(self.run_command(*words, "--json")[1].splitlines()[0])["tables"], ["users"])
         self.assertEqual(self.run_command(*words[:1], str(self.path / "b.sql"), *words[2:])[0], 0)
+
+    def test_a_schema_that_the_folder_has(self) -> None:
+        database, before = str(self.path / "blog.db"), os.getcwd()
+        text = self.run_command("schema", database, "--python")[1]
+        (self.path / "b.sql").write_text('SELECT "users"."name" FROM "users"')
+        os.chdir(self.path)
+        try:
+            for words in (["audit", "*.sql", "--dialect", "Pg"], ["check", database]):
+                self.assertIn("no tables.py", self.run_command(*words)[2])
+                (self.path / "tables.py").write_text(text)
+                self.assertEqual(self.run_command(*words)[0], 0)
+                (self.path / "schema.json").write_text("{}")
+                self.assertIn("tables.py and schema.json", self.run_command(*words)[2])
+                (self.path / "schema.json").unlink()
+                (self.path / "tables.py").unlink()
+        finally:
+            os.chdir(before)
 
     def test_what_cannot_be_done(self) -> None:
         for words in (["schema", str(self.path / "no.db")], ["check", str(self.path / "no.json"), str(self.path / "blog.db")],

@@ -19,7 +19,7 @@ import sys
 import tempfile
 import threading
 import unittest
-from typing import Any, List
+from typing import Any, Hashable, List
 
 import support
 from support import Users
@@ -31,14 +31,14 @@ FOLDER = tempfile.TemporaryDirectory(prefix="hardieflax-")
 atexit.register(FOLDER.cleanup)
 
 
-def compiled(source: pathlib.Path) -> str:
+def compiled(source: pathlib.Path, *more: str) -> str:
     """The shared library of a C file. A test is skipped where there is no compiler."""
     compiler = shutil.which("cc") or shutil.which("gcc") or shutil.which("clang")
     if compiler is None:
         raise unittest.SkipTest("no C compiler for the library's stand-in")
     made = os.path.join(FOLDER.name, source.stem + ".so")
     if not os.path.exists(made):
-        words = ["-std=c99", "-D_POSIX_C_SOURCE=200809L", "-Wall", "-Wextra", "-Werror", "-O1", "-fPIC", "-shared"]
+        words = ["-std=c99", "-D_POSIX_C_SOURCE=200809L", "-Wall", "-Wextra", "-Werror", "-O1", "-fPIC", "-shared", *more]
         words.append(f"-I{support.TOP}/examples/c")
         subprocess.run([compiler, *words, "-o", made, str(source)], check=True)
     return made
@@ -77,17 +77,31 @@ class Calls(unittest.TestCase):
             self.library.run(["build"], b"deep")
         self.assertEqual((caught.exception.status, caught.exception.answered), (6, b"build - deep"))
 
-    def test_a_session_is_opened_again_where_it_is_gone(self) -> None:
-        def opened(owner: str, body: str) -> bytes:
-            return self.library.next(owner, lambda: owner, body)
-        self.assertEqual(opened("one", "x"), b'next - {"schema":{"tables":[]},x}')
-        asked = []
-        self.library.next("one", lambda: asked.append(1), "y")
-        self.assertEqual(asked, [])
-        self.library.next("two", lambda: asked.append(1), "y")
+    def test_sessions_are_kept(self) -> None:
+        opened: List[object] = []
+
+        def asked(owner: int) -> bytes:
+            def opening() -> Any:
+                opened.append(owner)
+                return {"schema": owner}
+            return self.library.next(owner, opening, "x")
+
+        self.assertEqual(asked(1), b'next - {"schema":{"tables":[]},x}')
+        for owner in (1, 2, 1, 2):
+            asked(owner)
+        self.assertEqual(opened, [1, 2])
         self.library.close()
-        self.library.next("two", lambda: asked.append(1), "y")
-        self.assertEqual(asked, [1, 1])
+        asked(2)
+        self.assertEqual(opened, [1, 2, 2])
+        before = self.living()
+        for owner in range(10, 10 + engines.MOST_SESSIONS):
+            asked(owner)
+        self.assertEqual(self.living(), before + engines.MOST_SESSIONS - 1)
+        asked(2)
+        self.assertEqual(opened[-1], 2)
+
+    def test_a_library_without_policies(self) -> None:
+        self.assertFalse(self.library.has_policies())
 
     def test_what_is_no_input_is_not_passed(self) -> None:
         wrong: Any = "text"
@@ -150,8 +164,8 @@ class Sessions(unittest.TestCase):
     """On the stand-in that answers by the program."""
 
     def setUp(self) -> None:
-        os.environ["HARDIEFLAX_STAND_IN"] = support.needed_program()
-        self.library = Library(compiled(support.HERE / "library.c"))
+        program = os.path.abspath(support.needed_program())
+        self.library = Library(compiled(support.TOP / "tests/packages/library.c", f'-DPROGRAM="{program}"'))
 
     def test_it_answers_as_the_program_does(self) -> None:
         queries = [query(Users).filter(Users.name == "é\0"), query(Users).limit(1), query(Users).for_update(),
@@ -168,8 +182,11 @@ class Sessions(unittest.TestCase):
     def test_rows_and_guards(self) -> None:
         session = Session(support.SCHEMA, support.blog(), engine=self.library)
         self.assertEqual(session.value(query(Users).count()), 3)
-        guarded = Session(support.SCHEMA, support.blog(), engine=self.library, guards={Users: Users.id == 2})
-        self.assertEqual([user.id for user in guarded.all(query(Users))], [2])
+        self.assertTrue(self.library.has_policies())
+        for number in (2, 3):
+            guarded = Session(support.SCHEMA, support.blog(), engine=self.library, guards={Users: Users.id == number})
+            self.assertEqual([user.id for user in guarded.all(query(Users))], [number])
+            self.assertEqual(guarded.value(query(Users).count()), 1)
 
 
 class Conversations(unittest.TestCase):
@@ -183,12 +200,15 @@ class Conversations(unittest.TestCase):
         self.addCleanup(self.engine.close)
         self.asked = 0
 
-    def schema(self) -> Any:
+    def opening(self) -> Any:
         self.asked += 1
-        return self.SCHEMA
+        return {"schema": self.SCHEMA}
 
-    def next(self, owner: object = "one", body: str = BODY) -> bytes:
-        return self.engine.next(owner, self.schema, body)
+    def next(self, owner: Hashable = "one", body: str = BODY) -> bytes:
+        return self.engine.next(owner, self.opening, body)
+
+    def process(self) -> Any:
+        return self.engine._talks["one"]._process
 
     def test_one_process_answers_an_owner(self) -> None:
         self.assertIsInstance(self.engine, KeepsSession)
@@ -196,7 +216,12 @@ class Conversations(unittest.TestCase):
         self.assertEqual(self.asked, 1)
         self.next("two")
         self.next()
-        self.assertEqual(self.asked, 3)
+        self.assertEqual(self.asked, 2)
+        for owner in range(engines.MOST_SESSIONS):
+            self.next(owner)
+        self.assertEqual(len(self.engine._talks), engines.MOST_SESSIONS)
+        self.next()
+        self.assertEqual(self.asked, 3 + engines.MOST_SESSIONS)
 
     def test_it_answers_as_build_does(self) -> None:
         document = f'{{"schema":{json.dumps(self.SCHEMA)},{self.BODY}}}'
@@ -214,8 +239,7 @@ class Conversations(unittest.TestCase):
 
     def test_after_the_process_is_killed_another_is_started(self) -> None:
         self.next()
-        process = self.engine._process
-        assert process is not None
+        process = self.process()
         process.kill()
         process.wait()
         with self.assertRaises(EngineError):
@@ -225,8 +249,7 @@ class Conversations(unittest.TestCase):
 
     def test_close(self) -> None:
         self.next()
-        process = self.engine._process
-        assert process is not None
+        process = self.process()
         self.engine.close()
         self.assertEqual(process.returncode, 0)
         self.assertTrue(self.next())
@@ -235,7 +258,7 @@ class Conversations(unittest.TestCase):
         self.next()
         other = pickle.loads(pickle.dumps(self.engine))
         self.addCleanup(other.close)
-        self.assertEqual(other.next("one", self.schema, self.BODY), self.next())
+        self.assertEqual(other.next("one", self.opening, self.BODY), self.next())
 
     def test_threads_wait_in_turn(self) -> None:
         told: List[bytes] = []
@@ -246,6 +269,24 @@ class Conversations(unittest.TestCase):
             thread.join()
         self.assertEqual(set(told), {self.next()})
         self.assertEqual(len(told), 400)
+
+    def test_policies(self) -> None:
+        self.assertTrue(self.engine.has_policies())
+        self.assertFalse(Conversation(sys.executable, "-c", "print('x')").has_policies())
+
+    def test_a_forked_child_starts_its_own(self) -> None:
+        self.next()
+        child = os.fork()
+        if child == 0:
+            answered = False
+            try:
+                answered = bool(self.next())
+                self.engine.close()
+            finally:
+                os._exit(0 if answered else 1)
+        self.assertEqual(os.waitpid(child, 0)[1], 0)
+        self.assertTrue(self.next())
+        self.assertEqual(self.asked, 1)
 
     def test_a_program_without_the_command(self) -> None:
         with self.assertRaisesRegex(EngineMissing, "no command session"):

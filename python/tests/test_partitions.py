@@ -1,16 +1,20 @@
-"""Many queries on many workers: a local cluster of dask.distributed, one worker of which is killed, and the program of a pipe."""
+"""Many queries on many workers: a local cluster of dask.distributed, one worker of which is killed, and the program of a pipe, as Spark
+starts it."""
 from __future__ import annotations
 
+import concurrent.futures
 import importlib
 import json
 import os
 import pathlib
+import shlex
 import signal
 import subprocess
 import sys
 import tempfile
+import threading
 import unittest
-from typing import Any, List
+from typing import IO, Any, Dict, Iterable, List
 
 import support
 from support import Users
@@ -31,6 +35,29 @@ def slow_program(folder: str) -> str:
     path.write_text(f'#!/bin/sh\nsleep 0.3\nexec {support.needed_program()} "$@"\n')
     path.chmod(0o755)
     return str(path)
+
+
+def piped(partition: Iterable[str], command: str, environment: Dict[str, str]) -> List[str]:
+    """The lines that a command answers to a partition, by the protocol of Spark's `RDD.pipe(command, checkCode=True)`: a process for each
+    partition, its words split as a shell does, a line for each element from a thread of its own, and an error where the status is not 0."""
+    process = subprocess.Popen(shlex.split(command), env=environment, stdin=subprocess.PIPE, stdout=subprocess.PIPE)
+
+    def write(out: IO[bytes]) -> None:
+        try:
+            for each in partition:
+                out.write((each.rstrip("\n") + "\n").encode())
+            out.close()
+        except BrokenPipeError:
+            pass  # the status tells
+    assert process.stdin is not None and process.stdout is not None
+    writer = threading.Thread(target=write, args=[process.stdin])
+    writer.start()
+    lines = [line.rstrip(b"\n").decode() for line in iter(process.stdout.readline, b"")]
+    writer.join()
+    process.stdout.close()
+    if process.wait() != 0:
+        raise OSError(f"the command ended with {process.returncode}")
+    return lines
 
 
 class Documents(unittest.TestCase):
@@ -64,6 +91,22 @@ class Documents(unittest.TestCase):
             self.check(told[:10], 10)
             self.assertEqual((told[10], "sql" in told[11], len(told)), ({"error": "the line is no JSON"}, True, 12))
             self.assertEqual(subprocess.run([*words, "Oracle"], stderr=subprocess.PIPE, env=environment).returncode, 2)
+
+    def test_the_pipe_of_spark(self) -> None:
+        """Partitions at a time, of which one is empty and one larger than pipes hold; a process that is killed fails its own partition."""
+        with tempfile.TemporaryDirectory() as folder:
+            path = pathlib.Path(folder) / "a schema.json"
+            path.write_text(support.SCHEMA.json())
+            environment = {**os.environ, "HARDIEFLAX_PROGRAM": support.needed_program(), "PYTHONPATH": str(support.HERE.parent / "src")}
+            command = f"{sys.executable} -m hardieflax.partitions {shlex.quote(str(path))} Sqlite"
+            lines = [json.dumps(each.json()) for each in some(3500)]
+            partitions: List[List[str]] = [lines[:14], [], lines, lines[:1]]
+            with concurrent.futures.ThreadPoolExecutor(2) as pool:
+                told = list(pool.map(lambda each: piped(each, command, environment), partitions))
+            for each, partition in zip(told, partitions):
+                self.check([json.loads(line) for line in each], len(partition))
+            with self.assertRaises(OSError):
+                piped(lines[:1], command.replace("Sqlite", "Oracle"), environment)
 
     @unittest.skipUnless(os.environ.get("HARDIEFLAX_CLUSTER"), "HARDIEFLAX_CLUSTER=1 starts a cluster and kills a worker of it")
     def test_a_cluster_that_loses_a_worker(self) -> None:

@@ -1,7 +1,6 @@
-"""The README's examples, run as they stand."""
+"""The examples of the pages, run as they stand: by this checkout, or in the environment whose folder of programs HARDIEFLAX_BIN names."""
 from __future__ import annotations
 
-import doctest
 import os
 import pathlib
 import re
@@ -11,10 +10,12 @@ import subprocess
 import sys
 import tempfile
 import unittest
+from typing import Dict, List
 
 import support
 
 README = support.HERE.parent / "README.md"
+LIMITS = support.HERE.parent / "LIMITS.md"
 BLOG = """
 CREATE TABLE users (id integer PRIMARY KEY, name text, active boolean NOT NULL);
 CREATE TABLE posts (id integer PRIMARY KEY, author_id integer NOT NULL REFERENCES users, title text NOT NULL);
@@ -23,42 +24,62 @@ INSERT INTO posts VALUES (1, 1, 'Trees'), (2, 1, 'Birds'), (3, 2, 'Rivers');
 """
 
 
-class Readme(unittest.TestCase):
+class Pages(unittest.TestCase):
     def setUp(self) -> None:
-        program = support.needed_program()
-        self.folder = tempfile.TemporaryDirectory()
-        self.before, self.named = os.getcwd(), os.environ.get("HARDIEFLAX_PROGRAM")
-        os.environ["HARDIEFLAX_PROGRAM"] = os.path.abspath(program)
-        os.chdir(self.folder.name)
-        connection = sqlite3.connect("blog.db")
+        folder = tempfile.TemporaryDirectory()
+        self.addCleanup(folder.cleanup)
+        self.folder = pathlib.Path(folder.name)
+        connection = sqlite3.connect(self.folder / "blog.db")
         connection.executescript(BLOG)
         connection.close()
+        named = os.environ.get("HARDIEFLAX_BIN")
+        self.environment = self.installed(named) if named else self.checkout()
 
-    def tearDown(self) -> None:
-        os.chdir(self.before)
-        if self.named is not None:
-            os.environ["HARDIEFLAX_PROGRAM"] = self.named
-        self.folder.cleanup()
+    @staticmethod
+    def installed(folder: str) -> Dict[str, str]:
+        """What is installed there, and nothing of this checkout."""
+        kept = {name: value for name, value in os.environ.items() if not name.startswith(("PYTHON", "HARDIEFLAX_"))}
+        return {**kept, "PATH": f"{folder}:{os.environ['PATH']}"}
+
+    def checkout(self) -> Dict[str, str]:
+        """This checkout, with its program, by the names that an environment would give."""
+        program, commands = os.path.abspath(support.needed_program()), self.folder / "bin"
+        commands.mkdir()
+        for name, words in (("hardieflax", f"{sys.executable} -m hardieflax"), ("python3", sys.executable)):
+            command = commands / name
+            command.write_text(f'#!/bin/sh\nexec {words} "$@"\n')
+            command.chmod(command.stat().st_mode | stat.S_IXUSR)
+        return {**os.environ, "HARDIEFLAX_PROGRAM": program, "PYTHONPATH": str(support.HERE.parent / "src"),
+                "PATH": f"{commands}:{os.environ['PATH']}"}
+
+    def run_words(self, *words: str) -> "subprocess.CompletedProcess[str]":
+        return subprocess.run(words, cwd=self.folder, env=self.environment, stdout=subprocess.PIPE, stderr=subprocess.PIPE, text=True)
 
     def test_examples(self) -> None:
-        flags = doctest.ELLIPSIS | doctest.NORMALIZE_WHITESPACE
-        result = doctest.testfile(str(README), module_relative=False, optionflags=flags, encoding="utf-8")
-        self.assertGreater(result.attempted, 12)
-        self.assertEqual(result.failed, 0)
+        flags: List[str] = ["-o", "ELLIPSIS", "-o", "NORMALIZE_WHITESPACE", "-v"]
+        for page, least in ((README, 14), (LIMITS, 6)):
+            run = self.run_words("python3", "-m", "doctest", *flags, str(page))
+            self.assertEqual(run.returncode, 0, run.stdout[-2000:] + run.stderr)
+            found = re.search(r"^([0-9]+) passed", run.stdout, re.MULTILINE)
+            self.assertGreaterEqual(int(found[1]) if found else 0, least)
 
     def test_three_commands(self) -> None:
         """The commands of the first lines, but for pip, and the script below them."""
         text = README.read_text("utf-8")
-        pathlib.Path("report.py").write_text(re.findall(r"```python\n(.*?)```", text, re.DOTALL)[0])
-        command = pathlib.Path("bin/hardieflax")
-        command.parent.mkdir()
-        command.write_text(f'#!/bin/sh\nexec {sys.executable} -m hardieflax "$@"\n')
-        command.chmod(command.stat().st_mode | stat.S_IXUSR)
-        commands = [line for line in text.splitlines() if line.startswith("    ")][1:3]
-        environment = {**os.environ, "PYTHONPATH": str(support.HERE.parent / "src"), "PATH": f"{command.parent.resolve()}:{os.environ['PATH']}"}
-        script = "\n".join(commands).replace("python3", sys.executable)
-        run = subprocess.run(["sh", "-e", "-c", script], stdout=subprocess.PIPE, stderr=subprocess.PIPE, text=True, env=environment)
+        (self.folder / "report.py").write_text(re.findall(r"```python\n(.*?)```", text, re.DOTALL)[0])
+        commands = [line.strip() for line in text.splitlines() if line.startswith("    ")][:3]
+        self.assertEqual(commands[0].split("  ")[0], "pip install hardieflax")
+        run = self.run_words("sh", "-e", "-c", "\n".join(commands[1:]))
         self.assertEqual((run.returncode, run.stdout), (0, "Birds by Sean\nTrees by Sean\n"), run.stderr)
+
+    def test_an_audit(self) -> None:
+        """The command for a CI, in a folder with tables.py."""
+        (self.folder / "queries").mkdir()
+        (self.folder / "queries/a.sql").write_text('SELECT "users"."name" FROM "users";\nSELECT "nope"."x" FROM "nope"\n')
+        script = "hardieflax schema blog.db --python > tables.py && hardieflax check blog.db && hardieflax audit 'queries/*.sql' --dialect Pg"
+        run = self.run_words("sh", "-e", "-c", script)
+        self.assertEqual((run.returncode, run.stdout.splitlines()), (1, [
+            "queries/a.sql:1: users (users.name)", "queries/a.sql:2: UnknownTable: reads a table that the schema has not"]), run.stderr)
 
 
 if __name__ == "__main__":

@@ -5,9 +5,10 @@ import asyncio
 import datetime
 import decimal
 import enum
+import threading
 import unittest
 import uuid
-from typing import Any, ClassVar
+from typing import Any, ClassVar, List
 
 import support
 from support import Comments, Odd, Posts, Users
@@ -126,6 +127,9 @@ class OnAServer:
             session = Session(support.SCHEMA, self.connection, engine=self.engine, guards={Posts: Posts.author_id == author}, shared=[Users])
             pairs = session.all(query(Users).left_join(Posts).order(Users.id, Posts.id))
             self.assertEqual([p.id for _, p in pairs if p], wanted)
+            self.assertEqual(session.value(query(Posts).count()), len(wanted))
+            written = query(Posts).filter(Posts.author_id == Users.id)
+            self.assertEqual(session.values(query(Users).filter(written.exists()).select(Users.id)), [author])
 
     def test_a_connection_of_sqlalchemy(self: Any) -> None:
         with self.sqlalchemy_engine().connect() as connection:
@@ -224,12 +228,30 @@ class OnPostgres(OnAServer, unittest.TestCase):
                         await session.one(made)
                 tenant = AsyncSession(support.SCHEMA, connection, engine=self.engine, guards={Posts: Posts.author_id == 2}, shared=[Users])
                 self.assertEqual([post.id for post in await tenant.all(query(Posts))], [3])
+                self.assertEqual(await tenant.value(query(Posts).count()), 1)
                 with self.assertRaises(NotShared):
                     await tenant.all(query(Comments))
 
         asyncio.run(ask())
         with self.assertRaises(HardieflaxError):
             AsyncSession(support.SCHEMA, self.connection, engine=self.engine)
+
+    def test_threads_share_a_connection(self) -> None:
+        """A connection of psycopg may be shared, so a session may too."""
+        wrong: List[Any] = []
+
+        def ask(number: int) -> None:
+            for turn in range(10):
+                found = self.session.values(query(Users).filter(Users.id == number, Users.email != f"{turn}").select(Users.id))
+                if found != [number]:
+                    wrong.append(found)
+
+        threads = [threading.Thread(target=ask, args=(number % 3 + 1,)) for number in range(6)]
+        for thread in threads:
+            thread.start()
+        for thread in threads:
+            thread.join()
+        self.assertEqual(wrong, [])
 
     def test_one_text_is_prepared_once(self) -> None:
         self.connection.cursor().execute("DEALLOCATE ALL")

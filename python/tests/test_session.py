@@ -11,7 +11,7 @@ from typing import Any, List, Sequence, cast
 
 import support
 from support import Comments, Odd, Posts, Users
-from hardieflax import (EngineError, HardieflaxError, Integer, NoRow, Nullable, Refused, RowError, Schema, SchemaError, Session,
+from hardieflax import (EngineError, HardieflaxError, Integer, NoRow, Nullable, Program, Refused, RowError, Schema, SchemaError, Session,
                         SeveralRows, Table,
                         Column, Text, Bool, alias, all_of, count, nullable, query, select, value)
 from hardieflax.plans import Planner, Request
@@ -177,11 +177,11 @@ class Explaining:
         self.at, self.words = at, [""]
 
     def has(self, command: str) -> bool:
-        return command in ("build", "explain")
+        return command in ("build", "tenant", "explain")
 
     def run(self, command: Sequence[str], document: bytes) -> bytes:
         if command[0] != "explain":
-            return support.engine().run(command, document)
+            return Program(support.needed_program()).run(command, document)
         self.words = list(command)
         line = {"at": self.at, "line": 1, "column": 1, "refused": "TypeMismatch", "request": 1, "says": "its sides are BigInt and Text"}
         return json.dumps(line).encode() + b"\n"
@@ -198,6 +198,14 @@ class Explanations(unittest.TestCase):
             with self.assertRaises(Refused) as caught:
                 Session(Schema(*support.SCHEMA), dialect="Pg", engine=Explaining(at)).build(made)
             self.assertEqual(caught.exception.parts, (wanted,))
+
+    def test_the_words_of_the_command(self) -> None:
+        guards = {Posts: Posts.id == 1}
+        for options, words in (({}, ["explain"]), ({"guards": guards, "shared": [Users]}, ["explain", "tenant"])):
+            engine, more = Explaining("/requests/0/query"), cast(Any, options)
+            with self.assertRaises(Refused):
+                Session(Schema(*support.SCHEMA), dialect="Pg", engine=engine, **more).build(query(Users).filter(cast(Any, Users).id == Users.email))
+            self.assertEqual(engine.words, words)
 
 
 class Plans(unittest.TestCase):
@@ -225,6 +233,17 @@ class Plans(unittest.TestCase):
                                 ("Pg", [True, b"\7", [8, 9], False, "x", 5, 6])):
             plan = self.built(dialect, made)
             self.assertEqual([each.python() for each in plan.binds(made.values)], wanted)
+
+    def test_a_value_of_the_text_itself(self) -> None:
+        """A single value binds its limit, 1, in place of the query's own."""
+        of_posts = query(Posts).filter(Posts.author_id == Users.id, Posts.title != "x").select(Posts.title)
+        session = Session(support.SCHEMA, support.blog(), engine=support.engine())
+        for first in (of_posts.order(Posts.id), of_posts.order(Posts.id).limit(7)):
+            made = query(Users).select(first.single_value(), Users.id).order(Users.id).limit(2)
+            self.assertEqual(session.build(made).values, ["x", 1, 2])
+            self.assertEqual(session.all(made), [("Trees", 1), ("it's 100% \\ \"true\"", 2)])
+        alone = query(Users).select(query(Posts).select(Posts.id).order(Posts.id).single_value())
+        self.assertEqual((session.build(alone).values, session.values(alone)), ([1], [1, 1, 1]))
 
     def test_lengths_of_lists(self) -> None:
         def made(*numbers: int) -> Any:
@@ -284,6 +303,27 @@ class Plans(unittest.TestCase):
         for thread in threads:
             thread.join()
         self.assertEqual(wrong, [])
+
+    def test_threads_with_a_connection_each(self) -> None:
+        """Rows in many threads over one schema and one engine, with what the default engine finds for each."""
+        schema, wrong, planners = Schema(*support.SCHEMA), [], set()
+
+        def ask(number: int) -> None:
+            session = Session(schema, support.blog(), engine=support.engine())
+            planners.add(id(session._planner))
+            for turn in range(10):
+                wanted = [user[0] for user in support.USERS if user[0] >= number]
+                found = session.values(query(Users).filter(Users.id >= number, Users.email != f"{turn}").order(Users.id).select(Users.id))
+                pairs = session.all(query(Users).left_join(Posts).filter(Users.id == number).order(Posts.id))
+                if found != wanted or {user.id for user, _ in pairs} != {number}:
+                    wrong.append((number, found, pairs))
+
+        threads = [threading.Thread(target=ask, args=(number % 3 + 1,)) for number in range(8)]
+        for thread in threads:
+            thread.start()
+        for thread in threads:
+            thread.join()
+        self.assertEqual((wrong, len(planners)), ([], 1))
 
 
 if __name__ == "__main__":

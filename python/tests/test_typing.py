@@ -37,6 +37,7 @@ class Posts(Table, name="posts"):
 session = Session(Schema(Users, Posts), dialect="Sqlite")
 users = session.all(query(Users))
 u2 = alias(Users, "u2")
+of_users = {Users: Users.active}
 """
 
 # What is right, with the type that it has.
@@ -63,6 +64,8 @@ RIGHT = [
     ("session.all(query(Users).filter(Users.id.not_in(query(Posts).select(Posts.editor_id)), ~Users.active))", "List[Users]"),
     ("session.all(query(Users).filter(~(Users.name == 'x')))", "List[Users]"),
     ("session.one(query(Users).select(~Users.active, Users.name == 'x'))", "Tuple[bool, Optional[bool]]"),
+    ("Session(session.schema, dialect='Pg', guards={Users: Users.active, Posts: Posts.author_id == 1})", "Session"),
+    ("Session(session.schema, dialect='Pg', guards=of_users, shared=[Posts])", "Session"),
 ]
 
 # What is wrong.

@@ -1,7 +1,6 @@
 /*
- * Stands in for the library in packages that are made for tests (tests/packages.sh): it answers by running the program PROGRAM, so its lines
- * are the true ones. A session is a document that grows by the requests of each further one, so a document has its schema before its
- * requests, in an object with no other member. It knows no request that nests too deep: NO_MEMORY ends a session.
+ * Stands in for the library in tests (tests/packages.sh, python/tests): it answers by running the program PROGRAM, so its lines are the true
+ * ones. A session is the lines that it was asked so far, which the program's command `session` answers anew with each further one.
  */
 #define _GNU_SOURCE
 #include <stdio.h>
@@ -20,8 +19,8 @@ struct text {
 /* What a handle owns. */
 struct owned {
     struct text answer;
-    struct text session; /* the document so far; no bytes where there is none */
-    size_t answered;     /* the bytes of its lines */
+    struct text session; /* the lines so far; no bytes where there is none */
+    size_t answered;     /* the bytes of their answers */
 };
 
 static void *checked(void *pointer) {
@@ -93,6 +92,7 @@ static uint32_t show(hardieflax *handle, uint32_t status, struct text answer, si
 static void close_session(struct owned *owned) {
     free(owned->session.bytes);
     owned->session.bytes = NULL;
+    owned->answered = 0;
 }
 
 static uint32_t answer(hardieflax *handle, const char *word, const char *operand, const uint8_t *input, size_t length) {
@@ -116,55 +116,66 @@ uint32_t hardieflax_audit(hardieflax *handle, uint32_t dialect, const uint8_t *t
     return dialect > HARDIEFLAX_BRACKET ? HARDIEFLAX_USAGE : answer(handle, "audit", DIALECTS[dialect], texts, length);
 }
 
-uint32_t hardieflax_open(hardieflax *handle, const uint8_t *document, size_t length) {
-    struct owned *owned = owned_of(handle);
-    uint32_t status = hardieflax_build(handle, document, length);
-    close_session(owned);
-    if (status == HARDIEFLAX_DONE) {
-        owned->session = text_of(document, length);
-        owned->answered = handle->length;
+/* The statuses of what a session says of a line that it does not answer. */
+static const struct {
+    const char *line;
+    uint32_t status;
+} ERRORS[] = {{"{\"error\":\"BadDocument\"}\n", HARDIEFLAX_BAD_DOCUMENT},
+              {"{\"error\":\"TooLarge\"}\n", HARDIEFLAX_TOO_LARGE},
+              {"{\"error\":\"TooDeep\"}\n", HARDIEFLAX_NO_MEMORY}};
+
+/* The status of an answer, from which its empty line is taken, and the line of an error. */
+static uint32_t status_of(struct text *answer, size_t from) {
+    size_t at, size;
+    answer->length--;
+    for (at = 0; at < sizeof ERRORS / sizeof *ERRORS; at++) {
+        size = strlen(ERRORS[at].line);
+        if (answer->length - from >= size && memcmp(answer->bytes + answer->length - size, ERRORS[at].line, size) == 0) {
+            answer->length -= size;
+            return ERRORS[at].status;
+        }
     }
-    return status;
+    return HARDIEFLAX_DONE;
 }
 
-/* The session's document with the requests of another at its end. */
-static struct text joined(struct text session, struct text other) {
-    static const char OPEN[] = "\"requests\":[";
-    char *start = memmem(other.bytes, other.length, OPEN, strlen(OPEN));
-    char *end = memrchr(session.bytes, ']', session.length);
-    size_t kept = (size_t)(checked(end) - (void *)session.bytes);
-    struct text both = {checked(malloc(session.length + other.length + 1)), 0};
-    start = (char *)checked(start) + strlen(OPEN);
-    memcpy(both.bytes, session.bytes, kept);
-    if (end[-1] != '[' && *start != ']')
-        both.bytes[kept++] = ',';
-    both.length = kept + (size_t)(other.bytes + other.length - start);
-    memcpy(both.bytes + kept, start, both.length - kept);
-    return both;
+/* Asks a further line of the session: of its answers the last one is shown. What is refused leaves the session as it was. */
+static uint32_t go_on(hardieflax *handle, const uint8_t *document, size_t length) {
+    char *words[] = {(char *)PROGRAM, (char *)"session", NULL};
+    struct owned *owned = owned_of(handle);
+    size_t before = owned->answered, kept = owned->session.bytes == NULL ? 0 : owned->session.length, at;
+    struct text lines = {checked(malloc(kept + length + 2)), kept + length + 1}, output;
+    uint32_t status;
+    if (kept > 0)
+        memcpy(lines.bytes, owned->session.bytes, kept);
+    memcpy(lines.bytes + kept, document, length);
+    for (at = kept; at < kept + length; at++)
+        if (lines.bytes[at] == '\n')
+            lines.bytes[at] = ' ';
+    lines.bytes[kept + length] = '\n';
+    status = run(words, lines.bytes, lines.length, &output);
+    if (status != HARDIEFLAX_DONE || output.length <= before)
+        abort();
+    at = output.length;
+    status = status_of(&output, before);
+    if (status == HARDIEFLAX_DONE || status == HARDIEFLAX_NO_MEMORY) {
+        close_session(owned);
+        owned->session = lines;
+        owned->answered = at;
+    } else {
+        free(lines.bytes);
+    }
+    return show(handle, status, output, before);
+}
+
+uint32_t hardieflax_open(hardieflax *handle, const uint8_t *document, size_t length) {
+    close_session(owned_of(handle));
+    return go_on(handle, document, length);
 }
 
 uint32_t hardieflax_next(hardieflax *handle, const uint8_t *document, size_t length) {
-    char *words[] = {(char *)PROGRAM, (char *)"build", NULL};
-    struct owned *owned = owned_of(handle);
-    struct text alone = {(char *)document, length}, both, output;
-    uint32_t status;
-    size_t before = owned->answered;
-    if (owned->session.bytes == NULL)
+    if (owned_of(handle)->session.bytes == NULL)
         return show(handle, HARDIEFLAX_USAGE, text_of("", 0), 0);
-    /* A document that is none is refused before it is joined to another. */
-    status = hardieflax_build(handle, document, length);
-    if (status == HARDIEFLAX_BAD_DOCUMENT || status == HARDIEFLAX_TOO_LARGE)
-        return status;
-    both = joined(owned->session, alone);
-    status = run(words, both.bytes, both.length, &output);
-    close_session(owned);
-    if (status == HARDIEFLAX_DONE) {
-        owned->session = both;
-        owned->answered = output.length;
-    } else {
-        free(both.bytes);
-    }
-    return show(handle, status, output, status == HARDIEFLAX_DONE ? before : 0);
+    return go_on(handle, document, length);
 }
 
 void hardieflax_free(hardieflax *handle) {

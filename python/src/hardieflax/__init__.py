@@ -10,7 +10,7 @@
 """
 from .async_session import AsyncSession
 from .engines import Conversation, Engine, Library, Program, default_engine
-from .errors import (EngineError, EngineMissing, HardieflaxError, NoRow, NotShared, NotYetGuarded, Refused, RowError, SchemaError, SeveralRows,
+from .errors import (EngineError, EngineMissing, HardieflaxError, NoRow, NotShared, Refused, RowError, SchemaError, SeveralRows,
                      ValueRefused)
 from .expressions import Expr, Order, all_of, any_of, count, value
 from .queries import Combination, Query, Selected, Statement, nullable, query, select
@@ -24,7 +24,7 @@ __version__ = "0.1.0"
 
 __all__ = [
     "AsyncSession", "BigInt", "Binary", "Bool", "Built", "Column", "Combination", "Conversation", "Date", "Decimal", "Engine", "EngineError",
-    "EngineMissing", "Enumeration", "Expr", "Float", "HardieflaxError", "Integer", "Json", "Library", "NoRow", "NotShared", "NotYetGuarded", "Nullable",
+    "EngineMissing", "Enumeration", "Expr", "Float", "HardieflaxError", "Integer", "Json", "Library", "NoRow", "NotShared", "Nullable",
     "Order", "Program", "Query", "Refused", "RowError", "Schema", "SchemaError", "Selected", "Session", "SeveralRows", "SmallInt",
     "SqlType", "Statement", "Table", "Text", "Time", "Timestamp", "TimestampTz", "Uuid", "ValueRefused", "alias", "all_of", "any_of", "count",
     "default_engine", "nullable", "only", "query", "sampled", "select", "value",

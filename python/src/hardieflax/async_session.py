@@ -15,13 +15,14 @@ from .tables import Table
 
 R = TypeVar("R")
 A = TypeVar("A")
+T = TypeVar("T", bound=Table)
 
 
 class AsyncSession(Builder):
     """As Session, on a `psycopg.AsyncConnection`: what reads rows is awaited. A shape that is new is asked for in a thread."""
 
     def __init__(self, schema: Schema, connection: Any, *, engine: Optional[Engine] = None,
-                 guards: Optional[Mapping[Type[Table], Expr[Any]]] = None, shared: Iterable[Type[Table]] = ()) -> None:
+                 guards: Optional[Mapping[Type[T], Expr[Any]]] = None, shared: Iterable[Type[Table]] = ()) -> None:
         kinds = {(base.__module__.split(".")[0], base.__name__) for base in type(connection).__mro__}
         if ("psycopg", "AsyncConnection") not in kinds:
             raise HardieflaxError(f"a psycopg.AsyncConnection is wanted, and not {type(connection).__module__}.{type(connection).__qualname__}")

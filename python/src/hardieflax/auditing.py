@@ -10,6 +10,7 @@ import json
 from typing import Any, Iterator, List, Optional, Sequence, Tuple
 
 from .engines import Engine, default_engine, lines
+from .people import REDUCED, in_grammar
 from .schema import Schema
 
 MEANINGS = {
@@ -45,7 +46,13 @@ class Use:
             is_told = self.refused == "NotInGrammar" and bool(self.notes)
             return f"{where}: {self.refused}: {self.notes[0] if is_told else MEANINGS.get(self.refused, 'is not audited')}"
         listed = ", ".join(sorted({f"{table}.{column}" for table, column in self.columns}))
-        return f"{where}: {', '.join(sorted(set(self.tables)))}" + (f" ({listed})" if listed else "")
+        told = f"{where}: {', '.join(sorted(set(self.tables)))}" + (f" ({listed})" if listed else "")
+        return told + (f" [{'; '.join(self.reduced)}]" if self.reduced else "")
+
+    @property
+    def reduced(self) -> Tuple[str, ...]:
+        """What the grammar lacks, so that of it the columns alone were read."""
+        return tuple(note for note in self.notes if note.endswith(REDUCED))
 
 
 def split(sql: str, file: str = "-", backslash: bool = False) -> Iterator[Text]:
@@ -132,7 +139,6 @@ def audited(texts: Sequence[Text], schema: Schema, dialect: str, engine: Optiona
 
 
 def _read_as_written(uses: List[Use], schema: Schema, dialect: str, engine: Engine) -> None:
-    from .people import in_grammar
     for at, use in enumerate(uses):
         if use.refused != "NotInGrammar":
             continue

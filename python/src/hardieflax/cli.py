@@ -1,11 +1,12 @@
 """The command `hardieflax`.
 
     hardieflax schema URL [--python]          the schema of a database, as JSON or as classes
-    hardieflax check SCHEMA URL               whether a database still has what a schema says; ends with 1 where it has not
-    hardieflax audit FILE.. --schema SCHEMA --dialect Pg
+    hardieflax check [SCHEMA] URL             whether a database still has what a schema says; ends with 1 where it has not
+    hardieflax audit FILE.. --dialect Pg [--schema SCHEMA]
                                               the tables and columns that SQL in files uses; ends with 1 where one is not known
 
-SCHEMA is a file: JSON, or a module that `schema --python` wrote. URL is one of SQLAlchemy, or the path of an SQLite file.
+SCHEMA is a file: JSON, or a module that `schema --python` wrote; without it tables.py or schema.json of the current folder. URL is one of
+SQLAlchemy, or the path of an SQLite file.
 """
 from __future__ import annotations
 
@@ -20,8 +21,11 @@ from . import auditing, checking
 from .engines import DIALECTS
 from .errors import HardieflaxError
 from .reflection import reflected
+from .schema import Schema
 
 DONE, DIFFERENT, USAGE = 0, 1, 2
+# Where a schema is looked for that is not named.
+SCHEMA_FILES = ("tables.py", "schema.json")
 
 
 def main(arguments: Optional[Sequence[str]] = None) -> int:
@@ -46,13 +50,13 @@ def _parser() -> argparse.ArgumentParser:
     _reflecting(schema)
     schema.set_defaults(run=_schema)
     check = commands.add_parser("check", help="compares a schema with a database")
-    check.add_argument("file", metavar="SCHEMA")
+    check.add_argument("file", metavar="SCHEMA", nargs="?")
     check.add_argument("url")
     _reflecting(check)
     check.set_defaults(run=_check)
     audit = commands.add_parser("audit", help="tells which tables and columns SQL uses")
     audit.add_argument("files", nargs="+", metavar="FILE", help="files of SQL, or patterns such as 'queries/*.sql'")
-    audit.add_argument("--schema", required=True)
+    audit.add_argument("--schema", metavar="SCHEMA", help="a file; by default tables.py or schema.json")
     audit.add_argument("--dialect", required=True, choices=DIALECTS)
     audit.add_argument("--json", action="store_true", help="a line of JSON for each statement")
     audit.add_argument("--quiet", action="store_true", help="only what is refused")
@@ -83,14 +87,24 @@ def _schema(given: argparse.Namespace) -> int:
 
 
 def _check(given: argparse.Namespace) -> int:
-    found = checking.differences(checking.read_schema(given.file), given.url, **_options(given))
+    found = checking.differences(_declared(given.file), given.url, **_options(given))
     for line in found:
         print(line)
     return DIFFERENT if found else DONE
 
 
+def _declared(file: Optional[str]) -> Schema:
+    """The schema of a file that is given, or of the one that the current folder has."""
+    if file is None:
+        found = [name for name in SCHEMA_FILES if pathlib.Path(name).is_file()]
+        if len(found) != 1:
+            raise HardieflaxError(f"no SCHEMA is given, and the folder has {' and '.join(found) or f'no {SCHEMA_FILES[0]}'}: name the file")
+        file = found[0]
+    return checking.read_schema(file)
+
+
 def _audit(given: argparse.Namespace) -> int:
-    schema = checking.read_schema(given.schema)
+    schema = _declared(given.schema)
     texts = [text for name in _files(given.files) for text in _texts(name, given.dialect)]
     uses = auditing.audited(texts, schema, given.dialect, people=not given.strict)
     for use in uses:

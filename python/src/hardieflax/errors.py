@@ -53,10 +53,6 @@ class EngineError(HardieflaxError):
         return f"{meaning}; {self.detail}" if self.detail else meaning
 
 
-class NotYetGuarded(HardieflaxError, NotImplementedError):
-    """A query reads several guarded tables, and the engine can guard one."""
-
-
 class NotShared(HardieflaxError):
     """A query of a guarded session reads a table that is neither guarded nor shared."""
 

@@ -73,9 +73,15 @@ def _name(type: Any) -> str:
     return str(type.__class__.__name__).upper()
 
 
+def _types() -> Any:
+    """SQLAlchemy's types. (Stubs of it lack some members, so none are used.)"""
+    import sqlalchemy
+    return sqlalchemy.types
+
+
 def found_type(type: Any, dialect: str, where: str, trust: bool = False) -> Found:
     """The counterpart of a type of SQLAlchemy, or its name. `where` names an enumeration that has no name of its own."""
-    from sqlalchemy import types
+    types = _types()
     name = _name(type)
     if isinstance(type, types.Boolean) or name == "TINYINT" and getattr(type, "display_width", None) == 1:
         return Bool
@@ -110,7 +116,7 @@ def enumeration(name: str, texts: Sequence[str]) -> SqlType[Any]:
 
 
 def _by_class(type: Any, where: str) -> Optional[SqlType[Any]]:
-    from sqlalchemy import types
+    types = _types()
     name = _name(type)
     if name == "UUID":
         return Uuid

@@ -16,6 +16,8 @@ _QUOTES = {"Pg": ('"', '"'), "Mysql": ("`", "`"), "Sqlite": ("`", "`"), "Bracket
 # The schema of a server that names stand in without a word.
 _USUAL = {"Pg": "public", "Sqlite": "main"}
 _COMPARED = {"EQ": "=", "NEQ": "!=", "LT": "<", "LTE": "<=", "GT": ">", "GTE": ">=", "And": "AND", "Or": "OR"}
+# How a note ends that says what was read as the columns in it.
+REDUCED = " is reduced to its columns"
 _COMBINED = {"Union": "UNION", "Except": "EXCEPT", "Intersect": "INTERSECT"}
 
 
@@ -204,7 +206,10 @@ class _Writer:
             return self._column(x, scopes)
         if word in ("Literal", "Boolean", "Null", "Neg", "Parameter", "Placeholder", "SessionParameter"):
             return self.placeholder()
-        if word in _COMPARED and not isinstance(x.expression, (self.exp.Any, self.exp.Anonymous)):
+        member = self._membership(x, scopes)
+        if member is not None:
+            return member
+        if word in _COMPARED and not self._is_quantified(x.expression):
             return f"({self.expr(x.this, scopes)} {_COMPARED[word]} {self.expr(x.expression, scopes)})"
         if isinstance(x, self.exp.Not) and not isinstance(x.this, (self.exp.In, self.exp.Is)):
             return f"NOT ({self.expr(x.this, scopes)})"
@@ -219,9 +224,9 @@ class _Writer:
             low, high = self.expr(x.args["low"], scopes), self.expr(x.args["high"], scopes)
             of = self.expr(x.this, scopes)
             return f"(({of} >= {low}) AND ({of} <= {high}))"
-        if isinstance(x, self.exp.In) and _given(x, "query"):
-            query = self.query(x.args["query"], scopes)
-            return f"({self.expr(x.this, scopes)} {'= ANY(' if self.dialect == 'Pg' else 'IN ('}{query}))"
+        member = self._membership(x, scopes)
+        if member is not None:
+            return member
         if isinstance(x, self.exp.Exists):
             return f"EXISTS ({self.query(x.this, scopes)})"
         if isinstance(x, (self.exp.Subquery, self.exp.Select)):
@@ -229,6 +234,27 @@ class _Writer:
         if isinstance(x, self.exp.Count) and isinstance(x.this, self.exp.Star):
             return "COUNT(*)"
         return self._reduced(x, scopes, word)
+
+    def _is_quantified(self, x: Any) -> bool:
+        """Whether it is ANY or ALL of something. Older releases of sqlglot take them for functions."""
+        return type(x).__name__ in ("Any", "All") or isinstance(x, self.exp.Anonymous) and str(x.this).upper() in ("ANY", "SOME", "ALL")
+
+    def _membership(self, x: Any, scopes: Scopes) -> Optional[str]:
+        """IN, = ANY and <> ALL, of a query or of values; None where it is no such, or the list has columns in it."""
+        if isinstance(x, self.exp.In):
+            query, listed = _given(x, "query"), x.expressions
+        elif type(x).__name__ in ("EQ", "NEQ") and self._is_quantified(x.expression):
+            right = x.expression.expressions[0] if x.expression.expressions else x.expression.this
+            query, listed = (right, []) if isinstance(right, (self.exp.Subquery, self.exp.Select)) else (None, [right])
+        else:
+            return None
+        read = (self.exp.Column, self.exp.Subquery, self.exp.Select)
+        if query is None and (not listed or any(each.find(*read) is not None for each in listed)):
+            return None
+        begin = f"({self.expr(x.this, scopes)} {'= ANY(' if self.dialect == 'Pg' else 'IN ('}"
+        if query is not None:
+            return f"{begin}{self.query(query, scopes)}))"
+        return f"{begin}{', '.join(self.placeholder() for _ in (listed[:1] if self.dialect == 'Pg' else listed))}))"
 
     def _column(self, x: Any, scopes: Scopes) -> str:
         if x.text("table"):
@@ -246,7 +272,7 @@ class _Writer:
 
     def _reduced(self, x: Any, scopes: Scopes, word: str) -> str:
         """An expression that the grammar lacks, as the columns and subselects in it."""
-        self.notes.add(f"{word} is reduced to its columns")
+        self.notes.add(word + REDUCED)
         found: List[str] = []
         todo: List[Any] = [x]
         while todo:

@@ -10,23 +10,26 @@ from __future__ import annotations
 import collections
 import json
 import threading
-from typing import Any, Callable, Dict, Iterable, Iterator, List, NamedTuple, Optional, Sequence, Tuple, Union
+from typing import Any, Callable, Dict, FrozenSet, Iterable, Iterator, List, NamedTuple, Optional, Sequence, Tuple, Union
 
 from .asking import answers
 from .engines import Engine, KeepsSession, lines
 from .errors import EngineError, HardieflaxError, Refused, SchemaError
 from .explain import as_told, why
 from .expressions import Values, filled, tables_of
-from .guards import Guard
+from .guards import Guard, places_of, values_at_places
 from .queries import Statement
 from .rules import refusal
 from .schema import Schema
-from .sql_types import Bound
+from .sql_types import BigInt, Bound
 from .tables import near
 
 Json = Any
+# The number that a text may bind of its own: the limit of a single value. So it is no mark of a value.
+OWN = 1
+FIRST_MARK = 2
 # Of more values than a SmallInt has numbers, places cannot be told apart.
-MOST_VALUES = 32767
+MOST_VALUES = 32767 - FIRST_MARK
 # A longer shape is not kept: it hardly comes again, and a few thousand such would fill the memory.
 MOST_KEPT = 65536
 # Of more tables, the pairs that may stand together are too many for one document: then each has the tables that it needs.
@@ -35,7 +38,10 @@ _planners_lock = threading.Lock()
 
 
 class Plan(NamedTuple):
-    """What is known of a shape: its text, and which value each placeholder takes: (the number of a value, the number in a list)."""
+    """What is known of a shape: its text, and which value each placeholder takes: (the number of a value, the number in a list).
+
+    The number after the last value's stands for OWN.
+    """
 
     sql: str
     order: Tuple[Tuple[int, Optional[int]], ...]
@@ -45,6 +51,7 @@ class Plan(NamedTuple):
 
     def binds(self, values: Values) -> Tuple[Bound, ...]:
         """The values in the order of their placeholders."""
+        values = (*values, _OWN)
         return tuple(values[at] if element is None else Bound(values[at].type, values[at].wire[element]) for at, element in self.order)
 
 
@@ -67,6 +74,7 @@ class Request(NamedTuple):
 
 
 Outcome = Union[Plan, HardieflaxError]
+_OWN = Bound(BigInt, OWN)
 
 
 class Planner:
@@ -121,15 +129,15 @@ class Planner:
                 groups.setdefault(self._document_key(request), []).append(at)
             except HardieflaxError as error:
                 outcomes[at] = error
-        for key, places in groups.items():
-            for at, outcome in zip(places, self._asked([requests[at] for at in places], key[0], key[1])):
+        for places in groups.values():
+            for at, outcome in zip(places, self._asked([requests[at] for at in places])):
                 outcomes[at] = outcome
                 if not isinstance(outcome, EngineError):
                     self._keep(requests[at], outcome)
         return [outcome for outcome in outcomes if outcome is not None]
 
     def _document_key(self, request: Request) -> Tuple[Any, ...]:
-        """What requests of one document have in common: the command, the guarded tables, and the values of the guard."""
+        """What requests of one document have in common: the guard and its values. HardieflaxError: the request is not asked for."""
         if len(request.values) > MOST_VALUES:
             raise SchemaError(f"the query has more than {MOST_VALUES} values: give many values as a list, by in_")
         tables = tables_of(json.loads(filled(request.query.shape, request.query.values)))
@@ -137,15 +145,14 @@ class Planner:
             if each not in self.schema.names:
                 raise SchemaError(f"the query reads {each}, which is not in the schema{near(each, self.schema.names)}")
         if request.guard is None:
-            return ("build", ())
-        guarded = request.guard.guarded(tables, self.engine)
-        command = request.guard.command(guarded, self.engine)
-        return (command, guarded, request.guard.key, json.dumps([value.wire for value in request.guard.values]))
+            return ()
+        request.guard.look_at(tables)
+        return (request.guard.key, json.dumps([value.wire for value in request.guard.values]))
 
-    def _asked(self, requests: List[Request], command: str, guarded: Tuple[str, ...]) -> Iterator[Outcome]:
+    def _asked(self, requests: List[Request]) -> Iterator[Outcome]:
         """Asks for requests of one document."""
         guard = requests[0].guard
-        asker, trials = _Asker(self, command, guarded, guard), [_Trials(each) for each in requests]
+        asker, trials = _Asker(self, guard), [_Trials(each) for each in requests]
         of_guard = 0 if guard is None else len(guard.values)
         values = [[each.values for each in requests]]
         values += [[trial.values(number) for trial in trials] for number in range(max(each.count for each in trials))]
@@ -194,10 +201,11 @@ class Planner:
 
 
 class _Asker:
-    """Asks an engine for queries by one command."""
+    """Asks an engine for queries, restricted by a guard or not."""
 
-    def __init__(self, planner: Planner, command: str, guarded: Tuple[str, ...], guard: Optional[Guard]) -> None:
-        self.planner, self.command, self.guarded, self.guard = planner, command, guarded, guard
+    def __init__(self, planner: Planner, guard: Optional[Guard]) -> None:
+        self.planner, self.guard = planner, guard
+        self.open = planner.schema.names if guard is None else guard.tables
 
     def ask(self, queries: Sequence[Tuple[str, str]], values: Optional[Values] = None) -> List[Any]:
         """The answer to each query, or the error for it. The guard may have other values than its own."""
@@ -215,29 +223,45 @@ class _Asker:
         body = f'{{"dialect":"{request.dialect}","query":{filled(request.query.shape, request.query.values)}}}'
         document = self._document([body], () if self.guard is None else self.guard.values)
         try:
-            return lines(engine.run(["explain"] if self.command == "build" else ["explain", self.command], document))
+            return lines(engine.run(["explain"] if self.guard is None else ["explain", "tenant"], document))
         except EngineError:  # a refusal is told without it
             return []
 
     def _run(self, requests: Sequence[str], values: Values) -> bytes:
         self.planner.asked += 1
-        engine, schema = self.planner.engine, self.planner.schema
-        is_small = len(schema) <= MOST_TABLES
-        if self.command == "build" and self.guard is None and is_small and isinstance(engine, KeepsSession):
-            return engine.next(schema, schema.document, f'"requests":[{",".join(requests)}]')
-        return engine.run([self.command], self._document(requests, values))
+        engine = self.planner.engine
+        is_small = len(self.open) <= MOST_TABLES
+        if isinstance(engine, KeepsSession) and (is_small if self.guard is None else engine.has_policies()):
+            return self._next(engine, self.open if is_small else self._read(requests), requests, values)
+        return engine.run(["build" if self.guard is None else "tenant"], self._document(requests, values))
+
+    def _next(self, engine: KeepsSession, tables: FrozenSet[str], requests: Sequence[str], values: Values) -> bytes:
+        """Asks in a session over these tables. A session with policies has places for the guard's values, so one serves all tenants."""
+        lengths = tuple(value.length for value in values)
+        owner = (self.planner.schema, tables, None if self.guard is None else (self.guard.key, lengths))
+        given = "" if self.guard is None else f'"values":{json.dumps(values_at_places(values), ensure_ascii=False)},'
+
+        def opening() -> Json:
+            members = self._members(tables, places_of(values))
+            return members if self.guard is None else {**members, "values": values_at_places(values)}
+
+        return engine.next(owner, opening, f'{given}"requests":[{",".join(requests)}]')
 
     def _document(self, requests: Sequence[str], values: Values) -> bytes:
         """A document with these requests, and with what they need of the schema."""
-        schema = self.planner.schema
-        tables = {name for each in requests for name in tables_of(json.loads(each))}
-        known = tables & schema.names | set(self.guarded)
-        if self.guard is not None:  # what is closed is not even declared, so the engine knows nothing of it
-            known &= self.guard.shared | set(self.guarded)
-        members = {"schema": schema.document(known)}
-        if self.guard is not None:
-            members.update(self.guard.member(self.command, self.guarded, tables, values))
+        members = self._members(self._read(requests), values)
         return f'{json.dumps(members, ensure_ascii=False)[:-1]},"requests":[{",".join(requests)}]}}'.encode()
+
+    def _read(self, requests: Sequence[str]) -> FrozenSet[str]:
+        """The tables that requests read, of those that are open."""
+        return self.open & {name for each in requests for name in tables_of(json.loads(each))}
+
+    def _members(self, tables: FrozenSet[str], values: Values) -> Dict[str, Json]:
+        """The members of a document but for its requests. What is closed is not even declared, so the engine knows nothing of it."""
+        members: Dict[str, Json] = {"schema": self.planner.schema.document(tables)}
+        if self.guard is not None:
+            members["tenant"] = self.guard.policies(values, tables)
+        return members
 
 
 def planner_of(schema: Schema, engine: Engine) -> Planner:
@@ -275,8 +299,10 @@ class _Trials:
         made: List[Tuple[int, Optional[int]]] = []
         for place in range(len(answers[0]["binds"])):
             marks = [each["binds"][place] for each in answers[1:1 + self.count]]
-            at, is_whole = _place(marks), isinstance(marks[0][1], list)
-            if is_whole or not self._bounds[at].is_list:
+            at = _place(marks) if marks else OWN - FIRST_MARK
+            if at == OWN - FIRST_MARK:
+                made.append((len(self._bounds), None))
+            elif isinstance(marks[0][1], list) or not self._bounds[at].is_list:
                 made.append((at, None))
             else:
                 made.append((at, seen[at] % len(self._bounds[at].wire)))
@@ -284,8 +310,12 @@ class _Trials:
         return tuple(made)
 
 
+def _number_mark(at: int, number: int) -> int:
+    return at + FIRST_MARK
+
+
 _MARKS: Dict[str, Callable[[int, int], Any]] = {
-    "SmallInt": lambda at, number: at, "Integer": lambda at, number: at, "BigInt": lambda at, number: at,
+    "SmallInt": _number_mark, "Integer": _number_mark, "BigInt": _number_mark,
     "Text": lambda at, number: str(at), "Binary": lambda at, number: f"{at:08x}", "Bool": lambda at, number: bool(at >> number & 1),
 }
 
@@ -296,7 +326,7 @@ def _place(marks: Iterable[Json]) -> int:
     for number, (name, value) in enumerate(marks):
         mark = value[0] if isinstance(value, list) else value
         if not isinstance(mark, bool):
-            return int(mark, 16 if name.startswith("Binary") else 10) if isinstance(mark, str) else int(mark)
+            return int(mark, 16 if name.startswith("Binary") else 10) if isinstance(mark, str) else int(mark) - FIRST_MARK
         at |= mark << number
     return at
 

@@ -42,9 +42,10 @@ RULES: Dict[str, Tuple[str, str]] = {
     "TooManyBinds": ("the text has more than 4294967295 placeholders",
                      "bind fewer values"),
     "BadPredicate": ("the guard's predicate is no condition on the columns of its own table alone",
-                     "write it with that table's own columns and values, without count, subselects and aliases"),
-    "OutOfKind": ("a guarded query has a count, a group_by or a subselect, which the guard does not restrict",
-                  "write it without: join the table in place of a subselect, and count the rows that come back"),
+                     "write it with that table's own columns and values, without count, subselects and aliases, and with no ~ inside a "
+                     "comparison"),
+    "LacksPolicy": ("a guarded query reads a table that has no policy, or two declarations of one table",
+                    "name the table in guards or in shared, and declare it once"),
 }
 
 

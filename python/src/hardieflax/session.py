@@ -7,8 +7,8 @@ import functools
 from typing import Any, Generic, Iterable, Iterator, List, Mapping, Optional, Sequence, Tuple, Type, TypeVar, Union
 
 from .drivers import Driver, driver_of
-from .engines import DIALECTS, Engine, default_engine
-from .errors import EngineError, HardieflaxError, NoRow, Refused, RowError, SchemaError, SeveralRows
+from .engines import DIALECTS, Engine, default_engine, restricts
+from .errors import EngineError, EngineMissing, HardieflaxError, NoRow, Refused, RowError, SchemaError, SeveralRows
 from .expressions import Expr
 from .guards import Guard
 from .outputs import RowReader
@@ -20,6 +20,7 @@ from .tables import Table
 
 R = TypeVar("R")
 A = TypeVar("A")
+T = TypeVar("T", bound=Table)
 
 
 @dataclasses.dataclass(frozen=True)
@@ -60,7 +61,7 @@ class Builder:
     """Builds queries over a schema, in a dialect, restricted by a guard or not: what sessions have in common."""
 
     def __init__(self, schema: Schema, dialect: Optional[str], spoken: Optional[str], engine: Optional[Engine],
-                 guards: Optional[Mapping[Type[Table], Expr[Any]]], shared: Iterable[Type[Table]]) -> None:
+                 guards: Optional[Mapping[Type[T], Expr[Any]]], shared: Iterable[Type[Table]]) -> None:
         found = dialect or spoken
         if found is None:
             raise HardieflaxError(f"a session has a connection, or a dialect: one of {', '.join(DIALECTS)}")
@@ -72,7 +73,10 @@ class Builder:
             raise SchemaError("tables are shared in a guarded session: give guards={..}, which may be empty")
         self.schema, self.dialect = schema, found
         self._guard = None if guards is None else Guard(schema, guards, shared)
-        self._planner = planner_of(schema, engine or default_engine())
+        engine = engine or default_engine()
+        if self._guard is not None and not restricts(engine):
+            raise EngineMissing("this library or program knows no policies, so it answers no guarded session: take one of this package's version")
+        self._planner = planner_of(schema, engine)
 
     @property
     def is_guarded(self) -> bool:
@@ -118,7 +122,7 @@ class Session(Builder):
     """
 
     def __init__(self, schema: Schema, connection: Any = None, *, dialect: Optional[str] = None, engine: Optional[Engine] = None,
-                 guards: Optional[Mapping[Type[Table], Expr[Any]]] = None, shared: Iterable[Type[Table]] = ()) -> None:
+                 guards: Optional[Mapping[Type[T], Expr[Any]]] = None, shared: Iterable[Type[Table]] = ()) -> None:
         self._driver: Optional[Driver] = None if connection is None else driver_of(connection)
         super().__init__(schema, dialect, self._driver.dialect if self._driver else None, engine, guards, shared)
 
