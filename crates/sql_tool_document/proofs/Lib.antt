@@ -1,4 +1,5 @@
 pub mod Bytes
+pub mod Deciding
 pub mod EachItem
 pub mod Filling
 pub mod Keeping

@@ -50,7 +50,7 @@ get_item-depth i no_items n h d is = absurd (let wrong : None ≡ Some d = is in
 get_item-depth zero (item e ds) n h d is = let same : e ≡ d = cc in rw (← same) (omega arith)
 get_item-depth (suc i) (item e ds) n h d is = get_item-depth i ds n (omega arith) d is
 
-at-depth : (i : ℕ) (e : Data) (n : ℕ) → depth e < suc n → Within n (at i e)
+pub at-depth : (i : ℕ) (e : Data) (n : ℕ) → depth e < suc n → Within n (at i e)
 at-depth i null n h d is = absurd (let wrong : None ≡ Some d = is in cc)
 at-depth i (boolean b) n h d is = absurd (let wrong : None ≡ Some d = is in cc)
 at-depth i (number m) n h d is = absurd (let wrong : None ≡ Some d = is in cc)
@@ -78,7 +78,7 @@ two-depth (array (item a (item b no_items))) n p h is =
 two-depth (array (item a (item b (item c ds)))) n p h is = absurd (let wrong : None ≡ Some p = is in cc)
 two-depth (object ms) n p h is = absurd (let wrong : None ≡ Some p = is in cc)
 
-single-depth : (ms : Members) (p : List ℕ × Data) → single ms ≡ Some p → depth p.1 < suc (members_depth ms)
+pub single-depth : (ms : Members) (p : List ℕ × Data) → single ms ≡ Some p → depth p.1 < suc (members_depth ms)
 single-depth no_members p is = absurd (let wrong : None ≡ Some p = is in cc)
 single-depth (member l e no_members) p is = let same : (l, e) ≡ p = cc in rw (← same) (omega arith)
 single-depth (member l e (member j c ms)) p is = absurd (let wrong : None ≡ Some p = is in cc)

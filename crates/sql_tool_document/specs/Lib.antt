@@ -8,6 +8,8 @@ pub mod Texts
 pub mod Places
 pub mod Sessions
 pub mod Trees
+-- What is wanted at the places of a document.
+pub mod Wanted
 pub mod Schemas
 pub mod Queries
 pub mod Scalar

@@ -33,7 +33,7 @@ pub struct Document {
 }
 
 #[tactic(auto, unfolding(crate::specs::Documents::request_of))]
-fn one_request(alloc: Global, value: &Value<'_>) -> Result<Request, Refusal>
+pub(crate) fn one_request(alloc: Global, value: &Value<'_>) -> Result<Request, Refusal>
     ensures { Gives request_tree result (request_of (seen value.now)) }
 {
     let name = text(value, "dialect").ok_or(Refusal::NotADocument)?;
@@ -43,7 +43,7 @@ fn one_request(alloc: Global, value: &Value<'_>) -> Result<Request, Refusal>
     Ok(Request { dialect, query })
 }
 
-fn each_request(alloc: Global, items: &Vec<Value<'_>>) -> Result<Vec<Request>, Refusal>
+pub(crate) fn each_request(alloc: Global, items: &Vec<Value<'_>>) -> Result<Vec<Request>, Refusal>
     ensures { Gives (λ v. map request_tree v.items) result
         (each request_of (items_seen items.now.items)) }
 {

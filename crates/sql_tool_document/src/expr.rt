@@ -19,7 +19,7 @@ use sql_schema::{SqlList, SqlText};
 use std::alloc::Global;
 
 #[tactic(auto, unfolding(crate::specs::Queries::column_name_of))]
-fn column_name(alloc: Global, names: &Value<'_>) -> Result<ColumnName, Refusal>
+pub(crate) fn column_name(alloc: Global, names: &Value<'_>) -> Result<ColumnName, Refusal>
     ensures { Gives (λ c. c) result (column_name_of (seen names.now)) }
 {
     let (table, column) = two(names).ok_or(Refusal::NotADocument)?;
@@ -32,7 +32,7 @@ fn column_name(alloc: Global, names: &Value<'_>) -> Result<ColumnName, Refusal>
 }
 
 #[tactic(auto, unfolding(crate::specs::Queries::field_name_of))]
-fn field_name(alloc: Global, names: &Value<'_>) -> Result<FieldName, Refusal>
+pub(crate) fn field_name(alloc: Global, names: &Value<'_>) -> Result<FieldName, Refusal>
     ensures { Gives (λ f. f) result (field_name_of (seen names.now)) }
 {
     let alias = text_item(names, 0).ok_or(Refusal::NotADocument)?;
@@ -50,7 +50,7 @@ fn field_name(alloc: Global, names: &Value<'_>) -> Result<FieldName, Refusal>
 
 /// A bound value: `["Integer",1]`.
 #[tactic(auto, unfolding(crate::specs::Queries::bind_of), using(sql_build_syntax::proofs::Trees::opens_expr))]
-fn bind(alloc: Global, json: &Value<'_>) -> Result<Expr, Refusal>
+pub(crate) fn bind(alloc: Global, json: &Value<'_>) -> Result<Expr, Refusal>
     ensures { Gives expr_tree result (bind_of (seen json.now)) }
 {
     let (type_name, json) = two(json).ok_or(Refusal::NotADocument)?;
@@ -62,7 +62,7 @@ fn bind(alloc: Global, json: &Value<'_>) -> Result<Expr, Refusal>
 
 /// Values of one type: `["Integer",[1,2]]`.
 #[tactic(auto, unfolding(crate::specs::Queries::values_of), using(sql_build_syntax::proofs::Trees::opens_membership))]
-fn values(alloc: Global, json: &Value<'_>) -> Result<Membership, Refusal>
+pub(crate) fn values(alloc: Global, json: &Value<'_>) -> Result<Membership, Refusal>
     ensures { Gives membership_tree result (values_of (seen json.now)) }
 {
     let (type_name, items) = two(json).ok_or(Refusal::NotADocument)?;
@@ -162,7 +162,7 @@ fn operation(alloc: Global, name: &str, value: &Value<'_>, depth: u32) -> Result
 
 #[cycle(decode)]
 #[tactic(auto, unfolding(crate::specs::Queries::binary_expr), using(sql_build_syntax::proofs::Trees::opens_expr))]
-fn binary(
+pub(crate) fn binary(
     alloc: Global,
     operator: BinaryOperator,
     value: &Value<'_>,
@@ -178,7 +178,7 @@ fn binary(
 
 #[cycle(decode)]
 #[tactic(auto, unfolding(crate::specs::Queries::quantified_expr), using(sql_build_syntax::proofs::Trees::opens_expr))]
-fn quantified(
+pub(crate) fn quantified(
     alloc: Global,
     operator: Quantified,
     value: &Value<'_>,
@@ -195,7 +195,11 @@ fn quantified(
 
 #[cycle(decode)]
 #[tactic(auto, unfolding(crate::specs::Queries::membership_of), using(sql_build_syntax::proofs::Trees::opens_membership))]
-fn membership(alloc: Global, value: &Value<'_>, depth: u32) -> Result<Membership, Refusal>
+pub(crate) fn membership(
+    alloc: Global,
+    value: &Value<'_>,
+    depth: u32,
+) -> Result<Membership, Refusal>
     ensures { Gives membership_tree result (membership_of (query_of depth) (seen value.now)) }
 {
     match get(value, "list") {

@@ -30,7 +30,7 @@ pub struct Guarded {
 }
 
 #[tactic(auto, unfolding(crate::specs::Guards::guard_of))]
-fn guard_in(alloc: Global, value: &Value<'_>) -> Result<Guard, Refusal>
+pub(crate) fn guard_in(alloc: Global, value: &Value<'_>) -> Result<Guard, Refusal>
     ensures { Gives guard_tree result (guard_of (seen value.now)) }
 {
     let name = text(value, "table").ok_or(Refusal::NotADocument)?;
@@ -41,7 +41,7 @@ fn guard_in(alloc: Global, value: &Value<'_>) -> Result<Guard, Refusal>
 }
 
 #[tactic(auto, unfolding(crate::specs::Guards::guarded_of))]
-fn whole_guarded(alloc: Global, value: &Value<'_>) -> Result<Guarded, Refusal>
+pub(crate) fn whole_guarded(alloc: Global, value: &Value<'_>) -> Result<Guarded, Refusal>
     ensures { Gives guarded_tree result (guarded_of (seen value.now)) }
 {
     let asked = get(value, "guard").ok_or(Refusal::NotADocument)?;

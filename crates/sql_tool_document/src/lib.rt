@@ -28,13 +28,21 @@ mod session;
 mod source;
 mod texts;
 mod value;
+mod wanted;
 mod whole;
 
 pub use document::{Document, Request, read_document, read_schema};
 pub use guard::{Guard, Guarded, read_guarded};
-pub use names::{dialect, dialect_name, type_name};
+pub use look::{as_array, as_str, at, get};
+pub use member::{has, only_member, text_item};
+pub use names::{
+    binary_operator, clause_call, combination, dialect, dialect_name, direction, join_kind,
+    plain_call, quantified_operator, sql_type, type_name, unary_operator,
+};
 pub use policy::{NamedPolicy, Policed, read_policed};
 pub use query::depth_changes_nothing;
+pub use reading::{json, parsed};
 pub use refusal::Refusal;
 pub use session::{Call, Opening, Template, read_call, read_opening};
 pub use texts::{Texts, read_texts};
+pub use wanted::{Wanted, has_form, is_call_name};

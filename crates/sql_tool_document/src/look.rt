@@ -8,20 +8,20 @@ use crate::number::{Whole, whole_number};
 use json::Value;
 
 /// The member of that name, where the value is an object. Of a name that comes twice it is the last.
-pub(crate) fn get<'v, 'a>(value: &'v Value<'a>, name: &str) -> Option<&'v Value<'a>>
+pub fn get<'v, 'a>(value: &'v Value<'a>, name: &str) -> Option<&'v Value<'a>>
     ensures { option_map (λ v. seen v.now) result ≡ find.get name.now (seen value.now) }
 {
     value.get(name)
 }
 
 /// The item at that place, where the value is an array.
-pub(crate) fn at<'v, 'a>(value: &'v Value<'a>, place: usize) -> Option<&'v Value<'a>>
+pub fn at<'v, 'a>(value: &'v Value<'a>, place: usize) -> Option<&'v Value<'a>>
     ensures { option_map (λ v. seen v.now) result ≡ find.at place (seen value.now) }
 {
     value.at(place)
 }
 
-pub(crate) fn as_str<'a>(value: &Value<'a>) -> Option<&'a str>
+pub fn as_str<'a>(value: &Value<'a>) -> Option<&'a str>
     ensures { option_map (λ s. s.now) result ≡ find.as_str (seen value.now) }
 {
     value.as_str()
@@ -40,7 +40,7 @@ pub(crate) fn is_null(value: &Value<'_>) -> bool
 }
 
 /// The items, where the value is an array.
-pub(crate) fn as_array<'v, 'a>(value: &'v Value<'a>) -> Option<&'v Vec<Value<'a>>>
+pub fn as_array<'v, 'a>(value: &'v Value<'a>) -> Option<&'v Vec<Value<'a>>>
     ensures { option_map (λ v. items_seen v.now.items) result ≡ find.as_array (seen value.now) }
 {
     match value {

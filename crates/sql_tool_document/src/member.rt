@@ -35,7 +35,7 @@ pub(crate) fn items<'v, 'a>(value: &'v Value<'a>, name: &str) -> Option<&'v Vec<
 }
 
 /// Whether there is such a member.
-pub(crate) fn has(value: &Value<'_>, name: &str) -> bool
+pub fn has(value: &Value<'_>, name: &str) -> bool
     ensures { result ≡ has_member name.now (seen value.now) }
 {
     get(value, name).is_some()
@@ -60,7 +60,7 @@ pub(crate) fn only_entry<'v, 'a>(
 }
 
 /// The name and the value of the member of an object of one.
-pub(crate) fn only_member<'v, 'a>(value: &'v Value<'a>) -> Option<(&'a str, &'v Value<'a>)>
+pub fn only_member<'v, 'a>(value: &'v Value<'a>) -> Option<(&'a str, &'v Value<'a>)>
     ensures { option_map (λ p. (p.0.now, seen p.1.now)) result ≡ sole_member (seen value.now) }
 {
     match value {
@@ -83,7 +83,7 @@ pub(crate) fn two<'v, 'a>(value: &'v Value<'a>) -> Option<(&'v Value<'a>, &'v Va
 }
 
 /// An item that is a text.
-pub(crate) fn text_item<'a>(value: &Value<'a>, place: usize) -> Option<&'a str>
+pub fn text_item<'a>(value: &Value<'a>, place: usize) -> Option<&'a str>
     ensures { option_map (λ s. s.now) result ≡ option_and_then find.as_str (find.at place (seen value.now)) }
 {
     as_str(at(value, place)?)

@@ -71,7 +71,7 @@ fn nullable(base: Base) -> Option<SqlType>
 }
 
 #[tactic(auto, unfolding(crate::specs::Names::type_of))]
-pub(crate) fn sql_type(name: &str) -> Option<SqlType>
+pub fn sql_type(name: &str) -> Option<SqlType>
     ensures { result ≡ type_of name.now }
 {
     match name {
@@ -92,7 +92,7 @@ pub(crate) fn sql_type(name: &str) -> Option<SqlType>
 }
 
 #[tactic(auto, unfolding(crate::specs::Names::unary_of))]
-pub(crate) fn unary_operator(name: &str) -> Option<UnaryOperator>
+pub fn unary_operator(name: &str) -> Option<UnaryOperator>
     ensures { result ≡ unary_of name.now }
 {
     match name {
@@ -106,7 +106,7 @@ pub(crate) fn unary_operator(name: &str) -> Option<UnaryOperator>
 }
 
 #[tactic(auto, unfolding(crate::specs::Names::binary_of))]
-pub(crate) fn binary_operator(name: &str) -> Option<BinaryOperator>
+pub fn binary_operator(name: &str) -> Option<BinaryOperator>
     ensures { result ≡ binary_of name.now }
 {
     match name {
@@ -123,7 +123,7 @@ pub(crate) fn binary_operator(name: &str) -> Option<BinaryOperator>
 }
 
 #[tactic(auto, unfolding(crate::specs::Names::quantified_of))]
-pub(crate) fn quantified_operator(name: &str) -> Option<Quantified>
+pub fn quantified_operator(name: &str) -> Option<Quantified>
     ensures { result ≡ quantified_of name.now }
 {
     match name {
@@ -156,7 +156,7 @@ pub(crate) fn sample_method(name: &str) -> Option<TablesampleMethod>
 }
 
 #[tactic(auto, unfolding(crate::specs::Names::direction_of))]
-pub(crate) fn direction(name: &str) -> Option<Direction>
+pub fn direction(name: &str) -> Option<Direction>
     ensures { result ≡ direction_of name.now }
 {
     match name {
@@ -167,7 +167,7 @@ pub(crate) fn direction(name: &str) -> Option<Direction>
 }
 
 #[tactic(auto, unfolding(crate::specs::Names::plain_of))]
-pub(crate) fn plain_call(name: &str) -> Option<PlainCall>
+pub fn plain_call(name: &str) -> Option<PlainCall>
     ensures { result ≡ plain_of name.now }
 {
     match name {
@@ -185,7 +185,7 @@ pub(crate) fn plain_call(name: &str) -> Option<PlainCall>
 }
 
 #[tactic(auto, unfolding(crate::specs::Names::clause_of))]
-pub(crate) fn clause_call(name: &str) -> Option<ClauseCall>
+pub fn clause_call(name: &str) -> Option<ClauseCall>
     ensures { result ≡ clause_of name.now }
 {
     match name {
@@ -200,7 +200,7 @@ pub(crate) fn clause_call(name: &str) -> Option<ClauseCall>
 }
 
 #[tactic(auto, unfolding(crate::specs::Names::join_of))]
-pub(crate) fn join_kind(name: &str) -> Option<JoinKind>
+pub fn join_kind(name: &str) -> Option<JoinKind>
     ensures { result ≡ join_of name.now }
 {
     match name {
@@ -212,7 +212,7 @@ pub(crate) fn join_kind(name: &str) -> Option<JoinKind>
 }
 
 #[tactic(auto, unfolding(crate::specs::Names::combination_of))]
-pub(crate) fn combination(name: &str) -> Option<(Combinator, DuplicateRule)>
+pub fn combination(name: &str) -> Option<(Combinator, DuplicateRule)>
     ensures { result ≡ combination_of name.now }
 {
     match name {

@@ -29,7 +29,7 @@ fn after_direction<'v, 'a>(value: &'v Value<'a>) -> Option<(Direction, &'v Value
 
 #[cycle(decode)]
 #[tactic(auto, unfolding(crate::specs::Queries::item_of), using(sql_build_syntax::proofs::Trees::opens_order_item))]
-fn item(alloc: Global, value: &Value<'_>, depth: u32) -> Result<OrderItem, Refusal>
+pub(crate) fn item(alloc: Global, value: &Value<'_>, depth: u32) -> Result<OrderItem, Refusal>
     ensures { Gives order_item_tree result (item_of (expr_of depth) (seen value.now)) }
 {
     match after_direction(value) {

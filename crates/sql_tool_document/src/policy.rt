@@ -43,7 +43,7 @@ fn predicate(alloc: Global, value: Option<&Value<'_>>) -> Result<Option<Expr>, R
 }
 
 #[tactic(auto, unfolding(crate::specs::Policies::policy_of))]
-fn one_policy(alloc: Global, value: &Value<'_>) -> Result<NamedPolicy, Refusal>
+pub(crate) fn one_policy(alloc: Global, value: &Value<'_>) -> Result<NamedPolicy, Refusal>
     ensures { Gives named_policy_tree result (policy_of (seen value.now)) }
 {
     let name = text(value, "table").ok_or(Refusal::NotADocument)?;
@@ -67,7 +67,7 @@ pub(crate) fn each_policy(
 }
 
 #[tactic(auto, unfolding(crate::specs::Policies::policed_of))]
-fn whole_policed(alloc: Global, value: &Value<'_>) -> Result<Policed, Refusal>
+pub(crate) fn whole_policed(alloc: Global, value: &Value<'_>) -> Result<Policed, Refusal>
     ensures { Gives policed_tree result (policed_of (seen value.now)) }
 {
     let named = items(value, "tenant").ok_or(Refusal::NotADocument)?;

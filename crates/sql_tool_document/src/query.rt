@@ -19,7 +19,7 @@ use sql_schema::SqlList;
 use std::alloc::Global;
 
 /// More than the deepest value that `serde_json` reads.
-const NESTING_BOUND: u32 = 128;
+pub(crate) const NESTING_BOUND: u32 = 128;
 
 #[cycle(decode)]
 #[tactic(auto, unfolding(crate::specs::Queries::query_of), using(sql_build_syntax::proofs::Trees::opens_query))]
@@ -69,7 +69,11 @@ fn start(
 }
 
 #[cycle(decode)]
-fn calls(alloc: Global, value: Option<&Value<'_>>, depth: u32) -> Result<Vec<Call>, Refusal>
+pub(crate) fn calls(
+    alloc: Global,
+    value: Option<&Value<'_>>,
+    depth: u32,
+) -> Result<Vec<Call>, Refusal>
     ensures { Gives (λ v. map call_tree v.items) result
         (each_if_any (call_of depth) (option_map (λ v. seen v.now) value.entry)) }
 {

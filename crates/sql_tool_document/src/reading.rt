@@ -18,7 +18,7 @@ use std::str;
 const MAX_DEPTH: usize = 127;
 
 /// The JSON value that a text is, nested at most 127 deep, its texts borrowed.
-pub(crate) fn parsed<'a>(
+pub fn parsed<'a>(
     alloc: Global,
     text: &'a str,
     scratch: &'a mut Scratch,
@@ -53,7 +53,7 @@ fn are_whole(alloc: Global, bytes: &[u8]) -> Result<(), Refusal>
 }
 
 /// The JSON value that the bytes are, where its numbers all are whole. Its texts are borrowed from the bytes, or from `scratch`.
-pub(crate) fn json<'a>(
+pub fn json<'a>(
     alloc: Global,
     bytes: &'a [u8],
     scratch: &'a mut Scratch,

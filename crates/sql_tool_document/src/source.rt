@@ -41,7 +41,7 @@ fn seed(value: Option<&Value<'_>>) -> Option<Option<i32>>
 
 /// A sample: `["system",10]` or `["system",10,42]`.
 #[tactic(auto, unfolding(crate::specs::Queries::sample_of))]
-fn sample(value: &Value<'_>) -> Option<Tablesample>
+pub(crate) fn sample(value: &Value<'_>) -> Option<Tablesample>
     ensures { result ≡ sample_of (seen value.now) }
 {
     let method = sample_method(text_item(value, 0)?)?;
@@ -128,7 +128,7 @@ pub(crate) fn source_item(
 
 #[cycle(decode)]
 #[tactic(auto, unfolding(crate::specs::Queries::join_source_of), using(sql_build_syntax::proofs::Trees::opens_join))]
-fn join(
+pub(crate) fn join(
     alloc: Global,
     sides: &Value<'_>,
     on: Option<&Value<'_>>,

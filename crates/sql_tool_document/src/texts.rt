@@ -22,7 +22,7 @@ pub struct Texts {
 }
 
 #[tactic(auto, unfolding(crate::specs::Texts::texts_of))]
-fn whole_texts(alloc: Global, value: &Value<'_>) -> Result<Texts, Refusal>
+pub(crate) fn whole_texts(alloc: Global, value: &Value<'_>) -> Result<Texts, Refusal>
     ensures { Gives texts_tree result (texts_of (seen value.now)) }
 {
     let declarations = get(value, "schema").ok_or(Refusal::NotADocument)?;

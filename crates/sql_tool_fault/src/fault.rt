@@ -1,0 +1,120 @@
+ghost use Rattle.std.specs.Prelude.{◌≡◌, IfOk, List, MatchOption, None, false, string_bytes, true, ℕ};
+ghost use Rattle.serde_json.specs.View.{view};
+ghost use Rattle.sql_tool_document.specs.Documents.{value_in};
+ghost use Rattle.sql_tool_fault.specs.Faults.{IsFaultLine, IsFaultObject, IsNoValue, IsOfByte, IsOfPlace, is_input};
+ghost use Rattle.sql_tool_place.specs.Steps.{pointer_text};
+ghost use Rattle.sql_tool_place.specs.inside.Texts.{steps_of};
+
+use crate::bytes::{says_of_bytes, says_of_text};
+use crate::found::found;
+use crate::number::fraction;
+use crate::object::{byte_object, line_of, place_object};
+use crate::offset::offset_of;
+use crate::words::says;
+use json::{Error, Scratch, Value};
+use serde_json::Value as Json;
+use sql_tool_document::{Refusal, Wanted, json, parsed};
+use sql_tool_form::{Wrong, wrong_place};
+use sql_tool_place::{Step, pointer, position_at};
+use std::alloc::{AllocError, Global};
+use std::str;
+
+/// The object of the value at a place.
+fn object_at(alloc: Global, text: &str, steps: &[Step<'_>], says: &str) -> Result<Json, AllocError>
+    ensures { IfOk result (λ v. IsOfPlace text.now (pointer_text (steps_of steps.now)) (view v)) }
+{
+    let at = pointer(alloc, steps)?;
+    let offset = offset_of(alloc, text, steps)?;
+    let position = position_at(text.as_bytes(), offset);
+    place_object(alloc, at.as_str(), position, says)
+}
+
+/// The object of a text with a number that is not whole.
+fn fraction_object(alloc: Global, text: &str, value: &Value<'_>) -> Result<Json, AllocError>
+    ensures { IfOk result (λ v. (at : List ℕ) × IsOfPlace text.now at (view v)) }
+{
+    let (steps, number) = fraction(alloc, value)?;
+    let digits = match number {
+        Some(number) => found(alloc, number)?,
+        None => String::from_str(alloc, "a number")?,
+    };
+    let says = format!(in alloc;
+        "a whole number of 64 bits wanted, {digits} found; no number in a document has a fraction or an exponent, in ignored members too"
+    )?;
+    object_at(alloc, text, steps.as_slice(), says.as_str())
+}
+
+/// The object of a text that is no JSON.
+fn no_json_object(alloc: Global, text: &str) -> Result<Json, AllocError>
+    ensures { IfOk result (λ v. IsOfByte text.now (view v)) }
+{
+    let (offset, says) = says_of_text(alloc, text)?;
+    byte_object(alloc, position_at(text.as_bytes(), offset), says)
+}
+
+/// The object of a text that is no JSON, or that has a number that is not whole.
+fn no_value_of_text(alloc: Global, text: &str) -> Result<Json, AllocError>
+    requires { value_in text.now ≡ None }
+    ensures { IfOk result (λ v. IsNoValue text.now (view v)) }
+{
+    let mut scratch = Scratch::new(alloc);
+    match parsed(alloc, text, &mut scratch) {
+        Ok(value) => fraction_object(alloc, text, &value),
+        Err(Error::Invalid) => no_json_object(alloc, text),
+        Err(Error::OutOfMemory) => Err(AllocError),
+        Err(Error::TooLong | Error::DuplicateKey) => unreachable!(),
+    }
+}
+
+/// The object of bytes that are no UTF-8 or no JSON, or have a number that is not whole.
+fn no_value_object(alloc: Global, bytes: &[u8]) -> Result<Json, AllocError>
+    requires { value_in bytes.now ≡ None }
+    ensures { IfOk result (λ v. IsNoValue bytes.now (view v)) }
+{
+    match str::from_utf8(bytes) {
+        Ok(text) => no_value_of_text(alloc, text),
+        Err(error) => {
+            let position = position_at(bytes, error.valid_up_to());
+            byte_object(alloc, position, says_of_bytes(bytes))
+        }
+    }
+}
+
+/// The object of a value that is wrong at its place.
+fn wrong_object(alloc: Global, text: &str, wrong: &Wrong<'_, '_>) -> Result<Json, AllocError>
+    ensures { IfOk result (λ v. IsOfPlace text.now
+        (pointer_text (steps_of wrong.now.steps.items)) (view v)) }
+{
+    let says = says(alloc, wrong)?;
+    object_at(alloc, text, wrong.steps.as_slice(), says.as_str())
+}
+
+/// The object of what is wrong with the bytes, where they are not what is wanted.
+fn fault_object(alloc: Global, wanted: Wanted, bytes: &[u8]) -> Result<Option<Json>, AllocError>
+    ensures { IfOk result (λ o. MatchOption o (is_input wanted bytes.now ≡ true)
+        (λ v. (is_input wanted bytes.now ≡ false) × IsFaultObject wanted bytes.now (view v))) }
+{
+    let mut scratch = Scratch::new(alloc);
+    let value = match json(alloc, bytes, &mut scratch) {
+        Ok(value) => value,
+        Err(Refusal::NotADocument) => return Ok(Some(no_value_object(alloc, bytes)?)),
+        Err(Refusal::NoMemory) => return Err(AllocError),
+    };
+    match (wrong_place(alloc, wanted, &value)?, str::from_utf8(bytes)) {
+        (Some(wrong), Ok(text)) => Ok(Some(wrong_object(alloc, text, &wrong)?)),
+        _ => Ok(None),
+    }
+}
+
+/// Returns the line that says where and why an input is not what is wanted, as
+/// `{"at":"/requests/0/dialect","column":15,"line":5,"says":".."}`. None where it is what is wanted. Or out of memory.
+pub fn fault_line(alloc: Global, wanted: Wanted, bytes: &[u8]) -> Result<Option<String>, AllocError>
+    ensures { IfOk result (λ o. MatchOption o (is_input wanted bytes.now ≡ true)
+        (λ line. (is_input wanted bytes.now ≡ false)
+        × IsFaultLine wanted bytes.now (string_bytes line))) }
+{
+    match fault_object(alloc, wanted, bytes)? {
+        Some(object) => Ok(Some(line_of(alloc, &object)?)),
+        None => Ok(None),
+    }
+}

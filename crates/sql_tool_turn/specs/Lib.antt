@@ -1,0 +1,2 @@
+-- The call by which a query comes to break a rule.
+pub mod Turn

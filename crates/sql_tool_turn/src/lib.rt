@@ -1,0 +1,7 @@
+//! The call by which a query comes to break a rule: with the calls before it alone the query does not, and with it it does.
+#![tactic(auto)]
+
+mod breaking;
+mod turn;
+
+pub use turn::turn;
