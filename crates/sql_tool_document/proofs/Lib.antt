@@ -2,6 +2,7 @@ pub mod Bytes
 pub mod Deciding
 pub mod EachItem
 pub mod Filling
+pub mod First
 pub mod Keeping
 pub mod Pairs
 pub mod Nesting

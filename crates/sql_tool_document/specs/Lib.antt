@@ -11,6 +11,8 @@ pub mod Trees
 -- What is wanted at the places of a document.
 pub mod Wanted
 pub mod Schemas
+-- Declarations that cannot stand together.
+pub mod Clashes
 pub mod Queries
 pub mod Scalar
 pub mod Names

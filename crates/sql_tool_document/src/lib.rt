@@ -8,6 +8,7 @@
 #![tactic(auto)]
 
 mod call;
+mod clash;
 mod document;
 mod each;
 mod expr;
@@ -31,6 +32,7 @@ mod value;
 mod wanted;
 mod whole;
 
+pub use clash::{Before, refusal_before};
 pub use document::{Document, Request, read_document, read_schema};
 pub use guard::{Guard, Guarded, read_guarded};
 pub use look::{as_array, as_str, at, get};

@@ -151,7 +151,7 @@ fn declare_together(
     Ok(())
 }
 
-fn declared(
+pub(crate) fn declared(
     alloc: Global,
     tables: Vec<TableDecl>,
     joinables: &[JoinableDecl],
