@@ -4,12 +4,16 @@ use Rattle.std.specs.Str.{is_utf8, IsValidUpTo}
 use Rattle.serde_json.specs.Data.{Data, Members, unsigned, number, string, object, no_members, member}
 use Rattle.serde_json.specs.Read.{read}
 use Rattle.serde_json.specs.Written.{compact_text, has_float}
+use Rattle.sql_tool_document.specs.Clashes.{Clashes}
 use Rattle.sql_tool_document.specs.Documents.{value_in}
 use Rattle.sql_tool_document.specs.Wanted.{has_form}
+use Rattle.sql_tool_document.specs.declared.clash.Before.{Before}
+use Rattle.sql_tool_document.specs.declared.clash.Before.TheVariants.{Table, Joinable, Pair}
 use Rattle.sql_tool_document.specs.declared.wanted.Wanted.{Wanted}
+use Rattle.sql_tool_document.specs.declared.wanted.Wanted.TheVariants.{Schema}
 use Rattle.sql_tool_form.specs.Places.{IsWrongAt}
 use Rattle.sql_tool_place.specs.Positions.{column_after, line_after}
-use Rattle.sql_tool_place.specs.Steps.{Step, pointer_text}
+use Rattle.sql_tool_place.specs.Steps.{Step, key, index, pointer_text}
 use Rattle.sql_tool_place.specs.declared.position.Position.{Position}
 
 abbrev pub has_form_if_any : Wanted → Option Data → Bool
@@ -53,6 +57,17 @@ HasFraction bytes = (d : Data) × (is_utf8 bytes ≡ true) × (read bytes ≡ So
 abbrev pub IsWrongIn : Wanted → List ℕ → List Step → Type 0
 IsWrongIn w bytes steps = (d e : Data) × (v : Wanted) × (value_in bytes ≡ Some d) × IsWrongAt w d steps v e
 
+-- the steps from a schema to one of its declarations
+abbrev pub declaration_steps : Before → List Step
+declaration_steps (Table n) = key (codes "tables") ∷ index n ∷ []
+declaration_steps (Joinable n) = key (codes "joinable") ∷ index n ∷ []
+declaration_steps (Pair n) = key (codes "together") ∷ index n ∷ []
+
+-- The bytes are a value in which the steps lead to a schema each of whose parts has its form, and this is the first of its declarations that
+-- cannot stand with those before it.
+abbrev pub HasClash : Wanted → List ℕ → List Step → Before → Type 0
+HasClash w bytes steps b = (d e : Data) × (value_in bytes ≡ Some d) × IsWrongAt w d steps Schema e × Clashes b e
+
 -- The object is of the byte at some offset, or of the value at a pointer that begins there. What it says of it is free.
 abbrev pub IsOfByte : List ℕ → Data → Type 0
 IsOfByte bytes o = (n : ℕ) × (says : List ℕ) × (o ≡ byte_data (position_of (take n bytes)) says)
@@ -78,8 +93,14 @@ IsNoValue bytes o =
 abbrev pub IsWrongPlace : Wanted → List ℕ → Data → Type 0
 IsWrongPlace w bytes o = (steps : List Step) × IsWrongIn w bytes steps × IsOfPlace bytes (pointer_text steps) o
 
+-- What the object says of a declaration is so: the steps of its pointer lead to one that cannot stand with those before it.
+abbrev pub IsClashPlace : Wanted → List ℕ → Data → Type 0
+IsClashPlace w bytes o =
+    (steps : List Step) × (b : Before)
+    × HasClash w bytes steps b × IsOfPlace bytes (pointer_text (steps ++ declaration_steps b)) o
+
 abbrev pub IsFaultObject : Wanted → List ℕ → Data → Type 0
-IsFaultObject w bytes o = IsNoValue bytes o ⊎ IsWrongPlace w bytes o
+IsFaultObject w bytes o = IsNoValue bytes o ⊎ (IsWrongPlace w bytes o ⊎ IsClashPlace w bytes o)
 
 -- compact JSON, and a newline
 abbrev pub IsFaultLine : Wanted → List ℕ → List ℕ → Type 0

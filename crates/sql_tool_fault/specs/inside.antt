@@ -1,1 +1,4 @@
+pub mod Lists
+pub mod Members
 pub mod Names
+pub mod Placed

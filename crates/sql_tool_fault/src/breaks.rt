@@ -1,6 +1,6 @@
 //! Where bytes stop being JSON.
 
-use json::{Reader, Scratch, Token};
+use json::{Reader, Scratch, Token, Value};
 use std::alloc::{AllocError, Global};
 
 /// Why bytes are no JSON that nests at most 127 deep, from an offset on.
@@ -22,6 +22,8 @@ pub enum Break {
     /// The value has ended before.
     Trailing,
     TooDeep,
+    /// A number that is larger than any float.
+    TooLarge,
 }
 
 /// How deep arrays and objects may nest.
@@ -80,6 +82,15 @@ fn odd(text: &str, offset: usize) -> Break {
     }
 }
 
+/// Whether a number is larger than any float.
+fn is_too_large(digits: &str) -> bool {
+    let number: Value<'_> = Value::Number(digits);
+    match number.as_f64() {
+        Some(float) => !float.is_finite(),
+        None => false,
+    }
+}
+
 /// Takes a token in, and says what is wrong with it. A value is done where the list of what is open is empty after it.
 fn take(open: &mut Open, token: Token<'_>, after_key: bool) -> Result<Option<Break>, AllocError> {
     let wants_key = open.is_in_object() && !after_key;
@@ -93,6 +104,7 @@ fn take(open: &mut Open, token: Token<'_>, after_key: bool) -> Result<Option<Bre
         _ if wants_key => Ok(Some(Break::KeyWanted)),
         Token::BeginObject => open.open(true),
         Token::BeginArray => open.open(false),
+        Token::Number(digits) if is_too_large(digits) => Ok(Some(Break::TooLarge)),
         Token::String(_) | Token::Number(_) | Token::Bool(_) | Token::Null => Ok(None),
     }
 }

@@ -32,6 +32,9 @@ fn break_says(bytes: &[u8], offset: usize, found: Break) -> &'static str {
         Break::NoKeyWanted => "a colon follows this text, which is no member's name here",
         Break::OtherBracket => "what is open here is closed by the other bracket",
         Break::Trailing => "the document has ended before this: one run reads one document",
+        Break::TooLarge => {
+            "this number is too large; no number in a document has a fraction, an exponent or more than 64 bits, in ignored members too"
+        }
         Break::TooDeep => "arrays and objects nest deeper than 127 here",
     }
 }

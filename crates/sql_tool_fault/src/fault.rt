@@ -1,19 +1,23 @@
-ghost use Rattle.std.specs.Prelude.{◌≡◌, IfOk, List, MatchOption, None, false, string_bytes, true, ℕ};
+ghost use Rattle.std.specs.Prelude.{◌≡◌, ◌++◌, IfOk, IfSome, List, MatchOption, None, false, string_bytes, true, ℕ};
 ghost use Rattle.serde_json.specs.View.{view};
 ghost use Rattle.sql_tool_document.specs.Documents.{value_in};
-ghost use Rattle.sql_tool_fault.specs.Faults.{IsFaultLine, IsFaultObject, IsNoValue, IsOfByte, IsOfPlace, is_input};
+ghost use Rattle.sql_tool_document.specs.Clashes.{Clashes};
+ghost use Rattle.sql_tool_document.specs.inside.Seen.{seen};
+ghost use Rattle.sql_tool_fault.specs.Faults.{IsFaultLine, IsFaultObject, IsNoValue, IsOfByte, IsOfPlace, declaration_steps, is_input};
+ghost use Rattle.sql_tool_fault.specs.inside.Placed.{IsOfWrong};
 ghost use Rattle.sql_tool_place.specs.Steps.{pointer_text};
 ghost use Rattle.sql_tool_place.specs.inside.Texts.{steps_of};
 
 use crate::bytes::{says_of_bytes, says_of_text};
-use crate::found::found;
+use crate::clash::{clash, says_of_clash, steps_to};
+use crate::found::shortened;
 use crate::number::fraction;
 use crate::object::{byte_object, line_of, place_object};
 use crate::offset::offset_of;
 use crate::words::says;
 use json::{Error, Scratch, Value};
 use serde_json::Value as Json;
-use sql_tool_document::{Refusal, Wanted, json, parsed};
+use sql_tool_document::{Before, Refusal, Wanted, json, parsed};
 use sql_tool_form::{Wrong, wrong_place};
 use sql_tool_place::{Step, pointer, position_at};
 use std::alloc::{AllocError, Global};
@@ -35,11 +39,11 @@ fn fraction_object(alloc: Global, text: &str, value: &Value<'_>) -> Result<Json,
 {
     let (steps, number) = fraction(alloc, value)?;
     let digits = match number {
-        Some(number) => found(alloc, number)?,
-        None => String::from_str(alloc, "a number")?,
+        Some(Value::Number(digits)) => shortened(alloc, *digits)?,
+        _ => String::from_str(alloc, "this")?,
     };
     let says = format!(in alloc;
-        "a whole number of 64 bits wanted, {digits} found; no number in a document has a fraction or an exponent, in ignored members too"
+        "{digits} is no whole number of 64 bits; no number in a document has a fraction or an exponent, in ignored members too"
     )?;
     object_at(alloc, text, steps.as_slice(), says.as_str())
 }
@@ -80,13 +84,45 @@ fn no_value_object(alloc: Global, bytes: &[u8]) -> Result<Json, AllocError>
     }
 }
 
+/// The object of a declaration that cannot stand with those before it, in a schema at a place.
+fn clash_object(
+    alloc: Global,
+    text: &str,
+    schema: &Wrong<'_, '_>,
+    declaration: Before,
+) -> Result<Json, AllocError>
+    ensures { IfOk result (λ v. IsOfPlace text.now
+        (pointer_text (steps_of schema.now.steps.items ++ declaration_steps declaration))
+        (view v)) }
+{
+    let mut steps = Vec::from_slice(alloc, schema.steps.as_slice())?;
+    steps.extend_from_slice(&steps_to(declaration))?;
+    let says = says_of_clash(alloc, schema.value, declaration)?;
+    object_at(alloc, text, steps.as_slice(), says)
+}
+
+/// The declaration that cannot stand with those before it, where a schema is wrong.
+fn clash_of(alloc: Global, wrong: &Wrong<'_, '_>) -> Result<Option<Before>, AllocError>
+    ensures { IfOk result (λ o. IfSome o
+        (λ b. (wrong.now.wanted ≡ Wanted.Schema) × Clashes b (seen wrong.now.value.now))) }
+{
+    match wrong.wanted {
+        Wanted::Schema => clash(alloc, wrong.value),
+        _ => Ok(None),
+    }
+}
+
 /// The object of a value that is wrong at its place.
 fn wrong_object(alloc: Global, text: &str, wrong: &Wrong<'_, '_>) -> Result<Json, AllocError>
-    ensures { IfOk result (λ v. IsOfPlace text.now
-        (pointer_text (steps_of wrong.now.steps.items)) (view v)) }
+    ensures { IfOk result (λ v. IsOfWrong text.now wrong.now (view v)) }
 {
-    let says = says(alloc, wrong)?;
-    object_at(alloc, text, wrong.steps.as_slice(), says.as_str())
+    match clash_of(alloc, wrong)? {
+        Some(declaration) => clash_object(alloc, text, wrong, declaration),
+        None => {
+            let says = says(alloc, wrong)?;
+            object_at(alloc, text, wrong.steps.as_slice(), says.as_str())
+        }
+    }
 }
 
 /// The object of what is wrong with the bytes, where they are not what is wanted.

@@ -4,6 +4,7 @@ ghost use Rattle.std.specs.Prelude.{◌≡◌, ◌++◌, ◌∷◌, [], IfOk, st
 ghost use Rattle.serde_json.specs.View.{view};
 ghost use Rattle.serde_json.specs.Written.{compact_text};
 ghost use Rattle.sql_tool_fault.specs.Faults.{byte_data, place_data};
+ghost use Rattle.sql_tool_fault.specs.Warnings.{warning_data};
 
 use serde_json::{Value as Json, json};
 use sql_tool_place::Position;
@@ -35,6 +36,23 @@ pub(crate) fn place_object(
         "column": position.column,
         "line": position.line,
         "says": says,
+    })
+}
+
+/// The object of a member that is ignored: `{"at":"/schema/join_able","column":24,"line":1,"warning":".."}`.
+pub(crate) fn warning_object(
+    alloc: Global,
+    pointer: &str,
+    position: Position,
+    says: &str,
+) -> Result<Json, AllocError>
+    ensures { IfOk result (λ v. view v ≡ warning_data pointer.now position says.now) }
+{
+    json!(in alloc; {
+        "at": pointer,
+        "column": position.column,
+        "line": position.line,
+        "warning": says,
     })
 }
 
