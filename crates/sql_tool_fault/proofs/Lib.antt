@@ -1,1 +1,5 @@
-mod Unknown
+-- What a reader passes.
+mod Passing
+-- Members that are ignored, and lines of them.
+mod Ignored
+mod Warned

@@ -1,16 +1,11 @@
 -- Which members of objects their forms know. Each other member is ignored.
-use Rattle.std.specs.Prelude.{◌≡◌, ℕ, List, [], ◌∷◌, codes, Bool, true, false, Option, Some, None, if◌then◌else◌}
+use Rattle.std.specs.Prelude.{ℕ, List, [], ◌∷◌, codes, Bool, true, false, Option, Some, None, if◌then◌else◌}
 use Rattle.std.specs.List.{list_any}
-use Rattle.std.specs.Ordering.{nat_cmp, match_ordering}
-use Rattle.std.specs.Cmp.Lexicographic.{slice_cmp}
 use Rattle.std.specs.Str.{bytes_eq}
-use Rattle.serde_json.specs.Data.{Data, null, boolean, number, string, array, object, Members, no_members, member}
+use Rattle.serde_json.specs.Data.{Data}
 use Rattle.sql_tool_document.specs.Members.{has}
-use Rattle.sql_tool_document.specs.Wanted.{has_form}
 use Rattle.sql_tool_document.specs.declared.wanted.Wanted.{Wanted}
 use Rattle.sql_tool_document.specs.declared.wanted.Wanted.TheVariants as wanted
-use Rattle.sql_tool_form.specs.Places.{Leads}
-use Rattle.sql_tool_place.specs.Steps.{Step}
 
 -- by whether `from` and `select` stand
 abbrev pub query_members : Bool → Bool → List (List ℕ)
@@ -54,30 +49,3 @@ known w d = None
 abbrev pub is_known : Option (List (List ℕ)) → List ℕ → Bool
 is_known None k = true
 is_known (Some names) k = list_any (bytes_eq k) names
-
--- ---- a member taken away
-
-abbrev pub members_without : List ℕ → Members → Members
-members_without k no_members = no_members
-members_without k (member l e ms) =
-    match_ordering (slice_cmp nat_cmp k l) (member l e (members_without k ms)) ms (member l e (members_without k ms))
-
-abbrev pub without : List ℕ → Data → Data
-without k null = null
-without k (boolean b) = boolean b
-without k (number n) = number n
-without k (string s) = string s
-without k (array ds) = array ds
-without k (object ms) = object (members_without k ms)
-
--- ---- what is warned of
-
--- The steps lead to an object with a member of that name that its form does not know.
-abbrev pub IsUnknownAt : Wanted → Data → List Step → List ℕ → Type 0
-IsUnknownAt w d steps k =
-    (v : Wanted) × (e : Data) × Leads w d steps v e × (has k e ≡ true) × (is_known (known v e) k ≡ false)
-
--- A member that its form does not know changes nothing: without it the value has the form exactly where it has it with it.
-abbrev pub ChangesNothing : Type 0
-ChangesNothing =
-    (w : Wanted) (d : Data) (k : List ℕ) → is_known (known w d) k ≡ false → has_form w (without k d) ≡ has_form w d

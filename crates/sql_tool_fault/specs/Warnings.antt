@@ -1,5 +1,5 @@
 -- What is warned of in a value that has its form or not: members of objects that are ignored. The words in which it is said are free.
-use Rattle.std.specs.Prelude.{◌≡◌, ◌⊎◌, ℕ, List, [], ◌∷◌, ◌++◌, codes, take, Bool, true, false, All}
+use Rattle.std.specs.Prelude.{◌≡◌, ◌⊎◌, ℕ, List, [], ◌∷◌, ◌++◌, codes, take, Bool, true, false}
 use Rattle.serde_json.specs.Data.{Data, unsigned, number, string, object, no_members, member}
 use Rattle.serde_json.specs.Written.{compact_text}
 use Rattle.sql_tool_document.specs.Members.{has}
@@ -23,6 +23,10 @@ IsIgnored w d m =
     (v : Wanted) × (e : Data)
     × Leads w d m.steps v e × (has m.name e ≡ true) × ((m.is_repeated ≡ true) ⊎ (is_known (known v e) m.name ≡ false))
 
+abbrev pub AreIgnored : Wanted → Data → List Ignored → Type 0
+AreIgnored w d [] = Unit {0}
+AreIgnored w d (m ∷ ms) = IsIgnored w d m × AreIgnored w d ms
+
 -- ---- lines
 
 abbrev pub warning_data : List ℕ → Position → List ℕ → Data
@@ -39,6 +43,10 @@ IsWarning w d bytes o =
     × IsIgnored w d m
     × (o ≡ warning_data (pointer_text (m.steps ++ key m.name ∷ [])) (position_of (take n bytes)) says)
 
+abbrev pub AreWarnings : Wanted → Data → List ℕ → List Data → Type 0
+AreWarnings w d bytes [] = Unit {0}
+AreWarnings w d bytes (o ∷ os) = IsWarning w d bytes o × AreWarnings w d bytes os
+
 -- each as compact JSON, and a newline
 abbrev pub lines_text : List Data → List ℕ
 lines_text [] = []
@@ -46,4 +54,4 @@ lines_text (o ∷ os) = (compact_text o ++ 10 ∷ []) ++ lines_text os
 
 -- The lines warn of the value that the bytes are.
 abbrev pub Warns : Wanted → Data → List ℕ → List ℕ → Type 0
-Warns w d bytes lines = (os : List Data) × All (IsWarning w d bytes) os × (lines ≡ lines_text os)
+Warns w d bytes lines = (os : List Data) × AreWarnings w d bytes os × (lines ≡ lines_text os)

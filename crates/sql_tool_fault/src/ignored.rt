@@ -1,10 +1,10 @@
 //! Members of objects that are ignored: those that their form does not know, and those that come again.
 
-ghost use Rattle.std.specs.Prelude.{◌≡◌, ◌++◌, All, IfOk, IfSome, OnOk, map};
+ghost use Rattle.std.specs.Prelude.{◌≡◌, ◌++◌, IfOk, IfSome, OnOk, map};
 ghost use Rattle.std.specs.List.{list_any};
 ghost use Rattle.std.specs.Str.{bytes_eq};
 ghost use Rattle.sql_tool_document.specs.inside.Seen.{seen};
-ghost use Rattle.sql_tool_fault.specs.Warnings.{IsIgnored};
+ghost use Rattle.sql_tool_fault.specs.Warnings.{AreIgnored, IsIgnored};
 ghost use Rattle.sql_tool_fault.specs.inside.Names.{names_of};
 ghost use Rattle.sql_tool_fault.specs.inside.Members.{ignored_of, under};
 ghost use Rattle.sql_tool_place.specs.inside.Texts.{step_of};
@@ -75,7 +75,7 @@ fn in_object<'a>(
     value: &Value<'a>,
     most: usize,
 ) -> Result<Vec<Ignored<'a>>, AllocError>
-    ensures { IfOk result (λ v. All (IsIgnored wanted (seen value.now)) (map ignored_of v.items)) }
+    ensures { IfOk result (λ v. AreIgnored wanted (seen value.now) (map ignored_of v.items)) }
 {
     let mut found = Vec::new(alloc);
     let Value::Object(members) = value else {
@@ -116,7 +116,7 @@ pub(crate) fn ignored_in<'a>(
     value: &Value<'a>,
     most: usize,
 ) -> Result<Vec<Ignored<'a>>, AllocError>
-    ensures { IfOk result (λ v. All (IsIgnored wanted (seen value.now)) (map ignored_of v.items)) }
+    ensures { IfOk result (λ v. AreIgnored wanted (seen value.now) (map ignored_of v.items)) }
 {
     let mut found = in_object(alloc, wanted, value, most)?;
     let all = parts(alloc, wanted, value)?;

@@ -1,4 +1,5 @@
 //! Where in a text a place is.
+#![tactic(auto, using(crate::proofs::Passing::passing))]
 
 ghost use Rattle.std.specs.Prelude.{◌<◌, OnOk, length};
 

@@ -1,12 +1,12 @@
 //! Lines of members that are ignored.
 
-ghost use Rattle.std.specs.Prelude.{◌≡◌, ◌++◌, ◌∷◌, [], All, IfOk, MatchOption, OnOk, map, string_bytes};
+ghost use Rattle.std.specs.Prelude.{◌≡◌, ◌++◌, ◌∷◌, [], IfOk, MatchOption, OnOk, map, string_bytes};
 ghost use Rattle.serde_json.specs.Data.{Data};
 ghost use Rattle.serde_json.specs.View.{view};
 ghost use Rattle.serde_json.specs.Written.{compact_text};
 ghost use Rattle.sql_tool_document.specs.Documents.{value_in};
 ghost use Rattle.sql_tool_document.specs.inside.Seen.{seen};
-ghost use Rattle.sql_tool_fault.specs.Warnings.{IsIgnored, IsWarning, Warns};
+ghost use Rattle.sql_tool_fault.specs.Warnings.{AreIgnored, IsIgnored, IsWarning, Warns};
 ghost use Rattle.sql_tool_fault.specs.inside.Members.{ignored_of};
 
 use crate::found::shortened;
@@ -75,7 +75,7 @@ fn lines(
     text: &str,
     members: &[Ignored<'_>],
 ) -> Result<String, AllocError>
-    ensures { IfOk result (λ s. (d : Data) → All (IsIgnored wanted d) (map ignored_of members.now)
+    ensures { IfOk result (λ s. (d : Data) → AreIgnored wanted d (map ignored_of members.now)
         → Warns wanted d text.now (string_bytes s)) }
 {
     let mut lines = String::new(alloc);

@@ -1,5 +1,5 @@
 -- Parts one after the other, as loops find them.
-mod Each
+pub mod Each
 -- Steps to a part, and how deep it nests.
-mod Steps
-mod Depth
+pub mod Steps
+pub mod Depth

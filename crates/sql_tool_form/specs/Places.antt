@@ -1,7 +1,6 @@
 -- Which places are wrong.
-use Rattle.std.specs.Prelude.{◌≡◌, ◌⊎◌, ◌<◌, List, [], ◌∷◌, true, false}
-use Rattle.serde_json.specs.Data.{Data, depth}
-use Rattle.sql_tool_document.specs.Queries.{nesting_bound}
+use Rattle.std.specs.Prelude.{◌≡◌, ◌⊎◌, List, [], ◌∷◌, true, false}
+use Rattle.serde_json.specs.Data.{Data}
 use Rattle.sql_tool_document.specs.Wanted.{has_form}
 use Rattle.sql_tool_document.specs.declared.wanted.Wanted.{Wanted}
 use Rattle.sql_tool_form.specs.Parts.{Part, parts}
@@ -29,10 +28,3 @@ IsWrong w d = (has_form w d ≡ false) × AreRight (parts w d)
 -- The steps lead to such a value, of which that is wanted.
 abbrev pub IsWrongAt : Wanted → Data → List Step → Wanted → Data → Type 0
 IsWrongAt w d steps v e = Leads w d steps v e × IsWrong v e
-
--- ---- laws
-
--- No value with a wrong place has its form: where bytes are a document, no place is wrong.
-abbrev pub WrongPlacesAreWrong : Type 0
-WrongPlacesAreWrong =
-    (w v : Wanted) (d e : Data) (steps : List Step) → depth d < nesting_bound → IsWrongAt w d steps v e → has_form w d ≡ false
