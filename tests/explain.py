@@ -96,7 +96,7 @@ def cases() -> Iterator[Case]:
 
 
 class Places:
-    """Where each value of a JSON text begins, by its pointer. Of a member that comes again it is the first."""
+    """Where each value of a JSON text begins, by its pointer. Of a member that comes again it is the last."""
 
     def __init__(self, text: str) -> None:
         self.text = text
@@ -112,11 +112,19 @@ class Places:
     def value(self, pointer: str) -> None:
         """Passes a value, and notes where it and those in it begin."""
         self.space()
-        self.offsets.setdefault(pointer, self.at)
+        self.offsets[pointer] = self.at
         if self.text[self.at] in "[{":
             self.inside(pointer, self.text[self.at] == "{")
         else:
             _, self.at = json.JSONDecoder().raw_decode(self.text, self.at)
+
+    def forget(self, pointer: str) -> None:
+        """Forgets a value that does not count, since its member comes again, and those in it."""
+        if pointer in self.offsets:
+            inner = f"{pointer}/"
+            self.offsets = {
+                one: at for one, at in self.offsets.items() if one != pointer and not one.startswith(inner)
+            }
 
     def inside(self, pointer: str, is_object: bool) -> None:
         """Passes what is in an array or an object."""
@@ -130,6 +138,7 @@ class Places:
                 step = key.replace("~", "~0").replace("/", "~1")
                 self.space()
                 self.at += 1
+                self.forget(f"{pointer}/{step}")
             self.value(f"{pointer}/{step}")
             self.space()
             index += 1

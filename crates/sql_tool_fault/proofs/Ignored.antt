@@ -14,7 +14,7 @@ ignored-append w d (x ∷ xs) ys a b = (a.0, ignored-append w d xs ys a.1 b)
 
 under_one : (w : Wanted) (d : Data) (p : Part) (m : Ignored) → IsPartOf p (parts w d) → IsIgnored p.wants p.value m
     → IsIgnored w d (under p.step m)
-under_one w d p m inside h = (h.0, (h.1.0, ((p, (inside, (refl, h.1.1.0))), h.1.1.1)))
+under_one w d p m inside h = (h.0, h.1, (p, inside, refl, h.2), h.3, h.4)
 
 pub under_all : (w : Wanted) (d : Data) (p : Part) (ms : List Ignored) → IsPartOf p (parts w d) → AreIgnored p.wants p.value ms
     → AreIgnored w d (map (under p.step) ms)

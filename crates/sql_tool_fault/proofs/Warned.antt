@@ -21,5 +21,5 @@ pub warns-more : (w : Wanted) (d : Data) (bytes lines line : List ℕ) (o : Data
 warns-more w d bytes lines line o before one is =
     let os = before.0 in
     let texts : lines ++ line ≡ lines_text (os ++ o ∷ []) =
-    ap (λ t. t ++ line) before.1.1 ∙ ap (λ t. lines_text os ++ t) is ∙ sym (lines-more os o) in
-    (os ++ o ∷ [], (warnings-more w d bytes os o before.1.0 one, texts))
+    ap (λ t. t ++ line) before.2 ∙ ap (λ t. lines_text os ++ t) is ∙ sym (lines-more os o) in
+    (os ++ o ∷ [], warnings-more w d bytes os o before.1 one, texts)

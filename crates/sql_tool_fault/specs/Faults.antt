@@ -86,8 +86,7 @@ IsNoText bytes o =
 abbrev pub IsNoValue : List ℕ → Data → Type 0
 IsNoValue bytes o =
     IsNoText bytes o
-    ⊎ ((IsNoJson bytes × IsOfByte bytes o)
-    ⊎ ((pointer : List ℕ) × (IsNoJson bytes ⊎ HasFraction bytes) × IsOfPlace bytes pointer o))
+    ⊎ ((IsNoJson bytes × IsOfByte bytes o) ⊎ ((pointer : List ℕ) × HasFraction bytes × IsOfPlace bytes pointer o))
 
 -- What the object says of a value is so: the steps of its pointer lead to one that is wrong.
 abbrev pub IsWrongPlace : Wanted → List ℕ → Data → Type 0

@@ -1,9 +1,10 @@
-ghost use Rattle.std.specs.Prelude.{◌≡◌, ◌++◌, IfOk, IfSome, List, MatchOption, None, false, string_bytes, true, ℕ};
+ghost use Rattle.std.specs.Prelude.{◌≡◌, ◌++◌, IfOk, IfSome, List, MatchOption, None, false, string_bytes, take, true, ℕ};
+ghost use Rattle.std.specs.Str.{IsUtf8};
 ghost use Rattle.serde_json.specs.View.{view};
 ghost use Rattle.sql_tool_document.specs.Documents.{value_in};
 ghost use Rattle.sql_tool_document.specs.Clashes.{Clashes};
 ghost use Rattle.sql_tool_document.specs.inside.Seen.{seen};
-ghost use Rattle.sql_tool_fault.specs.Faults.{IsFaultLine, IsFaultObject, IsNoValue, IsOfByte, IsOfPlace, declaration_steps, is_input};
+ghost use Rattle.sql_tool_fault.specs.Faults.{IsFaultLine, IsFaultObject, IsNoValue, IsOfByte, IsOfPlace, byte_data, declaration_steps, is_input, position_of};
 ghost use Rattle.sql_tool_fault.specs.inside.Placed.{IsOfWrong};
 ghost use Rattle.sql_tool_place.specs.Steps.{pointer_text};
 ghost use Rattle.sql_tool_place.specs.inside.Texts.{steps_of};
@@ -56,32 +57,38 @@ fn no_json_object(alloc: Global, text: &str) -> Result<Json, AllocError>
     byte_object(alloc, position_at(text.as_bytes(), offset), says)
 }
 
-/// The object of a text that is no JSON, or that has a number that is not whole.
-fn no_value_of_text(alloc: Global, text: &str) -> Result<Json, AllocError>
-    requires { value_in text.now ≡ None }
-    ensures { IfOk result (λ v. IsNoValue text.now (view v)) }
+/// The object of a text of JSON that has a number that is not whole.
+fn no_whole_object(alloc: Global, text: &str) -> Result<Json, AllocError>
+    ensures { IfOk result (λ v. (at : List ℕ) × IsOfPlace text.now at (view v)) }
 {
     let mut scratch = Scratch::new(alloc);
     match parsed(alloc, text, &mut scratch) {
         Ok(value) => fraction_object(alloc, text, &value),
-        Err(Error::Invalid) => no_json_object(alloc, text),
         Err(Error::OutOfMemory) => Err(AllocError),
-        Err(Error::TooLong | Error::DuplicateKey) => unreachable!(),
+        Err(_) => object_at(alloc, text, &[], "not each number in it is whole"),
     }
 }
 
-/// The object of bytes that are no UTF-8 or no JSON, or have a number that is not whole.
-fn no_value_object(alloc: Global, bytes: &[u8]) -> Result<Json, AllocError>
-    requires { value_in bytes.now ≡ None }
+/// The object of a text that is no JSON, or that has a number that is not whole.
+fn no_value_of_text(alloc: Global, bytes: &[u8], text: &str) -> Result<Json, AllocError>
+    requires none { value_in bytes.now ≡ None }
+    requires same { text.now ≡ bytes.now }
+    requires utf8 { IsUtf8 bytes.now }
     ensures { IfOk result (λ v. IsNoValue bytes.now (view v)) }
 {
-    match str::from_utf8(bytes) {
-        Ok(text) => no_value_of_text(alloc, text),
-        Err(error) => {
-            let position = position_at(bytes, error.valid_up_to());
-            byte_object(alloc, position, says_of_bytes(bytes))
-        }
+    match Json::from_slice(alloc, bytes) {
+        Ok(_) => no_whole_object(alloc, text),
+        Err(error) if error.is_memory() => Err(AllocError),
+        Err(_) => no_json_object(alloc, text),
     }
+}
+
+/// The object of bytes that are UTF-8 up to an offset only.
+fn no_text_object(alloc: Global, bytes: &[u8], end: usize) -> Result<Json, AllocError>
+    ensures { IfOk result (λ v. (says : List ℕ)
+        × (view v ≡ byte_data (position_of (take end bytes.now)) says)) }
+{
+    byte_object(alloc, position_at(bytes, end), says_of_bytes(bytes))
 }
 
 /// The object of a declaration that cannot stand with those before it, in a schema at a place.
@@ -125,20 +132,38 @@ fn wrong_object(alloc: Global, text: &str, wrong: &Wrong<'_, '_>) -> Result<Json
     }
 }
 
-/// The object of what is wrong with the bytes, where they are not what is wanted.
-fn fault_object(alloc: Global, wanted: Wanted, bytes: &[u8]) -> Result<Option<Json>, AllocError>
+/// The object of a text that is no value, or in which a value is wrong, where it is not what is wanted.
+fn fault_of_text(
+    alloc: Global,
+    wanted: Wanted,
+    bytes: &[u8],
+    text: &str,
+) -> Result<Option<Json>, AllocError>
+    requires same { text.now ≡ bytes.now }
+    requires utf8 { IsUtf8 bytes.now }
     ensures { IfOk result (λ o. MatchOption o (is_input wanted bytes.now ≡ true)
         (λ v. (is_input wanted bytes.now ≡ false) × IsFaultObject wanted bytes.now (view v))) }
 {
     let mut scratch = Scratch::new(alloc);
     let value = match json(alloc, bytes, &mut scratch) {
         Ok(value) => value,
-        Err(Refusal::NotADocument) => return Ok(Some(no_value_object(alloc, bytes)?)),
+        Err(Refusal::NotADocument) => return Ok(Some(no_value_of_text(alloc, bytes, text)?)),
         Err(Refusal::NoMemory) => return Err(AllocError),
     };
-    match (wrong_place(alloc, wanted, &value)?, str::from_utf8(bytes)) {
-        (Some(wrong), Ok(text)) => Ok(Some(wrong_object(alloc, text, &wrong)?)),
-        _ => Ok(None),
+    match wrong_place(alloc, wanted, &value)? {
+        Some(wrong) => Ok(Some(wrong_object(alloc, text, &wrong)?)),
+        None => Ok(None),
+    }
+}
+
+/// The object of what is wrong with the bytes, where they are not what is wanted.
+fn fault_object(alloc: Global, wanted: Wanted, bytes: &[u8]) -> Result<Option<Json>, AllocError>
+    ensures { IfOk result (λ o. MatchOption o (is_input wanted bytes.now ≡ true)
+        (λ v. (is_input wanted bytes.now ≡ false) × IsFaultObject wanted bytes.now (view v))) }
+{
+    match str::from_utf8(bytes) {
+        Ok(text) => fault_of_text(alloc, wanted, bytes, text),
+        Err(error) => Ok(Some(no_text_object(alloc, bytes, error.valid_up_to())?)),
     }
 }
 

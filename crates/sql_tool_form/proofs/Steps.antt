@@ -10,6 +10,6 @@ pub leads_on : (steps : List Step) (w v : Wanted) (d e : Data) (q : Part) → Le
     → Leads w d (steps ++ q.step ∷ []) q.wants q.value
 leads_on [] w v d e q way inside =
     let here : IsPartOf q (parts w e) = subst (λ x. IsPartOf q (parts x e)) (sym way.0) inside in
-    (q, (subst (λ x. IsPartOf q (parts w x)) (sym way.1) here, (refl, (refl, refl))))
+    (q, subst (λ x. IsPartOf q (parts w x)) (sym way.1) here, refl, (refl, refl))
 leads_on (s ∷ ss) w v d e q way inside =
-    (way.0, (way.1.0, (way.1.1.0, leads_on ss (way.0).wants v (way.0).value e q way.1.1.1 inside)))
+    (way.0, way.1, way.2, leads_on ss (way.0).wants v (way.0).value e q way.3 inside)

@@ -8,7 +8,7 @@ use Rattle.sql_tool_fault.proofs.Warned.{warns-more}
 use Rattle.sql_tool_fault.proofs.warning.lines.Goals as goal
 
 pub loop-member-init : goal.loop-member-init
-loop-member-init c = λ d all. (all, ([], (tt, search rules)))
+loop-member-init c = λ d all. (all, ([], tt, search rules))
 
 pub loop-member-preserved : goal.loop-member-preserved
 loop-member-preserved c =

@@ -1,0 +1,54 @@
+-- Why bytes are no value.
+use Rattle.std.proofs.Common.{◌≡◌, ℕ, List, Bool, true, false, Option, Some, None, inl, inr, refl, sym, ap, ◌∙◌, subst}
+use Rattle.std.specs.Str.{IsUtf8, is_utf8}
+use Rattle.std.proofs.lemmas.Str.{IsUtf8-from_is_utf8, is_utf8-from_IsUtf8}
+use Rattle.serde_json.specs.Data.{Data}
+use Rattle.serde_json.specs.Read.{read}
+use Rattle.serde_json.specs.Written.{has_float}
+use Rattle.sql_tool_document.specs.Documents.{value_in, without_floats}
+use Rattle.sql_tool_document.specs.Wanted.{has_form}
+use Rattle.sql_tool_document.specs.declared.wanted.Wanted.{Wanted}
+use Rattle.sql_tool_document.specs.declared.wanted.Wanted.TheVariants.{Schema}
+use Rattle.sql_tool_document.specs.inside.Seen.{seen}
+use Rattle.sql_tool_fault.specs.Faults.{HasFraction, IsFaultObject, IsNoJson, has_form_if_any, is_input}
+use Rattle.sql_tool_fault.specs.inside.Placed.{IsOfWrong}
+use Rattle.sql_tool_form.specs.Places.{IsWrongAt}
+use Rattle.sql_tool_form.specs.declared.wrong.Wrong.{Wrong}
+use Rattle.sql_tool_place.specs.inside.Texts.{steps_of}
+
+pub no_json : (bytes : List ℕ) → IsUtf8 bytes → (IsUtf8 bytes → read bytes ≡ None) → IsNoJson bytes
+no_json bytes text none = (is_utf8-from_IsUtf8 bytes text, none text)
+
+no_text_at : (bytes : List ℕ) (b : Bool) → is_utf8 bytes ≡ b → (IsUtf8 bytes → ⊥) → is_utf8 bytes ≡ false
+no_text_at bytes true is none = absurd (none (IsUtf8-from_is_utf8 bytes is))
+no_text_at bytes false is none = is
+
+pub no_text : (bytes : List ℕ) → (IsUtf8 bytes → ⊥) → is_utf8 bytes ≡ false
+no_text bytes none = no_text_at bytes (is_utf8 bytes) refl none
+
+fraction_at : (bytes : List ℕ) (d : Data) (b : Bool) → has_float d ≡ b → IsUtf8 bytes → read bytes ≡ Some d → value_in bytes ≡ None
+    → HasFraction bytes
+unfolding value_in
+fraction_at bytes d true is text reads none = (d, is_utf8-from_IsUtf8 bytes text, reads, is)
+fraction_at bytes d false is text reads none =
+    let whole : value_in bytes ≡ Some d = rw (is_utf8-from_IsUtf8 bytes text, reads, is) refl in
+    let wrong : None ≡ Some d = sym none ∙ whole in absurd (cc)
+
+pub has_fraction : (bytes : List ℕ) (d : Data) → IsUtf8 bytes → read bytes ≡ Some d → value_in bytes ≡ None → HasFraction bytes
+has_fraction bytes d text reads none = fraction_at bytes d (has_float d) refl text reads none
+
+-- ---- inputs
+
+pub no_input : (w : Wanted) (bytes : List ℕ) → value_in bytes ≡ None → is_input w bytes ≡ false
+no_input w bytes none = ap (has_form_if_any w) none
+
+pub an_input : (w : Wanted) (bytes : List ℕ) (d : Data) → value_in bytes ≡ Some d → is_input w bytes ≡ has_form w d
+an_input w bytes d is = ap (has_form_if_any w) is
+
+pub placed : (w : Wanted) (bytes : List ℕ) (d : Data) (x : Wrong) (o : Data) → value_in bytes ≡ Some d
+    → IsWrongAt w d (steps_of x.steps.items) x.wanted (seen x.value.now) → IsOfWrong bytes x o → IsFaultObject w bytes o
+placed w bytes d x o is wrong (inl place) = inr (inl (steps_of x.steps.items, (d, seen x.value.now, x.wanted, is, wrong), place))
+placed w bytes d x o is wrong (inr clash) =
+    let at : IsWrongAt w d (steps_of x.steps.items) Schema (seen x.value.now) =
+    subst (λ v. IsWrongAt w d (steps_of x.steps.items) v (seen x.value.now)) clash.1 wrong in
+    inr (inr (steps_of x.steps.items, clash.0, (d, seen x.value.now, is, at, clash.2), clash.3))
