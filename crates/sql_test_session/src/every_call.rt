@@ -2,6 +2,7 @@
 //! answer. What the program alone calls is in `sql_tool`.
 
 mod conversations;
+mod faults;
 mod guarded;
 mod requests;
 mod sessions;
@@ -13,6 +14,7 @@ use std::test::Fail;
 fn every_call_once(rt: HostRuntime) -> Result<(), Fail> {
     let alloc = rt.alloc();
     requests::every_call(alloc)?;
+    faults::every_call(alloc)?;
     guarded::every_call(alloc)?;
     texts::every_call(alloc)?;
     sessions::every_call(alloc)?;
