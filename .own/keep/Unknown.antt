@@ -41,3 +41,39 @@ get-without k l (number n) differs = refl
 get-without k l (string s) differs = refl
 get-without k l (array ds) differs = refl
 get-without k l (object ms) differs = get_member-without k l ms differs
+
+-- ---- a member that is not there
+
+or_false : (a b : Bool) → (a || b) ≡ false → (a ≡ false) × (b ≡ false)
+or_false true b h = absurd (let wrong : true ≡ false = h in cc)
+or_false false b h = (refl, h)
+
+-- what lacks a name still lacks it
+absent : (k l : List ℕ) (ms : Members) → get_member l ms ≡ None → get_member l (members_without k ms) ≡ None
+absent k l no_members none = refl
+absent k l (member j e ms) none = chosen (slice_cmp nat_cmp k j) (slice_cmp nat_cmp l j) refl none
+  where
+    rest : get_member l ms ≡ None → get_member l (members_without k ms) ≡ None
+    rest = absent k l ms
+
+    chosen : (o p : Ordering) → slice_cmp nat_cmp l j ≡ p → match_ordering p (get_member l ms) (Some e) (get_member l ms) ≡ None
+        → get_member l (match_ordering o (member j e (members_without k ms)) ms (member j e (members_without k ms))) ≡ None
+    chosen Equal Less is h = h
+    chosen Equal Greater is h = h
+    chosen Equal Equal is h = absurd (let wrong : Some e ≡ None = h in cc)
+    chosen Less Less is h = rw is (rest h)
+    chosen Less Greater is h = rw is (rest h)
+    chosen Less Equal is h = absurd (let wrong : Some e ≡ None = h in cc)
+    chosen Greater Less is h = rw is (rest h)
+    chosen Greater Greater is h = rw is (rest h)
+    chosen Greater Equal is h = absurd (let wrong : Some e ≡ None = h in cc)
+
+get-absent : (k l : List ℕ) (d : Data) → has l d ≡ false → get l (without k d) ≡ get l d
+get-absent k l null lacks = refl
+get-absent k l (boolean b) lacks = refl
+get-absent k l (number n) lacks = refl
+get-absent k l (string s) lacks = refl
+get-absent k l (array ds) lacks = refl
+get-absent k l (object ms) lacks = elim (get_member l ms) as (λ o. get_member l ms ≡ o → is_some o ≡ false → get_member l (members_without k ms) ≡ o)
+    [ None ↦ λ is no. absent k l ms is
+    | Some e ↦ λ is no. absurd (let wrong : true ≡ false = no in cc) ] refl lacks

@@ -44,7 +44,7 @@ fn comes_in(members: &[(&str, Value<'_>)], key: &str) -> bool {
 }
 
 /// A member of an object, where it is ignored.
-fn ignored<'a>(
+fn if_ignored<'a>(
     alloc: Global,
     wanted: Wanted,
     value: &Value<'a>,
@@ -86,7 +86,7 @@ fn in_object<'a>(
             return Ok(found);
         }
         let is_repeated = comes_in(&members[..index], *key);
-        if let Some(member) = ignored(alloc, wanted, value, *key, is_repeated)? {
+        if let Some(member) = if_ignored(alloc, wanted, value, *key, is_repeated)? {
             found.push(member)?;
         }
     }
