@@ -3,5 +3,5 @@ mod Passing
 -- Why bytes are no value.
 mod Values
 -- Members that are ignored, and lines of them.
-mod Ignored
+mod Members
 mod Warned

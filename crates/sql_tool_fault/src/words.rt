@@ -6,7 +6,7 @@ use crate::known::{known_members, required_members};
 use crate::noun::{OPERATORS, names, noun, short_noun};
 use json::Value;
 use sql_build_syntax::Form;
-use sql_tool_document::{Wanted, clause_call, combination, join_kind, plain_call};
+use sql_tool_document::{Wanted, as_str, clause_call, combination, join_kind, plain_call};
 use sql_tool_form::Wrong;
 use std::alloc::{AllocError, Global};
 
@@ -139,9 +139,9 @@ fn expression(alloc: Global, value: &Value<'_>) -> Result<Option<String>, AllocE
         return Ok(None);
     };
     match members.as_slice() {
-        [(name, _)] => {
-            let hint = did_you_mean(alloc, *name, &OPERATORS)?;
-            let name = shortened(alloc, *name)?;
+        [member] => {
+            let hint = did_you_mean(alloc, member.0, &OPERATORS)?;
+            let name = shortened(alloc, member.0)?;
             Ok(Some(format!(in alloc; "no expression \"{name}\"{hint}")?))
         }
         _ => {
@@ -199,10 +199,13 @@ fn call(alloc: Global, form: Form, value: &Value<'_>) -> Result<Option<String>, 
     let Value::Array(items) = value else {
         return Ok(None);
     };
-    let [Value::String(name), arguments @ ..] = items.as_slice() else {
+    let [first, arguments @ ..] = items.as_slice() else {
         return Ok(None);
     };
-    let (least, most) = arity(*name);
+    let Some(name) = as_str(first) else {
+        return Ok(None);
+    };
+    let (least, most) = arity(name);
     let count = arguments.len();
     if count < least || count > most {
         let wanted = if least == most {
@@ -213,7 +216,7 @@ fn call(alloc: Global, form: Form, value: &Value<'_>) -> Result<Option<String>, 
         return Ok(Some(format!(in alloc; "\"{name}\" takes {wanted} argument(s), {count} found")?));
     }
     let is = form_name(form);
-    let takers = takers(*name);
+    let takers = takers(name);
     Ok(Some(format!(in alloc; "\"{name}\" is a call on {takers}, and by now this is {is}")?))
 }
 

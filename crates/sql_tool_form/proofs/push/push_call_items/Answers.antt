@@ -19,7 +19,7 @@ loop-index-preserved c =
     let is : v ≡ get_or xs i v = search rules in
     let e : parts_seen c.push.new.self.items ≡ parts_seen before ++ item_at i (wanted.Call f) v ∷ [] =
     rw c.in_ok-push.ensures.items (map_push _ before _) in
-    rw (e, c.form_after.ensures)
+    rw (e, c.form_after-form.ensures)
     (calls_go_on f (parts_seen before) xs i v
     (parts_seen c.args.parts.now.items ++ calls_from 0 form.Select (items_seen xs)) within is
     c.loop-index.invariant)
