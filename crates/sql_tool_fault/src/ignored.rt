@@ -100,7 +100,7 @@ fn add_all<'a>(
     step: Step<'a>,
 ) -> Result<(), AllocError>
     ensures { OnOk result (map ignored_of found.new.items
-        ≡ map ignored_of found.old.items ++ map (under (step_of step.entry)) (map ignored_of inner.items)) }
+        ≡ map ignored_of found.old.items ++ map (under (step_of step.entry)) (map ignored_of inner.entry.items)) }
 {
     for mut member in inner {
         member.steps.insert(0, step)?;

@@ -6,10 +6,10 @@ use Rattle.sql_tool_form.specs.Places.{Leads}
 use Rattle.sql_tool_form.proofs.wrong.wrong_place.Given as goal
 use Rattle.sql_tool_place.specs.inside.Texts.{steps_of}
 
-abbrev pub invariant-loop-part : goal.invariant-loop-part
-invariant-loop-part l =
+abbrev pub invariant-loop-wrong : goal.invariant-loop-wrong
+invariant-loop-wrong l =
     Leads l.wanted (seen l.value) (steps_of l.wrong.steps.items) l.wrong.wanted (seen l.wrong.value.now)
     × (has_form l.wrong.wanted (seen l.wrong.value.now) ≡ false)
 
-abbrev pub decreases-loop-part : goal.decreases-loop-part
-decreases-loop-part l = depth (seen l.wrong.value.now)
+abbrev pub decreases-loop-wrong : goal.decreases-loop-wrong
+decreases-loop-wrong l = depth (seen l.wrong.value.now)
