@@ -1,12 +1,14 @@
 //! Which known name a word may have been meant for.
 
-ghost use Rattle.std.specs.Prelude.{◌≡◌, IfOk, IfSome};
+ghost use Rattle.std.specs.Prelude.{◌*◌, ◌≤◌};
 
 use std::alloc::{AllocError, Global};
 use strsim::levenshtein;
 
 /// How many letters at most a name may differ in: one in three.
-fn most_edits(length: usize) -> usize {
+fn most_edits(length: usize) -> usize
+    ensures { 3 * result ≤ length }
+{
     length / 3
 }
 

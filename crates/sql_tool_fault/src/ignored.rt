@@ -1,8 +1,9 @@
 //! Members of objects that are ignored: those that their form does not know, and those that come again.
 
-ghost use Rattle.std.specs.Prelude.{◌≡◌, ◌++◌, IfOk, IfSome, OnOk, map};
+ghost use Rattle.std.specs.Prelude.{◌≡◌, ◌++◌, ◌&&◌, ◌||◌, IfOk, IfSome, OnOk, map, not};
 ghost use Rattle.std.specs.List.{list_any};
 ghost use Rattle.std.specs.Str.{bytes_eq};
+ghost use Rattle.sql_tool_document.specs.Members.{has as has_member};
 ghost use Rattle.sql_tool_document.specs.inside.Seen.{seen};
 ghost use Rattle.sql_tool_fault.specs.Warnings.{AreIgnored, IsIgnored};
 ghost use Rattle.sql_tool_fault.specs.inside.Names.{names_of};
@@ -43,6 +44,14 @@ fn comes_in(members: &[(&str, Value<'_>)], key: &str) -> bool {
     members.iter().any(|member| member.0 == key)
 }
 
+/// Whether an object's member is ignored, by the names that the object's form knows.
+fn is_ignored(value: &Value<'_>, known: &[&str], key: &str, is_repeated: bool) -> bool
+    ensures { result ≡ (has_member key.now (seen value.now)
+        && (is_repeated || not (list_any (bytes_eq key.now) (names_of known.now)))) }
+{
+    has(value, key) && (is_repeated || !is_among(known, key))
+}
+
 /// A member of an object, where it is ignored.
 fn if_ignored<'a>(
     alloc: Global,
@@ -57,7 +66,7 @@ fn if_ignored<'a>(
     let Some(known) = known_members(wanted, value) else {
         return Ok(None);
     };
-    if !has(value, key) || (!is_repeated && is_among(known, key)) {
+    if !is_ignored(value, known, key, is_repeated) {
         return Ok(None);
     }
     Ok(Some(Ignored {
@@ -100,7 +109,8 @@ fn add_all<'a>(
     step: Step<'a>,
 ) -> Result<(), AllocError>
     ensures { OnOk result (map ignored_of found.new.items
-        ≡ map ignored_of found.old.items ++ map (under (step_of step.entry)) (map ignored_of inner.entry.items)) }
+        ≡ map ignored_of found.old.items
+        ++ map (under (step_of step.entry)) (map ignored_of inner.entry.items)) }
 {
     for mut member in inner {
         member.steps.insert(0, step)?;

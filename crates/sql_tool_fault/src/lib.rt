@@ -22,5 +22,5 @@ pub use found::shortened;
 pub use hint::did_you_mean;
 pub use known::{known_members, required_members};
 pub use laws::inputs_are_read;
-pub use offset::offset_of;
+pub use offset::{offset_of, offsets_of};
 pub use warning::warning_lines;

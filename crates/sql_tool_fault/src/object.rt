@@ -1,8 +1,8 @@
 //! Lines as JSON objects.
 
-ghost use Rattle.std.specs.Prelude.{◌≡◌, ◌++◌, ◌∷◌, [], IfOk, string_bytes};
+ghost use Rattle.std.specs.Prelude.{◌≡◌, ◌++◌, ◌∷◌, [], IfOk, false, string_bytes};
 ghost use Rattle.serde_json.specs.View.{view};
-ghost use Rattle.serde_json.specs.Written.{compact_text};
+ghost use Rattle.serde_json.specs.Written.{compact_text, has_float};
 ghost use Rattle.sql_tool_fault.specs.Faults.{byte_data, place_data};
 ghost use Rattle.sql_tool_fault.specs.Warnings.{warning_data};
 
@@ -56,9 +56,10 @@ pub(crate) fn warning_object(
     })
 }
 
-/// The line of an object.
+/// The line of an object that has no fraction.
 pub(crate) fn line_of(alloc: Global, object: &Json) -> Result<String, AllocError>
-    ensures { IfOk result (λ line. string_bytes line ≡ compact_text (view object.now) ++ 10 ∷ []) }
+    ensures { IfOk result (λ line. has_float (view object.now) ≡ false
+        → string_bytes line ≡ compact_text (view object.now) ++ 10 ∷ []) }
 {
     let mut line = object.to_string(alloc)?;
     line.push_str("\n")?;

@@ -1,81 +1,135 @@
-//! Where in a text a place is.
+//! Where in a text places are.
 #![tactic(auto, using(crate::proofs::Passing::passing))]
 
 ghost use Rattle.std.specs.Prelude.{◌<◌, OnOk, length};
 
-use json::{Invalid, Reader, Scratch, Token};
+use json::{Error, Reader, Scratch, Token};
 use sql_tool_place::Step;
 use std::alloc::{AllocError, Global};
 
 /// How deep arrays and objects may nest.
 const MAX_DEPTH: usize = 127;
 
-/// Passes the items of an array, and tells where the place is in the item at that index.
-#[cycle(locate)]
-fn in_array(
-    reader: &mut Reader<'_>,
-    index: usize,
-    steps: &[Step<'_>],
-) -> Result<Option<usize>, Invalid>
+/// The steps to a place, and where it begins as far as the text was read.
+#[derive(Clone, Copy, Drop)]
+struct Place<'s, 'a> {
+    steps: &'s [Step<'a>],
+    offset: usize,
+}
+
+/// Notes the offset of the places to which the path leads.
+fn mark(places: &mut [Place<'_, '_>], path: &[Step<'_>], offset: usize) {
+    for place in places.iter_mut() {
+        if place.steps == path {
+            place.offset = offset;
+        }
+    }
+}
+
+/// Whether the path leads to a value in which there are places.
+fn is_above(places: &[Place<'_, '_>], path: &[Step<'_>]) -> bool {
+    for place in places {
+        if place.steps.len() > path.len() && place.steps.starts_with(path) {
+            return true;
+        }
+    }
+    false
+}
+
+#[cycle(visit)]
+fn visit_items<'a>(
+    reader: &mut Reader<'a>,
+    places: &mut [Place<'_, '_>],
+    path: &mut Vec<Step<'a>>,
+) -> Result<(), Error>
     ensures { OnOk result (length reader.new < length reader.old) }
 {
-    let mut found = None;
-    let mut at = 0usize;
+    let depth = path.len();
+    let mut index = 0usize;
     while !reader.take_end_array() {
-        if at == index {
-            found = locate(reader, steps)?;
-        } else {
-            reader.skip_value(MAX_DEPTH)?;
-        }
-        at = at.saturating_add(1);
+        path.push(Step::Index(index))?;
+        visit(reader, places, path)?;
+        path.truncate(depth);
+        index = index.saturating_add(1);
     }
-    Ok(found)
+    Ok(())
 }
 
-/// Passes the members of an object, and tells where the place is in the last of them that has the key.
-#[cycle(locate)]
-fn in_object(
-    reader: &mut Reader<'_>,
-    key: &str,
-    steps: &[Step<'_>],
-) -> Result<Option<usize>, Invalid>
+#[cycle(visit)]
+fn visit_members<'a>(
+    reader: &mut Reader<'a>,
+    places: &mut [Place<'_, '_>],
+    path: &mut Vec<Step<'a>>,
+) -> Result<(), Error>
     ensures { OnOk result (length reader.new < length reader.old) }
 {
-    let mut found = None;
-    while let Some(name) = reader.next_key()? {
-        if name == key {
-            found = locate(reader, steps)?;
-        } else {
-            reader.skip_value(MAX_DEPTH)?;
-        }
+    let depth = path.len();
+    while let Some(key) = reader.next_key()? {
+        path.push(Step::Key(key))?;
+        visit(reader, places, path)?;
+        path.truncate(depth);
     }
-    Ok(found)
+    Ok(())
 }
 
-/// Passes a value, and tells where the place in it begins to which the steps lead.
-#[cycle(locate)]
-fn locate(reader: &mut Reader<'_>, steps: &[Step<'_>]) -> Result<Option<usize>, Invalid>
+/// Passes the value to which the path leads, and notes the offsets of the places in it. Of a key that comes again the last value counts.
+#[cycle(visit)]
+fn visit<'a>(
+    reader: &mut Reader<'a>,
+    places: &mut [Place<'_, '_>],
+    path: &mut Vec<Step<'a>>,
+) -> Result<(), Error>
     ensures { OnOk result (length reader.new < length reader.old) }
 {
-    let Some((step, rest)) = steps.split_first() else {
-        let offset = reader.offset();
+    mark(places, path.as_slice(), reader.offset());
+    if !is_above(places, path.as_slice()) {
         reader.skip_value(MAX_DEPTH)?;
-        return Ok(Some(offset));
-    };
-    match (reader.next(), step) {
-        (Some(Token::BeginArray), Step::Index(index)) => in_array(reader, *index, rest),
-        (Some(Token::BeginObject), Step::Key(key)) => in_object(reader, *key, rest),
-        _ => Err(Invalid),
+        return Ok(());
+    }
+    let token = reader.next().ok_or(Error::Invalid)?;
+    match token {
+        Token::BeginArray => visit_items(reader, places, path),
+        Token::BeginObject => visit_members(reader, places, path),
+        _ => Ok(()),
     }
 }
 
-/// Returns where in a text of JSON the value at a place begins, as 10 for the step `requests` in `{"schema":{},"requests":[]}`. Where a key on
-/// the way comes again, it is in the last of its values. The start of the text, where there is no such place. Or out of memory.
-pub fn offset_of(alloc: Global, text: &str, steps: &[Step<'_>]) -> Result<usize, AllocError> {
+/// Finds the places in one pass over the text.
+fn find(alloc: Global, text: &str, places: &mut [Place<'_, '_>]) -> Result<(), AllocError> {
     let mut scratch = Scratch::new(alloc);
     let mut reader = Reader::new(text, &mut scratch)?;
-    match locate(&mut reader, steps) {
-        Ok(Some(offset)) => Ok(offset),
-        Ok(None) | Err(Invalid) => Ok(0),
+    let mut path = Vec::new(alloc);
+    match visit(&mut reader, places, &mut path) {
+        Err(Error::OutOfMemory) => Err(AllocError),
+        Ok(()) | Err(_) => Ok(()),
     }
+}
+
+/// Returns where in a text of JSON the values at places begin, each as `offset_of` does; or out of memory. It reads the text once.
+pub fn offsets_of(
+    alloc: Global,
+    text: &str,
+    places: &[Vec<Step<'_>>],
+) -> Result<Vec<usize>, AllocError> {
+    let mut found = Vec::new(alloc);
+    for steps in places {
+        found.push(Place {
+            steps: steps.as_slice(),
+            offset: 0,
+        })?;
+    }
+    find(alloc, text, found.as_mut_slice())?;
+    let mut offsets = Vec::new(alloc);
+    for place in found.as_slice() {
+        offsets.push(place.offset)?;
+    }
+    Ok(offsets)
+}
+
+/// Returns where in a text of JSON the value at a place begins, as 24 for the step `requests` in `{"schema":{},"requests":[]}`. Where a key on
+/// the way comes again, it is in the last of its values. The start of the text, where there is no such place. Or out of memory.
+pub fn offset_of(alloc: Global, text: &str, steps: &[Step<'_>]) -> Result<usize, AllocError> {
+    let mut places = [Place { steps, offset: 0 }];
+    find(alloc, text, &mut places)?;
+    Ok(places[0].offset)
 }

@@ -13,7 +13,7 @@ use crate::found::shortened;
 use crate::hint::did_you_mean;
 use crate::ignored::{Ignored, ignored_in};
 use crate::object::{line_of, warning_object};
-use crate::offset::offset_of;
+use crate::offset::offsets_of;
 use json::{Scratch, Value};
 use serde_json::Value as Json;
 use sql_tool_document::{Refusal, Wanted, json};
@@ -50,12 +50,28 @@ fn words(alloc: Global, wanted: Wanted, member: &Ignored<'_>) -> Result<String, 
     format!(in alloc; "the member \"{key}\" is ignored{hint}")
 }
 
-/// The object of a member that is ignored.
+/// The offsets at which the members' values begin.
+fn offsets(
+    alloc: Global,
+    text: &str,
+    members: &[Ignored<'_>],
+) -> Result<Vec<usize>, AllocError> {
+    let mut places = Vec::new(alloc);
+    for member in members {
+        let mut steps = Vec::from_slice(alloc, member.steps.as_slice())?;
+        steps.push(Step::Key(member.key))?;
+        places.push(steps)?;
+    }
+    offsets_of(alloc, text, places.as_slice())
+}
+
+/// The object of a member that is ignored, whose value begins at an offset.
 fn object(
     alloc: Global,
     wanted: Wanted,
     text: &str,
     member: &Ignored<'_>,
+    offset: usize,
 ) -> Result<Json, AllocError>
     ensures { IfOk result (λ o. (d : Data) → IsIgnored wanted d (ignored_of member.now)
         → IsWarning wanted d text.now (view o)) }
@@ -63,9 +79,16 @@ fn object(
     let mut steps = Vec::from_slice(alloc, member.steps.as_slice())?;
     steps.push(Step::Key(member.key))?;
     let at = pointer(alloc, steps.as_slice())?;
-    let position = position_at(text.as_bytes(), offset_of(alloc, text, steps.as_slice())?);
+    let position = position_at(text.as_bytes(), offset);
     let says = words(alloc, wanted, member)?;
     warning_object(alloc, at.as_str(), position, says.as_str())
+}
+
+fn offset_at(offsets: &[usize], index: usize) -> usize {
+    match offsets.get(index) {
+        Some(offset) => *offset,
+        None => 0,
+    }
 }
 
 /// A line for each member.
@@ -78,9 +101,11 @@ fn lines(
     ensures { IfOk result (λ s. (d : Data) → AreIgnored wanted d (map ignored_of members.now)
         → Warns wanted d text.now (string_bytes s)) }
 {
+    let offsets = offsets(alloc, text, members)?;
     let mut lines = String::new(alloc);
-    for member in members {
-        let object = object(alloc, wanted, text, member)?;
+    for (index, member) in members.iter().enumerate() {
+        let offset = offset_at(offsets.as_slice(), index);
+        let object = object(alloc, wanted, text, member, offset)?;
         lines.push_str(line_of(alloc, &object)?.as_str())?;
     }
     Ok(lines)

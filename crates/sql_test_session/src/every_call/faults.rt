@@ -3,7 +3,7 @@
 use json::Scratch;
 use sql_test_kit::is;
 use sql_tool_document::{Before, Wanted, has_form, json, refusal_before};
-use sql_tool_fault::{did_you_mean, fault_line, offset_of, shortened, warning_lines};
+use sql_tool_fault::{did_you_mean, fault_line, offset_of, offsets_of, shortened, warning_lines};
 use sql_tool_form::{parts, wrong_place};
 use sql_tool_place::{Step, pointer, position_at};
 use std::alloc::Global;
@@ -50,6 +50,9 @@ fn places(alloc: Global) -> Result<(), Fail> {
     ];
     let text = pointer(alloc, &steps)?;
     let offset = offset_of(alloc, WRONG, &steps)?;
+    let one = vec![in alloc; Vec::from_slice(alloc, &steps)?]?;
+    let offsets = offsets_of(alloc, WRONG, one.as_slice())?;
+    is(offsets.as_slice() == &[offset], "the offset of one of one")?;
     let position = position_at(WRONG.as_bytes(), offset);
     is(text.as_str() == "/requests/0/query/from/table", "a pointer")?;
     is(

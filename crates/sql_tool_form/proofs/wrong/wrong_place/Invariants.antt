@@ -8,7 +8,7 @@ use Rattle.sql_tool_place.specs.inside.Texts.{steps_of}
 
 abbrev pub invariant-loop-wrong : goal.invariant-loop-wrong
 invariant-loop-wrong l =
-    Leads l.wanted (seen l.value) (steps_of l.wrong.steps.items) l.wrong.wanted (seen l.wrong.value.now)
+    Leads l.fn.wanted (seen l.value) (steps_of l.wrong.steps.items) l.wrong.wanted (seen l.wrong.value.now)
     × (has_form l.wrong.wanted (seen l.wrong.value.now) ≡ false)
 
 abbrev pub decreases-loop-wrong : goal.decreases-loop-wrong
