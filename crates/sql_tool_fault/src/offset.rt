@@ -17,10 +17,31 @@ struct Place<'s, 'a> {
     offset: usize,
 }
 
+fn are_same(one: &Step<'_>, other: &Step<'_>) -> bool {
+    match (one, other) {
+        (Step::Key(a), Step::Key(b)) => *a == *b,
+        (Step::Index(a), Step::Index(b)) => *a == *b,
+        _ => false,
+    }
+}
+
+/// Whether the steps begin with those of the path.
+fn begins(steps: &[Step<'_>], path: &[Step<'_>]) -> bool {
+    for (index, step) in path.iter().enumerate() {
+        match steps.get(index) {
+            Some(other) => if !are_same(step, other) {
+                return false;
+            },
+            None => return false,
+        }
+    }
+    true
+}
+
 /// Notes the offset of the places to which the path leads.
 fn mark(places: &mut [Place<'_, '_>], path: &[Step<'_>], offset: usize) {
     for place in places.iter_mut() {
-        if place.steps == path {
+        if place.steps.len() == path.len() && begins(place.steps, path) {
             place.offset = offset;
         }
     }
@@ -29,11 +50,18 @@ fn mark(places: &mut [Place<'_, '_>], path: &[Step<'_>], offset: usize) {
 /// Whether the path leads to a value in which there are places.
 fn is_above(places: &[Place<'_, '_>], path: &[Step<'_>]) -> bool {
     for place in places {
-        if place.steps.len() > path.len() && place.steps.starts_with(path) {
+        if place.steps.len() > path.len() && begins(place.steps, path) {
             return true;
         }
     }
     false
+}
+
+fn go<'a>(path: &mut Vec<Step<'a>>, step: Step<'a>) -> Result<(), Error> {
+    match path.push(step) {
+        Ok(()) => Ok(()),
+        Err(_) => Err(Error::OutOfMemory),
+    }
 }
 
 #[cycle(visit)]
@@ -47,7 +75,7 @@ fn visit_items<'a>(
     let depth = path.len();
     let mut index = 0usize;
     while !reader.take_end_array() {
-        path.push(Step::Index(index))?;
+        go(path, Step::Index(index))?;
         visit(reader, places, path)?;
         path.truncate(depth);
         index = index.saturating_add(1);
@@ -65,7 +93,7 @@ fn visit_members<'a>(
 {
     let depth = path.len();
     while let Some(key) = reader.next_key()? {
-        path.push(Step::Key(key))?;
+        go(path, Step::Key(key))?;
         visit(reader, places, path)?;
         path.truncate(depth);
     }

@@ -9,4 +9,4 @@ abbrev pub decreases-ignored_in : goal.decreases-ignored_in
 decreases-ignored_in l = depth (seen l.value.now)
 
 abbrev pub invariant-loop-part : goal.invariant-loop-part
-invariant-loop-part l = AreIgnored l.wanted (seen l.value) (map ignored_of l.found.items)
+invariant-loop-part l = AreIgnored l.fn.wanted (seen l.value) (map ignored_of l.found.items)

@@ -10,14 +10,14 @@ decreases-visit_items l = 2 * length l.reader.now + 2
 abbrev pub decreases-visit_members : goal.decreases-visit_members
 decreases-visit_members l = 2 * length l.reader.now + 2
 
-abbrev pub invariant-visit_items-loop-index : goal.invariant-visit_items-loop-index
-invariant-visit_items-loop-index l = length l.reader ≤ length l.fn.reader
+abbrev pub invariant-visit_items-loop-path : goal.invariant-visit_items-loop-path
+invariant-visit_items-loop-path l = length l.reader ≤ length l.fn.reader
 
-abbrev pub decreases-visit_items-loop-index : goal.decreases-visit_items-loop-index
-decreases-visit_items-loop-index l = length l.reader
+abbrev pub decreases-visit_items-loop-path : goal.decreases-visit_items-loop-path
+decreases-visit_items-loop-path l = length l.reader
 
-abbrev pub invariant-visit_members-loop-key : goal.invariant-visit_members-loop-key
-invariant-visit_members-loop-key l = length l.reader ≤ length l.fn.reader
+abbrev pub invariant-visit_members-loop-path : goal.invariant-visit_members-loop-path
+invariant-visit_members-loop-path l = length l.reader ≤ length l.fn.reader
 
-abbrev pub decreases-visit_members-loop-key : goal.decreases-visit_members-loop-key
-decreases-visit_members-loop-key l = length l.reader
+abbrev pub decreases-visit_members-loop-path : goal.decreases-visit_members-loop-path
+decreases-visit_members-loop-path l = length l.reader
