@@ -16,8 +16,8 @@ invariant-visit_items-loop-path l = length l.reader ≤ length l.fn.reader
 abbrev pub decreases-visit_items-loop-path : goal.decreases-visit_items-loop-path
 decreases-visit_items-loop-path l = length l.reader
 
-abbrev pub invariant-visit_members-loop-path : goal.invariant-visit_members-loop-path
-invariant-visit_members-loop-path l = length l.reader ≤ length l.fn.reader
+abbrev pub invariant-visit_members-loop-key : goal.invariant-visit_members-loop-key
+invariant-visit_members-loop-key l = length l.reader ≤ length l.fn.reader
 
-abbrev pub decreases-visit_members-loop-path : goal.decreases-visit_members-loop-path
-decreases-visit_members-loop-path l = length l.reader
+abbrev pub decreases-visit_members-loop-key : goal.decreases-visit_members-loop-key
+decreases-visit_members-loop-key l = length l.reader
