@@ -1,6 +1,6 @@
 -- Why bytes are no value.
-use Rattle.std.proofs.Common.{◌≡◌, ℕ, List, Bool, true, false, Option, Some, None, inl, inr, refl, sym, ap, ◌∙◌, subst}
-use Rattle.std.specs.Str.{IsUtf8, is_utf8}
+use Rattle.std.proofs.Common.{◌≡◌, ℕ, List, take, Bool, true, false, Option, Some, None, inl, inr, refl, sym, ap, ◌∙◌, subst}
+use Rattle.std.specs.Str.{IsUtf8, IsValidUpTo, is_utf8}
 use Rattle.std.proofs.lemmas.Str.{IsUtf8-from_is_utf8, is_utf8-from_IsUtf8}
 use Rattle.serde_json.specs.Data.{Data}
 use Rattle.serde_json.specs.Read.{read}
@@ -10,10 +10,12 @@ use Rattle.sql_tool_document.specs.Wanted.{has_form}
 use Rattle.sql_tool_document.specs.declared.wanted.Wanted.{Wanted}
 use Rattle.sql_tool_document.specs.declared.wanted.Wanted.TheVariants.{Schema}
 use Rattle.sql_tool_document.specs.inside.Seen.{seen}
-use Rattle.sql_tool_fault.specs.Faults.{HasFraction, IsFaultObject, IsNoJson, has_form_if_any, is_input}
+use Rattle.sql_tool_fault.specs.Faults.{HasFraction, IsFaultObject, IsNoJson, IsNoValue, IsOfByte, IsOfPlace, byte_data, has_form_if_any, is_input, place_data, position_of}
 use Rattle.sql_tool_fault.specs.inside.Placed.{IsOfWrong}
 use Rattle.sql_tool_form.specs.Places.{IsWrongAt}
 use Rattle.sql_tool_form.specs.declared.wrong.Wrong.{Wrong}
+use Rattle.sql_tool_place.specs.Positions.{column_after, line_after}
+use Rattle.sql_tool_place.specs.declared.position.Position.{Position}
 use Rattle.sql_tool_place.specs.inside.Texts.{steps_of}
 
 pub no_json : (bytes : List ℕ) → IsUtf8 bytes → (IsUtf8 bytes → read bytes ≡ None) → IsNoJson bytes
@@ -52,3 +54,32 @@ placed w bytes d x o is wrong (inr clash) =
     let at : IsWrongAt w d (steps_of x.steps.items) Schema (seen x.value.now) =
     subst (λ v. IsWrongAt w d (steps_of x.steps.items) v (seen x.value.now)) clash.1 wrong in
     inr (inr (steps_of x.steps.items, clash.0, (d, seen x.value.now, is, at, clash.2), clash.3))
+
+-- ---- objects
+
+pub place_of : (text bytes pointer path says : List ℕ) (o : Data) (n : ℕ) (p : Position) → o ≡ place_data pointer p says
+    → pointer ≡ path → p.line ≡ line_after (take n text) → p.column ≡ column_after (take n text) → text ≡ bytes
+    → IsOfPlace bytes path o
+place_of text bytes pointer path says o n p is at line column same = (n, says, is ∙ rw (at, line, column, same) refl)
+
+pub byte_at : (text bytes says : List ℕ) (o : Data) (n : ℕ) (p : Position) → o ≡ byte_data p says
+    → p.line ≡ line_after (take n text) → p.column ≡ column_after (take n text) → text ≡ bytes
+    → o ≡ byte_data (position_of (take n bytes)) says
+byte_at text bytes says o n p is line column same = is ∙ rw (line, column, same) refl
+
+pub byte_of : (text bytes says : List ℕ) (o : Data) (n : ℕ) (p : Position) → o ≡ byte_data p says
+    → p.line ≡ line_after (take n text) → p.column ≡ column_after (take n text) → text ≡ bytes → IsOfByte bytes o
+byte_of text bytes says o n p is line column same = (n, says, byte_at text bytes says o n p is line column same)
+
+pub fraction_value : (text bytes : List ℕ) (d o : Data) → text ≡ bytes → IsUtf8 bytes → read bytes ≡ Some d → value_in bytes ≡ None
+    → ((at : List ℕ) × IsOfPlace text at o) → IsNoValue bytes o
+fraction_value text bytes d o same utf8 reads none h =
+    inr (inr (h.0, has_fraction bytes d utf8 reads none, subst (λ t. IsOfPlace t h.0 o) same h.1))
+
+pub json_value : (text bytes : List ℕ) (o : Data) → text ≡ bytes → IsUtf8 bytes → (IsUtf8 bytes → read bytes ≡ None)
+    → IsOfByte text o → IsNoValue bytes o
+json_value text bytes o same utf8 none h = inr (inl (no_json bytes utf8 none, subst (λ t. IsOfByte t o) same h))
+
+pub text_value : (bytes : List ℕ) (n : ℕ) (o : Data) → (IsUtf8 bytes → ⊥) → IsValidUpTo bytes n
+    → ((says : List ℕ) × (o ≡ byte_data (position_of (take n bytes)) says)) → IsNoValue bytes o
+text_value bytes n o none valid h = inl (n, h.0, no_text bytes none, valid, h.1)
