@@ -35,10 +35,7 @@ fn front<'v, 'a>(items: &'v [Value<'a>], count: usize) -> &'v [Value<'a>]
     }
 }
 
-fn decode_front<T: Decode + Drop>(
-    alloc: Global,
-    items: &[Value<'_>],
-) -> Result<Vec<T>, Refusal>
+fn decode_front<T: Decode + Drop>(alloc: Global, items: &[Value<'_>]) -> Result<Vec<T>, Refusal>
     ensures { Gives (λ v. v.items) result (each T.form (items_seen items.now)) }
 {
     let mut all = Vec::new(alloc);
@@ -118,8 +115,11 @@ pub fn refusal_before(
         Before::Pair(count) => {
             let tables: Vec<TableDecl> = decode_each(alloc, tables)?;
             let joinables: Vec<JoinableDecl> = decode_if_any(alloc, joinables)?;
-            let together: Vec<(SqlText, SqlText)> =
-                decode_first_if_any(alloc, get(value, "together"), count)?;
+            let together: Vec<(SqlText, SqlText)> = decode_first_if_any(
+                alloc,
+                get(value, "together"),
+                count,
+            )?;
             refusal_of(declared(alloc, tables, &joinables, &together)?)
         }
     }

@@ -44,7 +44,11 @@ pub ignored_here : (w : Wanted) (d : Data) (names : List (List ℕ)) (m : Ignore
     → (has m.name d && (m.is_repeated || not (list_any (bytes_eq m.name) names))) ≡ true → IsIgnored w d m
 ignored_here w d names m is none test =
     let parts = both (has m.name d) (m.is_repeated || not (list_any (bytes_eq m.name) names)) test in
-    let unknown : is_known (known w d) m.name ≡ list_any (bytes_eq m.name) names = ap (λ o. is_known o m.name) (sym is) in
-    (w, d, subst (λ ss. Leads w d ss w d) (sym none) (refl, refl), parts.0,
-    right (m.is_repeated ≡ true) (list_any (bytes_eq m.name) names ≡ false) (is_known (known w d) m.name ≡ false)
-    (λ no. unknown ∙ no) (either m.is_repeated (list_any (bytes_eq m.name) names) parts.1))
+    let unknown : is_known (known w d) m.name ≡ list_any (bytes_eq m.name) names = ap (λ o. is_known o m.name) (sym is) in (
+      w,
+      d,
+      subst (λ ss. Leads w d ss w d) (sym none) (refl, refl),
+      parts.0,
+      right (m.is_repeated ≡ true) (list_any (bytes_eq m.name) names ≡ false) (is_known (known w d) m.name ≡ false)
+          (λ no. unknown ∙ no) (either m.is_repeated (list_any (bytes_eq m.name) names) parts.1),
+    )

@@ -93,11 +93,7 @@ fn count(schema: &Value<'_>, list: List) -> usize {
 }
 
 /// The first declaration of one list that cannot stand with those before it.
-fn clash_in(
-    alloc: Global,
-    schema: &Value<'_>,
-    list: List,
-) -> Result<Option<Before>, AllocError>
+fn clash_in(alloc: Global, schema: &Value<'_>, list: List) -> Result<Option<Before>, AllocError>
     ensures { IfOk result (λ o. IfSome o (λ b. Clashes b (seen schema.now))) }
 {
     match first_in(alloc, schema, list, count(schema, list))? {
@@ -166,7 +162,9 @@ pub(crate) fn says_of_clash(
 ) -> Result<&'static str, AllocError> {
     match refusal_before(alloc, schema, next(declaration)) {
         Ok(Some(error)) => Ok(says_of_error(declaration, error)),
-        Ok(None) | Err(Refusal::NotADocument) => Ok("it cannot stand with the declarations before it"),
+        Ok(None) | Err(Refusal::NotADocument) => Ok(
+            "it cannot stand with the declarations before it",
+        ),
         Err(Refusal::NoMemory) => Err(AllocError),
     }
 }

@@ -28,9 +28,7 @@ const MOST: usize = 50;
 fn words(alloc: Global, wanted: Wanted, member: &Ignored<'_>) -> Result<String, AllocError> {
     let key = shortened(alloc, member.key)?;
     if member.is_repeated {
-        return format!(in alloc;
-            "the member \"{key}\" comes again; only its last value counts"
-        );
+        return format!(in alloc; "the member \"{key}\" comes again; only its last value counts");
     }
     if wanted == Wanted::Document && member.steps.is_empty() {
         if member.key == "guard" {
@@ -51,11 +49,7 @@ fn words(alloc: Global, wanted: Wanted, member: &Ignored<'_>) -> Result<String, 
 }
 
 /// The offsets at which the members' values begin.
-fn offsets(
-    alloc: Global,
-    text: &str,
-    members: &[Ignored<'_>],
-) -> Result<Vec<usize>, AllocError> {
+fn offsets(alloc: Global, text: &str, members: &[Ignored<'_>]) -> Result<Vec<usize>, AllocError> {
     let mut places = Vec::new(alloc);
     for member in members {
         let mut steps = Vec::from_slice(alloc, member.steps.as_slice())?;

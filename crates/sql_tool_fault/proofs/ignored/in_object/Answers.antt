@@ -13,14 +13,14 @@ loop-index-preserved c =
     let d = seen c.args.value.now in
     let before = c.loop-index.found.items in
     elim c.match-branch-2.branch [
-      in-Some+in_ok-push b ↦
+      | in-Some+in_ok-push b ↦
           let one = rw b.in-Some.is at c.in_ok-member.ensures in
           let e : map ignored_of c.match-branch-2.found.items ≡ map ignored_of before ++ ignored_of b.in-Some.member ∷ [] =
           rw (b.found-is, b.in_ok-push.ensures.items) (map_push ignored_of before b.in-Some.member) in
           let all : AreIgnored w d (map ignored_of c.match-branch-2.found.items) =
           rw e (ignored-append w d (map ignored_of before) (ignored_of b.in-Some.member ∷ []) c.loop-index.invariant (one, tt)) in
           all
-    | in_default-2 b ↦
+      | in_default-2 b ↦
           let all : AreIgnored w d (map ignored_of c.match-branch-2.found.items) = rw b.found-is c.loop-index.invariant in
           all
     ]

@@ -18,7 +18,9 @@ loop-wrong-preserved c =
     let so_far = c.loop-wrong.wrong in
     let q = c.in-Some.part in
     let pushed : steps_of c.push.new.self.items ≡ steps_of so_far.steps.items ++ step_of q.step ∷ [] =
-    rw c.in_ok-push.ensures.items (map_push step_of so_far.steps.items q.step) in
-    (rw pushed
-    (leads_on (steps_of so_far.steps.items) c.args.wanted so_far.wanted (seen c.args.value.now) (seen so_far.value.now)
-    (part_of q) c.loop-wrong.invariant.0 found.0), found.1)
+    rw c.in_ok-push.ensures.items (map_push step_of so_far.steps.items q.step) in (
+      rw pushed
+          (leads_on (steps_of so_far.steps.items) c.args.wanted so_far.wanted (seen c.args.value.now) (seen so_far.value.now)
+          (part_of q) c.loop-wrong.invariant.0 found.0),
+      found.1,
+    )
