@@ -1,11 +1,11 @@
 -- Why bytes are no value.
-use Rattle.std.proofs.Common.{◌≡◌, ℕ, List, take, Bool, true, false, Option, Some, None, inl, inr, refl, sym, ap, ◌∙◌, subst}
+use Rattle.std.proofs.Common.{◌≡◌, ℕ, List, take, Bool, true, false, Some, None, inl, inr, refl, sym, ap, ◌∙◌, subst}
 use Rattle.std.specs.Str.{IsUtf8, IsValidUpTo, is_utf8}
 use Rattle.std.proofs.lemmas.Str.{IsUtf8-from_is_utf8, is_utf8-from_IsUtf8}
 use Rattle.serde_json.specs.Data.{Data}
 use Rattle.serde_json.specs.Read.{read}
 use Rattle.serde_json.specs.Written.{has_float}
-use Rattle.sql_tool_document.specs.Documents.{value_in, without_floats}
+use Rattle.sql_tool_document.specs.Documents.{value_in}
 use Rattle.sql_tool_document.specs.Wanted.{has_form}
 use Rattle.sql_tool_document.specs.declared.wanted.Wanted.{Wanted}
 use Rattle.sql_tool_document.specs.declared.wanted.Wanted.TheVariants.{Schema}

@@ -12,7 +12,8 @@ returns-in-Some c =
     let d = seen c.in-Ok.value in
     let o = view c.in_ok-wrong_object-in-Some.field-0 in
     let wrong = c.in-Some.wrong in
-    let found = rw c.in-Some.is at c.in_ok-wrong.ensures in
-    (an_input w bytes d c.in-Ok.ensures ∙ found.0,
-    placed w bytes d wrong o c.in-Ok.ensures found.1
-    (subst (λ t. IsOfWrong t wrong o) c.requires.same c.in_ok-wrong_object-in-Some.ensures))
+    let found = rw c.in-Some.is at c.in_ok-wrong.ensures in (
+      an_input w bytes d c.in-Ok.ensures ∙ found.0,
+      placed w bytes d wrong o c.in-Ok.ensures found.1
+          (subst (λ t. IsOfWrong t wrong o) c.requires.same c.in_ok-wrong_object-in-Some.ensures),
+    )
