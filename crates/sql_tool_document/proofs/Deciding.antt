@@ -1,5 +1,5 @@
 -- A test that asks a decoder tells whether the value has the decoder's form.
-use Rattle.std.proofs.Common.{◌≡◌, Result, Ok, Err, IfOk, Bool, Option, Some, None, is_some, refl}
+use Rattle.std.proofs.Common.{◌≡◌, Result, Ok, Err, IfOk, Bool, Option, is_some, refl}
 use Rattle.std.specs.declared.alloc.AllocError.{AllocError}
 use Rattle.sql_tool_document.specs.Giving.{Gives}
 use Rattle.sql_tool_document.specs.inside.Deciding.{Decides}
