@@ -59,9 +59,11 @@ INNER: dict[str, set[str]] = {
     # parts of `run`
     "sql_tool_audit": {"*"},
     "sql_tool_document": {
-        "Call", "Document", "Guard", "Guarded", "NamedPolicy", "Opening", "Policed", "Request", "Template", "Texts",
-        "depth_changes_nothing", "dialect", "dialect_name", "read_call", "read_document", "read_guarded", "read_opening", "read_policed",
-        "read_texts", "type_name",
+        "Before", "Call", "Document", "Guard", "Guarded", "NamedPolicy", "Opening", "Policed", "Request", "Template", "Texts", "Wanted",
+        "as_array", "as_str", "at", "binary_operator", "clause_call", "combination", "depth_changes_nothing", "dialect", "dialect_name",
+        "direction", "get", "has", "has_form", "is_call_name", "join_kind", "json", "only_member", "parsed", "plain_call",
+        "quantified_operator", "read_call", "read_document", "read_guarded", "read_opening", "read_policed", "read_texts", "refusal_before",
+        "sql_type", "text_item", "type_name", "unary_operator",
     },
     "sql_tool_generate": {"*"},
     "sql_guard": {"count_predicates"},
