@@ -1,6 +1,6 @@
 #!/bin/sh
 # Requests a second over one session of the static library, with one request, a hundred and all in a call, from C, and with one in a call from
-# Rust and Python; of the program, over one document and with a process for each request; and of a Rust program that formats the same texts by
+# Rust and Python; the same from Node, by the WebAssembly module (MODULE, else that of tests/wasm.sh, where it is there); of the program, over one document and with a process for each request; and of a Rust program that formats the same texts by
 # hand. Prints a table. By hand, never a test.
 # LIBRARY and PROGRAM, where they are set, are what is measured; else they are built first where they are not.
 top=$(cd "$(dirname "$0")/.." && pwd) || exit 1
@@ -62,6 +62,23 @@ row 'one session from Rust, 1 in a call' "$count" "$("$work/target/release/examp
 cmp "$work/out" "$work/lines" || exit 1
 row 'one session from Python, 1 in a call' "$count" "$(PYTHONDONTWRITEBYTECODE=1 python3 "$top/bench/embed/session.py" "$shared" "$work/schema.json" "$work/by_1" "$work/out")"
 cmp "$work/out" "$work/lines" || exit 1
+module=${MODULE:-$top/crates/hardieflax_c/out/hardieflax.wasm}
+flag=--experimental-wasm-memory64
+node $flag -e 0 2>/dev/null || flag=
+# of_node DOCUMENTS [objects]: the seconds of the calls
+of_node() {
+    documents=$1
+    shift
+    # shellcheck disable=SC2086 # a flag or none
+    node $flag "$top/bench/embed/session.mjs" "$module" "$work/schema.json" "$documents" "$work/out" "$@"
+}
+if [ -e "$module" ] && command -v node >/dev/null; then
+    for size in 1 100 "$count"; do
+        row "one session from Node, $size in a call" "$count" "$(of_node "$work/by_$size")"
+        cmp "$work/out" "$work/lines" || exit 1
+    done
+    row 'one session from Node, 1 in a call, answers as objects' "$count" "$(of_node "$work/by_1" objects)"
+fi
 row 'the program, one document' "$count" "$seconds"
 row 'the program, a process for each request' 480 "$(timed each)"
 row 'by hand, texts alone' "$count" "$("$work/by_hand" "$count" "$work/texts")"

@@ -1,6 +1,6 @@
 # shellcheck shell=sh
 # shellcheck disable=SC2154 # what it reads is set there
-# The parts of ./release, which sources this. They read: top, work, version, abi, program, kit (empty where there is none), and
+# The parts of ./release, which sources this. They read: top, work, version, abi, program, module, kit (empty where there is none), and
 # SOURCE_DATE_EPOCH. $work has a folder `library` (packaging/library.sh), a folder `words` (packaging/words.py) and PROVED.md.
 # glibc is the newest version of it that the program or the library asks for.
 MAINTAINER='Hardieflax maintainers <maintainers@users.noreply.hardieflax.example>'
@@ -99,6 +99,7 @@ install_pages() {
         for it in "$work"/site/*; do place "$it" "$1/html/${it##*/}"; done
     fi
     for it in README.md CHANGELOG.md LICENSE-MIT LICENSE-APACHE; do place "$top/$it" "$1/$it"; done
+    [ -z "$module" ] || place "$work/hardieflax.html" "$1/hardieflax.html"
     for it in "$top"/docs/*; do place "$it" "$1/docs/${it##*/}"; done
     for it in "$top"/examples/*.json "$top"/examples/*.jsonl "$top"/examples/*.sql; do place "$it" "$1/examples/${it##*/}"; done
     place "$top/examples/c/main.c" "$1/examples/c/main.c"
@@ -196,3 +197,21 @@ make_crate() {
     licences "$work/crate/$name/licences"
     packed "$work/crate" "$name" "$1/$name.crate"
 }
+
+# make_npm FOLDER: the JavaScript package with the WebAssembly module, as npm packs one
+make_npm() {
+    [ -n "$module" ] || return 0
+    folder=$work/npm/package
+    for it in hardieflax.js hardieflax.d.ts json.js README.md; do place "$top/js/$it" "$folder/$it"; done
+    # The package's version may say more than the tree's.
+    sed "s/^  \"version\": .*/  \"version\": \"$version\",/" "$top/js/package.json" >"$work/package.json"
+    place "$work/package.json" "$folder/package.json"
+    place "$module" "$folder/hardieflax.wasm"
+    for it in LICENSE-MIT LICENSE-APACHE; do place "$top/$it" "$folder/$it"; done
+    place "$work/PROVED.md" "$folder/PROVED.md"
+    licences "$folder/licences"
+    packed "$work/npm" package "$1/hardieflax-$version.tgz"
+}
+
+# make_page FOLDER: the page, one file
+make_page() { [ -z "$module" ] || place "$work/hardieflax.html" "$1/hardieflax-$version.html"; }

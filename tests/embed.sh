@@ -129,8 +129,9 @@ if [ -n "$c" ]; then
     if check 'the C example compiles' "$c" "$@" -o "$work/main" "$top/examples/c/main.c" "$made/libhardieflax.a"; then
         for document in "$top"/examples/*.json; do
             case $document in
-            */audit.json | */tenant.json) continue ;;
+            */audit.json) continue ;;
             */guard.json) word=guard ;;
+            */tenant.json) word=tenant ;;
             *) word=build ;;
             esac
             check "C, ${document##*/}" prints "${document%.json}.jsonl" "$work/main" "$word" "$document"

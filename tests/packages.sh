@@ -11,6 +11,9 @@ trap 'rm -rf "$work"' EXIT
 program=${PROGRAM:-$top/crates/sql_tool/out/sql_tool}
 filter=$top/examples/filter.json
 lines=$top/examples/filter.jsonl
+# The WebAssembly module that tests/wasm.sh has made, where it has.
+module=$top/crates/hardieflax_c/out/hardieflax.wasm
+[ -e "$module" ] || module=
 unset PYTHONPATH PYTHONHOME
 export PYTHONDONTWRITEBYTECODE=1
 
@@ -53,7 +56,7 @@ version=$(cat "$top/VERSION")
 # make NAME: makes the packages in $work/NAME, and has its files elsewhere than another run
 make() {
     mkdir "$work/$1-files" &&
-        TMPDIR=$work/$1-files quiet "$top/release" --stand-ins "$program" "$work/libhardieflax_c.a" "$work/$1"
+        MODULE=$module TMPDIR=$work/$1-files quiet "$top/release" --stand-ins "$program" "$work/libhardieflax_c.a" "$work/$1"
 }
 
 make_both() {
@@ -260,6 +263,38 @@ TXT
     fi
 else
     echo 'skipped the crate: no cargo'
+fi
+
+# ---- the JavaScript package, below a program of its own, and the page
+
+# unpack: installs it by npm, or as npm does
+unpack() {
+    mkdir -p "$work/js/node_modules" && cp "$top/tests/packages/user.mjs" "$work/js" && echo '{}' >"$work/js/package.json" || return
+    if has npm; then
+        quiet npm install --prefix "$work/js" --cache "$work/npm" --offline --no-audit --no-fund --no-update-notifier "$package"
+    else
+        tar -xzf "$package" -C "$work/js/node_modules" && mv "$work/js/node_modules/package" "$work/js/node_modules/hardieflax"
+    fi
+}
+# is_npm_version: it has this version
+is_npm_version() { [ "$(node -p "require('$work/js/node_modules/hardieflax/package.json').version")" = "$version" ]; }
+# has_wide FLAG..: node has 64-bit memories under these flags
+has_wide() { node "$@" -e 'process.exit(WebAssembly.validate(Uint8Array.of(0, 97, 115, 109, 1, 0, 0, 0, 5, 3, 1, 4, 0)) ? 0 : 1)' 2>/dev/null; }
+
+package=$(one '*.tgz')
+if [ -z "$package" ]; then
+    echo 'skipped the JavaScript package and the page: no WebAssembly module'
+elif has node; then
+    flag=
+    has_wide || flag=--experimental-wasm-memory64
+    if check 'the JavaScript package' unpack && check 'its version in JavaScript' is_npm_version; then
+        # shellcheck disable=SC2086 # a flag or none
+        if has_wide $flag; then check 'JavaScript' builds node $flag "$work/js/user.mjs"; else echo 'skipped JavaScript: no 64-bit memories'; fi
+    fi
+    PAGE=$(one '*.html') && export PAGE && check 'the page' quiet "$top/tests/web.sh"
+    unset PAGE
+else
+    echo 'skipped the JavaScript package: no node'
 fi
 
 [ $# = 1 ] || . "$top/tests/packages/refusals.sh"

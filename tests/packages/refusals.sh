@@ -8,7 +8,7 @@ kit=$work/kit
 # The copy: what ./release packs, crates without sources, tests that pass.
 make_copy() {
     mkdir -p "$copy/crates/sql_low/src" "$copy/crates/sql_tool/src" "$copy/crates/hardieflax_c/src" "$copy/tests"
-    for it in .ci .gitignore bench CHANGELOG.md CONTRIBUTING.md LICENSE-APACHE LICENSE-MIT README.md VERSION docs examples packaging release rust python sql_tool; do
+    for it in .ci .gitignore bench CHANGELOG.md CONTRIBUTING.md LICENSE-APACHE LICENSE-MIT README.md VERSION docs examples js packaging release rust python sql_tool web; do
         cp -R "$top/$it" "$copy"
     done
     rm -rf "$copy/.ci/out"
@@ -25,7 +25,10 @@ make_copy() {
     # These two build what a release needs.
     printf '#!/bin/sh\n%s/sql_tool generate 0 >/dev/null\n' "$copy" >"$copy/tests/process.sh"
     printf '#!/bin/sh\ncd %s/crates/hardieflax_c && rt lib\n' "$copy" >"$copy/tests/embed.sh"
-    chmod +x "$copy/tests/process.sh" "$copy/tests/embed.sh"
+    # A module that nothing runs.
+    # shellcheck disable=SC2016 # that script's words
+    printf '#!/bin/sh\necho "module $1" >"$2"\n' >"$copy/packaging/wasm.sh"
+    chmod +x "$copy/tests/process.sh" "$copy/tests/embed.sh" "$copy/packaging/wasm.sh"
 }
 
 # The kit: an rt that builds the program and the library of these tests, and says what $kit/says has.
@@ -88,6 +91,8 @@ test_release() {
     check 'what is proved' tells "commit $(git -C "$copy" rev-parse HEAD)" 'rattle-kit-test logic 0' 'rt: ok; all of it' '2 passed, 0 failed' \
         "$(sha256sum "$program" | cut -d' ' -f1)" liblibc_c.a "Rattle's checker"
     check 'its packages' [ -e "$copy/dist/hardieflax_${plain}_amd64.deb" ]
+    check 'its JavaScript package' [ -e "$copy/dist/hardieflax-$plain.tgz" ]
+    check 'its page' [ -e "$copy/dist/hardieflax-$plain.html" ]
     check 'the licences of what is linked' holds_licence "hardieflax-$plain-x86_64-linux.tar.gz"
     mv "$copy/dist" "$work/first"
     check 'a release again' ends 0 released
