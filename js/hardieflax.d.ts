@@ -205,8 +205,8 @@ export declare class Session {
   /** The status's word and the lines of more requests, as the library writes them. */
   lines(requests: readonly Request[], values?: Values): { status: "Done" | Status; lines: string };
   /**
-   * An answer for each request; in a session with policies for the tenant of these values. Where a request nests too deep it throws a HardieflaxError of NoMemory, whose `answered` are the answers
-   * before it, and goes on; where memory ran out, without answers, and is closed.
+   * An answer for each request; in a session with policies for the tenant of these values. Where a request nests too deep it throws a
+   * HardieflaxError of NoMemory, whose `answered` are the answers before it, and goes on; where memory ran out, without answers, and is closed.
    */
   build(requests: readonly Request[], values?: Values): Answer[];
   /** Gives back its memory. It answers nothing after that. */

@@ -1,10 +1,11 @@
-// SELECT statements over a schema that you declare, by the proved code of Hardieflax as a WebAssembly module.
+// SELECT statements over a schema that you declare, by Hardieflax's proved library, compiled to a WebAssembly module.
 //
 //     import { open } from "hardieflax";
 //     const session = await open({ tables: [{ name: "users", columns: [{ name: "id", type: "Integer" }] }] });
 //     const [answer] = session.build([{ dialect: "Pg", query: { from: { table: "users" } } }]);
 //
-// hardieflax.d.ts has the types, docs/EMBEDDING.md the calls. The module's code is proved; this file is tested (tests/wasm.sh).
+// hardieflax.d.ts has the types, docs/EMBEDDING.md the calls. The library is proved on x86-64; the module and this file are tested
+// (tests/wasm.sh).
 import { parse, stringify } from "./json.js";
 
 /** The dialects, in the order of their numbers. */
@@ -225,13 +226,13 @@ export class Session {
   lines(requests, values) {
     if (this.#engine === undefined) return { status: "Usage", lines: "" };
     const answer = this.#engine.ask("next", stringify({ schema: { tables: [] }, values, requests }));
-    if (answer.status === "NoMemory" && this.#engine.ask("next", NOTHING).status !== "Done") this.close();
+    if (answer.status === "NoMemory" && this.#engine.ask("next", NOTHING).status === "Usage") this.close();
     return answer;
   }
 
   /**
-   * An answer for each request, for the tenant of these values. Where a request nests too deep it throws a HardieflaxError of NoMemory, whose `answered` are the answers
-   * before it, and goes on; where memory ran out, without answers, and is closed.
+   * An answer for each request, for the tenant of these values. Where a request nests too deep it throws a HardieflaxError of NoMemory, whose
+   * `answered` are the answers before it, and goes on; where memory ran out, without answers, and is closed.
    */
   build(requests, values) {
     return answered(this.lines(requests, values));

@@ -4,10 +4,11 @@
 #   --as-built      takes the libraries below as they are built, as `rt ci` leaves them, and proves crates/hardieflax_c alone, in minutes
 #   MODULE=FILE     takes this module of LLVM's language in place of that of crates/hardieflax_c, for tests: nobody proved it
 #
-# Rattle's backend makes no WebAssembly of code that calls the C library, as the library does where it allocates. So this takes the module of
-# LLVM's language that the backend makes of the proved library for x86-64, names the other target in it, compiles it by the kit's clang with
-# the flags that the kit itself gives for WebAssembly, and links it by the kit's linker with packaging/wasm/heap.c and calls.c, and packaging/version.c. It
-# refuses a module that has something of x86-64 in it. docs/EMBEDDING.md says what that asks to be trusted. One tree gives the same bytes each time.
+# Rattle's backends make no WebAssembly of code that calls the C library, as the library does where it allocates. So this takes the module of
+# LLVM's language that comes of the proved library for x86-64, names the other target in it, compiles it by the kit's clang with the flags that
+# the kit itself gives for WebAssembly, and links it by the kit's linker with packaging/wasm/heap.c and calls.c and packaging/version.c. It
+# refuses a module that has something of x86-64 in it. No proof covers this: docs/EMBEDDING.md says what it asks to be trusted. One tree gives
+# the same bytes each time.
 set -e
 top=$(cd "$(dirname "$0")/.." && pwd)
 crate=hardieflax_c

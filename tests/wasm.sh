@@ -27,8 +27,8 @@ make() {
 
 # heap COMPILER: the heap's own test, on this machine
 heap() {
-    "$1" -std=c11 -Wall -Wextra -Werror -O1 -g -fsanitize=undefined -I"$top/packaging/wasm" -o "$work/heap" "$top/tests/wasm/heap_test.c" >"$work/log" 2>&1 &&
-        "$work/heap" >>"$work/log" 2>&1 && [ "$(tail -n 1 "$work/log")" = ok ] && return
+    "$1" -std=c11 -Wall -Wextra -Werror -O1 -g -fsanitize=undefined -I"$top/packaging/wasm" -o "$work/heap" "$top/tests/wasm/heap_test.c" \
+        >"$work/log" 2>&1 && "$work/heap" >>"$work/log" 2>&1 && [ "$(tail -n 1 "$work/log")" = ok ] && return
     cat "$work/log"
     return 1
 }

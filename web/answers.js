@@ -127,7 +127,8 @@ export function answers(library, text, schema, tenant = { on: false }) {
   } catch (error) {
     const place = error.at ?? 0;
     const says = error.at === undefined ? "the text nests too deep to be read here" : error.message;
-    return { call: "build", command: "build", status: "BadDocument", lines: "", requests: [], said: [said(text, { start: place, end: place + 1, says }, "fault")] };
+    const fault = said(text, { start: place, end: place + 1, says }, "fault");
+    return { call: "build", command: "build", status: "BadDocument", lines: "", requests: [], said: [fault] };
   }
   const { call, text: input } = asked(text, root, tenant);
   const { status, lines } = library.lines(call, input);

@@ -18,6 +18,20 @@ export function tokens(text) {
 // A placeholder gets another number where one is put before it.
 const compared = ({ text, kind }) => (kind === "placeholder" ? "?" : text);
 
+/** Has each run of added tokens end with a word where it may as well begin with the blank before it. */
+function endedByWords(marked) {
+  for (let from = 0; from < marked.length;) {
+    let to = from;
+    while (to < marked.length && marked[to].added) to += 1;
+    if (to > from && from > 0 && marked[from - 1].text === " " && marked[to - 1].text === " ") {
+      marked[from - 1].added = true;
+      marked[to - 1].added = false;
+    }
+    from = to + 1;
+  }
+  return marked;
+}
+
 /**
  * The tokens of a guarded text, with `added` where the plain text has no such token: what is left of the longest list of tokens that both
  * have, in order.
@@ -49,7 +63,7 @@ export function added(plain, guarded) {
       j += 1;
     }
   }
-  return marked;
+  return endedByWords(marked);
 }
 
 // Of the marks on one piece the last of these is seen.

@@ -46,7 +46,8 @@ test("it answers as the program does, whose status each call has", { skip: !isBu
     ["build", "{"], ["build", Uint8Array.of(0x22, 0xff)], ["build", "[]"], ["build", ""], ["guard", file("examples/filter.json")],
     ["tenant", file("examples/filter.json")], ["build", JSON.stringify(document(...generated))],
     ["build", JSON.stringify(document(filters(300)))],
-    ["audit", "{}", "Mysql"], ["read", "", "Pg"], ["read", "SELECT 1", "Sqlite"], ["read", Uint8Array.of(0xff), "Bracket"], ["read", "(".repeat(500), "Pg"],
+    ["audit", "{}", "Mysql"], ["read", "", "Pg"], ["read", "SELECT 1", "Sqlite"], ["read", Uint8Array.of(0xff), "Bracket"],
+    ["read", "(".repeat(500), "Pg"],
   ];
   for (const [call, input, dialect] of inputs) {
     const here = library.lines(call, input, dialect);
@@ -64,7 +65,8 @@ test("answers are objects, whose whole numbers keep their value", () => {
     binds: [["BigInt", 9007199254740993n]], columns: ["Text?"], id: 1, safe: true, sql: "SELECT `foo`.`name` FROM `foo` WHERE (`foo`.`big` = ?)",
   });
   assert.deepEqual(refused, { refused: "UnknownName" });
-  assert.deepEqual(library.read("Pg", 'SELECT  "a" .  "b"'), { refused: "NotInGrammar" });
+  assert.deepEqual(library.read("Pg", 'SELECT  "a"."b"'), { placeholders: 0, sql: 'SELECT "a"."b"' });
+  assert.deepEqual(library.read("Pg", 'SELECT "a"."b'), { refused: "NotInGrammar" });
   const audited = library.audit("Pg", { schema, texts: ['SELECT "foo"."id" FROM "foo"'] });
   assert.deepEqual(audited, [{ columns: [["foo", "id"]], sources: [0], tables: ["foo"] }]);
 });
@@ -127,12 +129,18 @@ test("an input past 16 MB is TooLarge", () => {
 
 test("out of memory is a status, and the next call answers", async () => {
   const small = await load({ module, memory: 6 * 2 ** 20 });
-  const many = document(...Array.from({ length: 20000 }, () => filters(3)));
+  const many = document(...Array.from({ length: 5000 }, () => filters(3)));
   assert.equal(small.lines("build", many).status, "NoMemory");
   assert.equal(small.build(document(filters(1)))[0].id, 1);
   const session = small.open(schema);
+  // an input for which there is no room is not asked
+  assert.throws(() => session.build(Array(40000).fill(filters(3))), (error) => error.status === "NoMemory" && error.answered.length === 0);
+  assert.equal(session.build([filters(1)])[0].id, 1);
   assert.throws(() => session.build(many.requests), (error) => error.status === "NoMemory" && error.answered.length === 0);
   assert.equal(session.isOpen, false);
+  const forTenants = library.open(schema, { tenant: policies });
+  assert.throws(() => forTenants.build([filters(1), filters(2600)], { tenant: 7 }), (error) => error.status === "NoMemory");
+  if (forTenants.isOpen) assert.equal(forTenants.build([filters(1)], { tenant: 8 })[0].id, 1);
 });
 
 test("depth is a status: the deepest request is answered, or there is no memory for it, and a deeper one never is", async () => {

@@ -9,7 +9,7 @@ import { check, nearest } from "../../web/schema.js";
 import { file, filters, library, names, schema } from "./module.js";
 
 const SCHEMA = JSON.parse(file("docs/document.schema.json"));
-const OPENING = `{"schema":{"tables":[{"name":"posts","columns":[{"name":"tenant","type":"Integer"}]}]},
+const OPENING = `{"schema":{"tables":[{"name":"posts","columns":[{"name":"id","type":"Integer"},{"name":"tenant","type":"Integer"}]}]},
  "tenant":[{"table":"posts","predicate":{"eq":[{"col":["posts","tenant"]},{"bind":["Integer",{"value":"tenant"}]}]}}],
  "values":{"tenant":7},"requests":[{"dialect":"Pg","query":{"from":{"table":"posts"}}}]}`;
 const DEFINITIONS = { "guard.json": "GUARDED", "tenant.json": "POLICED", "audit.json": "AUDITED" };
