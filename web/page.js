@@ -156,6 +156,8 @@ function stateOf({ status, call, requests, said }, all) {
 }
 
 function answer() {
+  clearTimeout(pause);
+  offerColumns(editor.value);
   const text = editor.value;
   const began = performance.now();
   shown = answers(library, text, schema, tenant());
@@ -169,13 +171,15 @@ function answer() {
   element("lines").textContent = shown.lines;
   element("command").textContent = `sql_tool ${shown.command}`;
   element("first").hidden = shown.command !== "session";
+  element("answers").setAttribute("aria-busy", "false");
   follow();
   scrolled();
 }
 
-function changed() {
+/** Answers what is typed, at once where that is quick. */
+function typed() {
+  element("answers").setAttribute("aria-busy", "true");
   clearTimeout(pause);
-  offerColumns(editor.value);
   if (took < QUICK) answer();
   else pause = setTimeout(answer, PAUSE);
 }
@@ -193,7 +197,7 @@ function scrolled() {
 function put(text, isOn) {
   editor.value = text;
   element("tenant-on").checked = isOn;
-  changed();
+  answer();
   editor.setSelectionRange(0, 0);
   editor.scrollTop = 0;
 }
@@ -201,10 +205,10 @@ function put(text, isOn) {
 async function showLink() {
   const found = await unlinked(location.hash);
   if (found === undefined) return false;
-  put(found.text, found.on === true);
-  if (typeof found.column === "string") element("tenant-column").value = found.column;
   if (typeof found.value === "string") element("tenant-value").value = found.value;
-  answer();
+  offerColumns(found.text);
+  if (typeof found.column === "string") element("tenant-column").value = found.column;
+  put(found.text, found.on === true);
   return true;
 }
 
@@ -220,12 +224,12 @@ async function copyLink() {
 }
 
 function listen() {
-  editor.addEventListener("input", changed);
+  editor.addEventListener("input", typed);
   editor.addEventListener("scroll", scrolled);
   document.addEventListener("selectionchange", () => document.activeElement === editor && follow());
   element("tools").addEventListener("submit", (event) => event.preventDefault());
-  for (const id of ["tenant-on", "tenant-column"]) element(id).addEventListener("change", changed);
-  element("tenant-value").addEventListener("input", changed);
+  for (const id of ["tenant-on", "tenant-column"]) element(id).addEventListener("change", answer);
+  element("tenant-value").addEventListener("input", typed);
   element("link").addEventListener("click", copyLink);
   addEventListener("hashchange", showLink);
   const box = element("example");

@@ -28,20 +28,22 @@ const lines = (page) => page.tell("document.getElementById('lines').textContent"
 const status = (page) => page.tell("document.getElementById('status').textContent");
 const said = (page) => page.tell("[...document.querySelectorAll('#said button')].map((each) => each.textContent)");
 
+const settled = (page) => page.until("document.getElementById('answers').getAttribute('aria-busy') === 'false'");
+
 async function choose(page, index) {
   await page.tell(`(() => {
     const box = document.getElementById('example');
     box.value = '${index}';
     box.dispatchEvent(new Event('change', { bubbles: true }));
   })()`);
-  await page.until("document.getElementById('status').textContent !== 'Loading'");
+  await settled(page);
 }
 
 /** Writes this text in place of what the editor has, as a person who selects all and pastes. */
 async function write(page, text) {
   await page.tell("document.getElementById('document').focus(), document.getElementById('document').select()");
   await page.type(text);
-  await page.tell("new Promise((done) => setTimeout(done, 400))");
+  await settled(page);
 }
 
 async function fits(page, what) {
@@ -64,21 +66,21 @@ async function examples(page) {
     expect(`${name}: each request in four dialects`, counts[0] === requests && counts[1] === 4 * requests, counts);
     times.push(await page.tell(`Math.min(...Array.from({ length: 5 }, () => {
       const began = performance.now();
-      document.getElementById('document').dispatchEvent(new Event('input'));
+      document.getElementById('example').dispatchEvent(new Event('change'));
       return performance.now() - began;
     }))`));
   }
 }
 
 async function typing(page) {
+  await choose(page, 0);
   await write(page, read("crates/sql_tool/stdin"));
-  const count = read("crates/sql_tool/stdout").split("\n").length;
-  await page.until(`document.getElementById('lines').textContent.split("\\n").length === ${count}`);
   expect("the stored run: its lines are the program's", (await lines(page)) === read("crates/sql_tool/stdout"));
   await write(page, `{"schema":${USERS},"requests":[\n  {"dialect":"Pg","query":{"from":{"table":"users"}}}`);
   expect("half a document is none", (await status(page)).startsWith("BadDocument"), await status(page));
   expect("half a document: where it ends", (await said(page))[0]?.startsWith("line 2, column 54"), await said(page));
   await page.type("]}");
+  await settled(page);
   expect("what is typed is answered", (await lines(page)).includes('"sql":"SELECT \\"users\\".\\"id\\" FROM \\"users\\""'), await lines(page));
   expect("what is typed has nothing wrong", (await said(page)).length === 0, await said(page));
   const text = await page.tell("document.querySelector('.dialect .sql').textContent");
@@ -88,7 +90,7 @@ async function typing(page) {
 async function faults(page) {
   await write(page, '{"schema":{"tables":[{"name":"users","columns":[{"name":"id","type":"Interger"}]}]},\n"requests":[]}');
   const one = (await said(page))[0];
-  expect("a type that is none: its place, and what is meant", one === 'line 1, column 66: there is no "Interger" here: "Integer" is meant?', one);
+  expect("a type that is none: its place, and what is meant", one === 'line 1, column 69: there is no "Interger" here: "Integer" is meant?', one);
   expect("it is marked in the document", (await page.tell("document.querySelector('#marks mark')?.textContent")) === '"Interger"');
   await page.tell("document.querySelector('#said button').click()");
   const chosen = await page.tell("getSelection().toString()");
@@ -96,7 +98,9 @@ async function faults(page) {
   await write(page, `{"schema":${USERS},"requests":[{"dialect":"Pg","query":{"from":{"table":"users"},"call":[]}}]}`);
   expect("a misspelt member is warned of", (await said(page))[0]?.endsWith('nothing reads the member "call": "calls" is meant?'), await said(page));
   await write(page, '{"schema":{"tables":[]},"requests":[{"dialect":"Pg","query":{"from":{"table":"<b>x</b>"}}}]}');
-  const refused = await page.tell("[document.querySelector('.refused').textContent, document.querySelector('.why').textContent]");
+  const refused = await page.tell("[document.querySelector('.dialect .refused').textContent, document.querySelector('.why').textContent]");
+  const broken = await page.tell("document.querySelector('#marks .refused').textContent");
+  expect("the request that breaks it is marked", broken === '{"dialect":"Pg","query":{"from":{"table":"<b>x</b>"}}}', broken);
   expect("a rule that is broken, and what it asks", refused[0] === "UnknownName" && refused[1].startsWith("The schema does not declare"), refused);
 }
 
