@@ -137,9 +137,10 @@ export function answers(library, text, schema, tenant = { on: false }) {
     found.push(said(text, { start: root.start, end: root.start + 1, says: CONTRADICTION }, "fault"));
   }
   const own = lined(lines).slice(0, SHOWN).map(parse);
+  const requests = status === "BadDocument" ? [] : requestsOf(library, text, input, root, call, own);
   // Of the commands that guard only `session` reads policies with places.
   const command = call === "tenant" && root.members.has("values") ? "session" : call;
-  return { call, command, status, lines, requests: requestsOf(library, text, input, root, call, own), said: found };
+  return { call, command, status, lines, requests, said: found };
 }
 
 function requestsOf(library, text, input, root, call, own) {

@@ -54,10 +54,11 @@ function factsOf({ binds, columns, id, safe }) {
   return make("dl", "", ...facts.flatMap(([name, text]) => [make("dt", "", name), make("dd", "", text)]));
 }
 
-function bodyOf(answer, plain) {
+/** What is shown of an answer; what a rule asks is left out where it is said already. */
+function bodyOf(answer, plain, isSaid) {
   if (answer === undefined) return [make("p", "why", "no answer")];
   if (answer.refused !== undefined) {
-    const why = rules[answer.refused];
+    const why = isSaid ? undefined : rules[answer.refused];
     return [make("p", "refused", answer.refused), why === undefined ? undefined : make("p", "why", why)];
   }
   return [sqlOf(answer.sql, plain?.sql), factsOf(answer)];
@@ -67,10 +68,11 @@ function requestOf(request, index) {
   const jump = make("button", "", `Request ${index + 1}`);
   jump.type = "button";
   jump.addEventListener("click", () => show(request.start, request.end));
+  const rule = request.answers.find(({ dialect }) => dialect === request.dialect)?.answer?.refused;
   const dialects = request.answers.map(({ dialect, answer, plain }) => {
     const own = dialect === request.dialect;
     const heading = make("h3", "", make("span", "", NAMES.get(dialect)), own ? make("span", "", "asked") : undefined);
-    return make("section", own ? "dialect own" : "dialect", heading, ...bodyOf(answer, plain));
+    return make("section", own ? "dialect own" : "dialect", heading, ...bodyOf(answer, plain, !own && answer?.refused === rule));
   });
   return make("article", "", make("h2", "", jump), make("div", "dialects", ...dialects));
 }
@@ -199,7 +201,7 @@ function put(text, isOn) {
   element("tenant-on").checked = isOn;
   answer();
   editor.setSelectionRange(0, 0);
-  editor.scrollTop = 0;
+  for (const id of ["document", "answers"]) element(id).scrollTop = 0;
 }
 
 async function showLink() {
@@ -225,6 +227,7 @@ async function copyLink() {
 
 function listen() {
   editor.addEventListener("input", typed);
+  editor.addEventListener("input", () => { element("example").value = ""; });
   editor.addEventListener("scroll", scrolled);
   document.addEventListener("selectionchange", () => document.activeElement === editor && follow());
   element("tools").addEventListener("submit", (event) => event.preventDefault());
