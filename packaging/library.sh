@@ -1,7 +1,9 @@
 #!/bin/sh
 # Makes the library of the packages, libhardieflax, static and shared, in a folder: library.sh VERSION FOLDER ARCHIVE..
 # The archives are that of crates/hardieflax_c and the kit's liblibc_c.a, by which it allocates (docs/EMBEDDING.md). Beside what these have,
-# the library has its version, the toolchain that proved it, and the names of its statuses. The shared one exports the calls of the header and nothing else. One set of archives gives the same bytes.
+# the library has its version, the toolchain that proved it, and the names of its statuses. The shared one exports the calls of the header and
+# nothing else. One set of archives gives the same bytes. For another processor TOOLS is what the names of its tools begin with, as
+# aarch64-linux-gnu- (packaging/arm.sh).
 set -e
 [ $# -ge 3 ] || {
     echo 'usage: library.sh VERSION FOLDER ARCHIVE..' >&2
@@ -12,7 +14,7 @@ header=$top/examples/c/hardieflax.h
 version=$1
 folder=$2
 shift 2
-c=$(command -v cc || command -v gcc || command -v clang) || {
+c=$(command -v "${TOOLS-}cc" || command -v "${TOOLS-}gcc" || command -v "${TOOLS-}clang") || {
     echo 'library.sh: no C compiler' >&2
     exit 1
 }
@@ -39,8 +41,8 @@ for archive in "$@"; do
     # A path from here would be none from there.
     archive=$(cd "$(dirname "$archive")" && pwd)/$(basename "$archive")
     mkdir "$work/$number"
-    (cd "$work/$number" && ar x "$archive")
-    [ -z "$(ar t "$archive" | sort | uniq -d)" ] || {
+    (cd "$work/$number" && "${TOOLS-}ar" x "$archive")
+    [ -z "$("${TOOLS-}ar" t "$archive" | sort | uniq -d)" ] || {
         echo "library.sh: two members of $archive have one name, so one would be lost" >&2
         exit 1
     }
@@ -50,7 +52,7 @@ for archive in "$@"; do
     done
 done
 rm -f "$folder/libhardieflax.a"
-ar rcsD "$folder/libhardieflax.a" "$members"/*
+"${TOOLS-}ar" rcsD "$folder/libhardieflax.a" "$members"/*
 
 # The calls, as the header declares them.
 calls=$(sed -n 's/^[a-z].*[ *]\(hardieflax_[a-z_]*\)(.*;$/\1/p' "$header" | sort)
@@ -64,7 +66,7 @@ calls=$(sed -n 's/^[a-z].*[ *]\(hardieflax_[a-z_]*\)(.*;$/\1/p' "$header" | sort
     -Wl,--whole-archive "$folder/libhardieflax.a" -Wl,--no-whole-archive -Wl,-z,defs -Wl,-z,relro -Wl,-z,now -Wl,-s
 ln -sf "libhardieflax.so.$version" "$folder/libhardieflax.so.$abi"
 ln -sf "libhardieflax.so.$abi" "$folder/libhardieflax.so"
-exported=$(nm -D --defined-only "$folder/libhardieflax.so" | cut -d' ' -f3 | sort)
+exported=$("${TOOLS-}nm" -D --defined-only "$folder/libhardieflax.so" | cut -d' ' -f3 | sort)
 [ "$exported" = "$calls" ] || {
     printf 'library.sh: the header declares\n%s\nand the library exports\n%s\n' "$calls" "$exported" >&2
     exit 1

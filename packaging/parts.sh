@@ -1,6 +1,6 @@
 # shellcheck shell=sh
 # shellcheck disable=SC2154 # what it reads is set there
-# The parts of ./release, which sources this. They read: top, work, version, abi, program, module, kit (empty where there is none), and
+# The parts of ./release, which sources this. They read: top, work, version, abi, program, module, arm, kit (empty where there is none), and
 # SOURCE_DATE_EPOCH. $work has a folder `library` (packaging/library.sh), a folder `words` (packaging/words.py) and PROVED.md.
 # glibc is the newest version of it that the program or the library asks for.
 MAINTAINER='Hardieflax maintainers <maintainers@users.noreply.hardieflax.example>'
@@ -72,10 +72,10 @@ install_words() {
     place "$work/words/hardieflax.fish" "$1/share/fish/vendor_completions.d/hardieflax.fish"
 }
 
-# install_library PREFIX LIBRARIES ROOT: the library, its header and what pkg-config reads; ROOT is what the last calls the prefix
+# install_library PREFIX LIBRARIES ROOT FOLDER: the library of the folder, its header and what pkg-config reads; ROOT is what that calls the prefix
 install_library() {
-    place "$work/library/libhardieflax.a" "$1/$2/libhardieflax.a"
-    place "$work/library/libhardieflax.so.$version" "$1/$2/libhardieflax.so.$version"
+    place "$4/libhardieflax.a" "$1/$2/libhardieflax.a"
+    place "$4/libhardieflax.so.$version" "$1/$2/libhardieflax.so.$version"
     ln -s "libhardieflax.so.$version" "$1/$2/libhardieflax.so.$abi"
     ln -s "libhardieflax.so.$abi" "$1/$2/libhardieflax.so"
     place "$top/examples/c/hardieflax.h" "$1/include/hardieflax.h"
@@ -120,19 +120,29 @@ make_tar() {
     install_words "$work/tar/$name" site-functions
     # Wherever it is unpacked, the description is two folders below.
     # shellcheck disable=SC2016 # pkg-config's own variable
-    install_library "$work/tar/$name" lib '${pcfiledir}/../..'
+    install_library "$work/tar/$name" lib '${pcfiledir}/../..' "$work/library"
     install_pages "$work/tar/$name/share/doc/hardieflax"
     packed "$work/tar" "$name" "$1/$name.tar.gz"
 }
 
-# make_deb FOLDER: the same for Debian
+# make_arm FOLDER: the library alone for 64-bit ARM processors, to be unpacked anywhere
+make_arm() {
+    [ -n "$arm" ] || return 0
+    name=hardieflax-$version-aarch64-linux
+    # shellcheck disable=SC2016 # pkg-config's own variable
+    install_library "$work/arm-tar/$name" lib '${pcfiledir}/../..' "$arm"
+    install_pages "$work/arm-tar/$name/share/doc/hardieflax"
+    packed "$work/arm-tar" "$name" "$1/$name.tar.gz"
+}
+
+# make_deb FOLDER: everything, for Debian
 make_deb() {
     root=$work/deb
     libraries=lib/x86_64-linux-gnu
     pages=$root/usr/share/doc/hardieflax
     install_program "$root/usr"
     install_words "$root/usr" vendor-completions
-    install_library "$root/usr" $libraries /usr
+    install_library "$root/usr" $libraries /usr "$work/library"
     install_pages "$pages"
     {
         printf 'hardieflax (%s) unstable; urgency=medium\n\n  * CHANGELOG.md says what is new.\n\n' "$version"

@@ -11,14 +11,8 @@
 # the same bytes each time.
 set -e
 top=$(cd "$(dirname "$0")/.." && pwd)
-crate=hardieflax_c
 # A deep request takes less than 1.5 MB of it. The engine's own stack ends long before.
 STACK=4194304
-
-give_up() {
-    echo "wasm.sh: $1" >&2
-    exit 1
-}
 
 as_built=
 if [ "${1-}" = --as-built ]; then
@@ -31,39 +25,9 @@ fi
 }
 version=$1
 file=$2
-page=$(rt doc) || give_up "rt, Rattle's toolchain, is not on the path"
-kit=$(dirname "$page")
 work=$(mktemp -d)
 trap 'rm -rf "$work"' EXIT
-
-# libraries: those that the crate may name, as crates.txt lists them
-libraries() { sed -n "s/^$crate staticlib: *//p" "$top/crates.txt"; }
-
-# rlib NAME: where a library is built; nothing where it is not
-rlib() {
-    for it in "$top/crates/$1/out/rlib/$1.rlib" "$kit/rlibs/$1.rlib"; do
-        [ ! -e "$it/format" ] || { echo "$it"; return; }
-    done
-}
-
-# is_current: whether the static library is there and no source is newer, so that `rt lib` has proved all below
-is_current() {
-    archive=$top/crates/$crate/out/lib$crate.a
-    [ -e "$archive" ] &&
-        [ -z "$(find "$top/crates" "$top/crates.txt" -name out -prune -o -type f -newer "$archive" -print | head -n 1)" ]
-}
-
-# prove_below: proves and builds what is not current, the static library too
-prove_below() {
-    ! is_current || return 0
-    echo 'wasm.sh: proving and building the library first: about an hour from a clean checkout' >&2
-    touch "$work/began"
-    (cd "$top/crates/$crate" && rt lib >"$work/log" 2>&1) || {
-        tail -n 20 "$work/log" >&2
-        give_up 'the library is not proved'
-    }
-    touch -r "$work/began" "$archive"
-}
+. "$top/packaging/proved.sh"
 
 # capture: a toolchain whose clang keeps the module that it is given, and compiles nothing
 capture() {
@@ -79,24 +43,13 @@ TXT
     chmod +x "$work/toolchain/bin/clang"
 }
 
-# prove: checks the library over what is proved below it, and keeps the module that would be compiled
+# prove: proves the library, and keeps the module that would be compiled
 prove() {
     capture
-    set -- build --crate-name $crate src/lib.rt --crate-type staticlib --toolchain "$work/toolchain" -o "$work/none.a" \
-        --extern "std=$kit/rlibs/std.rlib" -L "dependency=$kit/rlibs" --antt-project "$kit/rattle/logic/antt-project.json" \
-        --logic-built "$kit/logic_built" --links $crate=
-    for it in $(libraries); do
-        built=$(rlib "$it")
-        [ -n "$built" ] || give_up "$it, below the library, is not built"
-        set -- "$@" --extern "$it=$built" -L "dependency=$(dirname "$built")"
-    done
+    set -- --toolchain "$work/toolchain" -o "$work/none.a"
     # Where the crate was checked before, that check's files are there.
     [ ! -d "$top/crates/$crate/out/incremental" ] || set -- "$@" --incremental "$top/crates/$crate/out/incremental"
-    (cd "$top/crates/$crate" && "$kit/bin/rattle" "$@" >"$work/log" 2>&1) || {
-        tail -n 20 "$work/log" >&2
-        give_up 'the library is not proved'
-    }
-    grep '^logic=proved' "$work/log" >&2
+    rattle build "$@"
 }
 
 clang() { "$kit/toolchain/bin/clang" --target=wasm64-unknown-unknown -mcpu=lime1 --no-default-config -no-canonical-prefixes "$@"; }

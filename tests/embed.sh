@@ -131,7 +131,7 @@ if [ -n "$c" ]; then
             case $document in
             */audit.json) continue ;;
             */guard.json) word=guard ;;
-            */tenant.json) word=tenant ;;
+            */tenant.json) word=session ;;
             *) word=build ;;
             esac
             check "C, ${document##*/}" prints "${document%.json}.jsonl" "$work/main" "$word" "$document"

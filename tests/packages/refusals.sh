@@ -25,10 +25,13 @@ make_copy() {
     # These two build what a release needs.
     printf '#!/bin/sh\n%s/sql_tool generate 0 >/dev/null\n' "$copy" >"$copy/tests/process.sh"
     printf '#!/bin/sh\ncd %s/crates/hardieflax_c && rt lib\n' "$copy" >"$copy/tests/embed.sh"
-    # A module that nothing runs.
+    # A module and a library for ARM that nothing runs.
+    cp "$work/good" "$copy/tests/arm.sh"
     # shellcheck disable=SC2016 # that script's words
     printf '#!/bin/sh\necho "module $1" >"$2"\n' >"$copy/packaging/wasm.sh"
-    chmod +x "$copy/tests/process.sh" "$copy/tests/embed.sh" "$copy/packaging/wasm.sh"
+    # shellcheck disable=SC2016 # that script's words
+    printf '#!/bin/sh\nmkdir "$2" && echo static >"$2/libhardieflax.a" && echo shared >"$2/libhardieflax.so.$1"\n' >"$copy/packaging/arm.sh"
+    chmod +x "$copy/tests/process.sh" "$copy/tests/embed.sh" "$copy/packaging/wasm.sh" "$copy/packaging/arm.sh"
 }
 
 # The kit: an rt that builds the program and the library of these tests, and says what $kit/says has.
@@ -71,7 +74,7 @@ tells() {
         grep -qF -- "$text" "$copy/dist/PROVED.md" || { echo "no '$text' in PROVED.md"; return 1; }
     done
 }
-holds_licence() { tar -tzf "$copy/dist/$1" | grep -q '/licences/itoa/LICENSE$'; }
+holds() { tar -tzf "$copy/dist/$1" | grep -q "/$2\$"; }
 
 test_release() {
     make_copy
@@ -93,7 +96,8 @@ test_release() {
     check 'its packages' [ -e "$copy/dist/hardieflax_${plain}_amd64.deb" ]
     check 'its JavaScript package' [ -e "$copy/dist/hardieflax-$plain.tgz" ]
     check 'its page' [ -e "$copy/dist/hardieflax-$plain.html" ]
-    check 'the licences of what is linked' holds_licence "hardieflax-$plain-x86_64-linux.tar.gz"
+    check 'the licences of what is linked' holds "hardieflax-$plain-x86_64-linux.tar.gz" licences/itoa/LICENSE
+    check 'its library for ARM' holds "hardieflax-$plain-aarch64-linux.tar.gz" "lib/libhardieflax.so.$plain"
     mv "$copy/dist" "$work/first"
     check 'a release again' ends 0 released
     check 'a release again is the same' quiet diff -r "$copy/dist" "$work/first"
