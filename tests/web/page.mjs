@@ -181,6 +181,11 @@ async function main() {
     expect("it has a version", (await page.tell("document.documentElement.dataset.version")).startsWith(read("VERSION").trim()));
     const loaded = await page.tell("performance.getEntriesByType('resource').map(({ name }) => name).filter((name) => !/^(data|blob):/.test(name))");
     expect("nothing else is loaded", loaded.length === 0, loaded);
+    const isRefused = await page.tell(`new Promise((done) => {
+      addEventListener("securitypolicyviolation", () => done(true));
+      fetch("http://127.0.0.1:9/").catch(() => setTimeout(() => done(false), 1000));
+    })`);
+    expect("the browser lets it send nothing", isRefused);
     for (const part of [examples, typing, faults, tenants, links, keyboard, looks]) {
       try {
         await part(page);
