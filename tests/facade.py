@@ -30,7 +30,7 @@ INNER: dict[str, set[str]] = {
     # another name of a type of `sql_schema`
     "sql_dialect": {"NoMemory"},
     # parts of the reader
-    "sql_read_lexer": {"Keyword", "Token", "same_found", "text_tokens"},
+    "sql_read_lexer": {"Keyword", "Token", "differ_in_spaces", "same_found", "text_tokens"},
     "sql_read_machine": {"*"},
     "sql_read_tree": {"count_query", "expression_in", "names_in", "query_in"},
     "sql_read_writer": {"*"},

@@ -4,7 +4,8 @@
 //! crates depend: a change in one of the five leaves the others alone.
 //!
 //! The machine may find a tree for tokens that have no reading, as it looks at no more than it needs. So `read` asks whether the dialect has
-//! the tree, writes it and compares. These are further passes, all linear, in place of a proof that the machine takes nothing else.
+//! the tree, writes it and compares. These are further passes, all linear, in place of a proof that the machine takes nothing else. What was
+//! written is compared with the text byte by byte, but for spaces; only where that tells nothing, both are cut into tokens.
 //!
 //! Lexer and machine keep a stack of their own on the heap, however deep a text is. The tree is tested, written and dropped by calls, one for
 //! each level. A level has brackets of its own, so the tokens tell the depth before a tree is made, and a text that nests too deep is

@@ -12,7 +12,7 @@ ghost use Rattle.sql_read.specs.inside.Closed.{closed, closed_from};
 use crate::error::ReadError;
 use crate::tree::{Tree, write};
 use sql_dialect::{Dialect, NoMemory};
-use sql_read_lexer::{Token, same_found, text_tokens};
+use sql_read_lexer::{Token, differ_in_spaces, same_found, text_tokens};
 use sql_read_machine::candidate;
 use sql_read_writer::fits_query;
 use std::alloc::Global;
@@ -77,13 +77,16 @@ fn is_too_deep(tokens: &[Token]) -> bool {
     false
 }
 
-/// Whether the tree is written with the text's tokens. Where it is written as the text, byte for byte, nothing is cut into tokens.
+/// Whether the tree is written with the text's tokens. Where it is written as the text but for spaces, nothing is cut into tokens.
 fn is_written(alloc: Global, dialect: Dialect, tree: &Tree, text: &str) -> Result<bool, NoMemory>
     ensures { IfOk result (λ same. IsTrue same
         ↔ (tokens dialect (text_of dialect (tree_of tree.now)) ≡ tokens dialect text.now)) }
 {
     let written = write(alloc, dialect, tree)?;
     if written.as_str() == text {
+        return Ok(true);
+    }
+    if differ_in_spaces(dialect, written.as_str(), text) {
         return Ok(true);
     }
     let a = text_tokens(alloc, dialect, written.as_str())?;
