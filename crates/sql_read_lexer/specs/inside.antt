@@ -1,4 +1,4 @@
 -- Definitions that only the lexer and its proofs need.
-pub mod Cut
 pub mod Parts
-pub mod States
+pub mod Runs
+pub mod Starts

@@ -1,9 +1,12 @@
-ghost use Rattle.std.specs.Prelude.{◌≡◌, map};
+ghost use Rattle.std.specs.Prelude.{◌≡◌, IfOk, MatchOption, map};
 ghost use Rattle.sql_grammar.specs.Spelling.{spelling as spelling_of, word_among};
 ghost use Rattle.sql_grammar.specs.Spelling as spelling;
+ghost use Rattle.sql_grammar.specs.Token as g;
 ghost use Rattle.sql_read_lexer.specs.View.{keyword_of, token_of};
 
 use crate::token::{Keyword, Token};
+use sql_dialect::NoMemory;
+use std::alloc::Global;
 
 static KEYWORDS: [Keyword; 47] = [
     Keyword::Select,
@@ -111,22 +114,27 @@ pub fn spelled(keyword: Keyword) -> &'static str
     }
 }
 
-/// The token of a word, where the grammar has these keywords.
-fn word_of(keywords: &[Keyword], letters: Vec<u8>) -> Token
-    ensures { token_of result ≡ word_among (map keyword_of keywords.now) letters.items }
+/// The first of these keywords that has the letters.
+fn keyword_among(keywords: &[Keyword], letters: &[u8]) -> Option<Keyword>
+    ensures { MatchOption result
+        (word_among (map keyword_of keywords.now) letters.now ≡ g.Unknown letters.now)
+        (λ k. word_among (map keyword_of keywords.now) letters.now ≡ g.Word (keyword_of k)) }
 {
     for keyword in keywords {
-        if spelled(*keyword).as_bytes() == letters.as_slice() {
-            return Token::Word(*keyword);
+        if spelled(*keyword).as_bytes() == letters {
+            return Some(*keyword);
         }
     }
-    Token::Unknown(letters)
+    None
 }
 
 /// The token of a word, by its letters.
 #[tactic(auto, unfolding(sql_grammar::specs::Spelling::word_of))]
-pub fn word(letters: Vec<u8>) -> Token
-    ensures { token_of result ≡ spelling.word_of letters.items }
+pub fn word(alloc: Global, letters: &[u8]) -> Result<Token, NoMemory>
+    ensures { IfOk result (λ token. token_of token ≡ spelling.word_of letters.now) }
 {
-    word_of(&KEYWORDS, letters)
+    match keyword_among(&KEYWORDS, letters) {
+        Some(keyword) => Ok(Token::Word(keyword)),
+        None => Ok(Token::Unknown(Vec::from_slice(alloc, letters)?)),
+    }
 }

@@ -5,15 +5,14 @@ use Rattle.sql_grammar.specs.Spelling.{word_among}
 use Rattle.sql_grammar.specs.Spelling as spell
 use Rattle.sql_read_lexer.specs.View.{keyword_of}
 use Rattle.sql_read_lexer.proofs.Words.{word-here, word-later}
-use Rattle.sql_read_lexer.proofs.word.word_of.Goals as goal
+use Rattle.sql_read_lexer.proofs.word.keyword_among.Goals as goal
 
 pub returns-then-eq : goal.returns-then-eq
 returns-then-eq c =
     let here = c.loop-keyword-test.true in
     let all = rw (drop-cons c.args.keywords.now c.loop-keyword.keyword-index k.Select) at c.loop-keyword.invariant in
-    sym (word-here _ _ c.args.letters.items c.as_bytes.result.now c.eq.result (search rules)
-    (search rules) c.if-eq.true)
-    ∙ all
+    sym all
+    ∙ word-here _ _ c.args.letters.now c.as_bytes.result.now c.eq.result (search rules) (search rules) c.if-eq.true
 
 pub loop-keyword-preserved : goal.loop-keyword-preserved
 loop-keyword-preserved c =
@@ -21,12 +20,12 @@ loop-keyword-preserved c =
     let all = rw (drop-cons c.args.keywords.now c.loop-keyword.keyword-index k.Select) at c.loop-keyword.invariant in
     rw add-one
     (sym
-    (word-later _ _ c.args.letters.items c.as_bytes.result.now c.eq.result (search rules) (search rules) c.if-eq.false)
+    (word-later _ _ c.args.letters.now c.as_bytes.result.now c.eq.result (search rules) (search rules) c.if-eq.false)
     ∙ all)
 
 pub returns : goal.returns
 unfolding spell.word_among
 returns c =
-    sym (at_drop_all (λ ks. word_among (map keyword_of ks) c.args.letters.items) c.args.keywords.now
-    c.loop-keyword.keyword-index (omega (arith, c.loop-keyword-test.false)))
-    ∙ c.loop-keyword.invariant
+    sym c.loop-keyword.invariant
+    ∙ at_drop_all (λ ks. word_among (map keyword_of ks) c.args.letters.now) c.args.keywords.now
+    c.loop-keyword.keyword-index (omega (arith, c.loop-keyword-test.false))

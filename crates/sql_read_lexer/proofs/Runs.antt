@@ -1,0 +1,270 @@
+-- How a text goes on: by bytes of one kind, by a token that ends, by a token of its own.
+use Rattle.std.proofs.Common.{◌≡◌, ℕ, ◌+◌, ◌<◌, ◌≤◌, List, [], ◌∷◌, ◌++◌, length, get_or, take, drop, Some, None, Bool, true, false, nat_eq, refl, sym, ap, ◌∙◌, append-nil, add-one, eq-eqb, arith}
+use Rattle.std.proofs.lemmas.List.{append_assoc, drop_more, take_more, drop_all}
+use Rattle.std.proofs.lemmas.Bool.Decides.{nat_tests}
+use Rattle.sql_dialect.specs.declared.backend.Dialect.{Dialect}
+use Rattle.sql_grammar.specs.Spelling as spell
+use Rattle.sql_grammar.specs.Spelling.{end_quote, is_digit, is_letter, is_equal, is_placeholder_number, value_of, word_of}
+use Rattle.sql_grammar.specs.Token as g
+use Rattle.sql_grammar.specs.Tokens as lex
+use Rattle.sql_grammar.specs.Tokens.{State, Between, InName, AfterQuote, InWord, InNumber, AfterDollar, InPlaceholder, Whole, tokens, tokens_from, in_front, NotAt, NoQuoteAt}
+use Rattle.sql_read_lexer.specs.inside.Runs.{RunsTo, Stops}
+
+-- ## A byte
+
+pub goes-on : (d : Dialect) (s t : State) (c : ℕ) (cs : List ℕ) → lex.extended d s c ≡ Some t
+    → tokens_from d s (c ∷ cs) ≡ tokens_from d t cs
+unfolding lex.tokens_from lex.from_extended
+goes-on d s t c cs e = ap (λ x. lex.from_extended x (lex.ending s) (lex.begun d c) (λ s'. tokens_from d s' cs)) e
+
+-- where the token at hand ends, the text goes on as from between tokens
+pub ends : (d : Dialect) (s : State) (rest : List ℕ) → Stops d s rest
+    → tokens_from d s rest ≡ lex.put (lex.ending s) (tokens d rest)
+unfolding lex.tokens_from lex.from_extended lex.extended lex.ending lex.put
+ends d s [] stop = refl
+ends d s (c ∷ cs) stop =
+    ap (λ x. lex.from_extended x (lex.ending s) (lex.begun d c) (λ s'. tokens_from d s' cs)) stop
+
+whole-stops : (d : Dialect) (t : g.Token) (rest : List ℕ) → Stops d (Whole t) rest
+unfolding lex.extended
+whole-stops d t [] = tt
+whole-stops d t (c ∷ cs) = refl
+
+pub whole : (d : Dialect) (t : g.Token) (rest : List ℕ) → tokens_from d (Whole t) rest ≡ in_front t (tokens d rest)
+unfolding lex.ending lex.put
+whole d t rest = ends d (Whole t) rest (whole-stops d t rest)
+
+-- a byte that begins a token or is a space, and one that does neither
+pub begins : (d : Dialect) (s : State) (c : ℕ) (cs : List ℕ) → lex.begun d c ≡ Some s
+    → tokens d (c ∷ cs) ≡ tokens_from d s cs
+unfolding lex.tokens_from lex.from_extended lex.from_begun lex.extended lex.ending lex.put
+begins d s c cs e = ap (λ x. lex.from_begun x (λ s'. tokens_from d s' cs)) e
+
+pub begins-none : (d : Dialect) (c : ℕ) (cs : List ℕ) → lex.begun d c ≡ None → tokens d (c ∷ cs) ≡ None
+unfolding lex.tokens_from lex.from_extended lex.from_begun lex.extended lex.ending lex.put
+begins-none d c cs e = ap (λ x. lex.from_begun x (λ s'. tokens_from d s' cs)) e
+
+-- ## Runs
+
+pub runs-start : (d : Dialect) (at : List ℕ → State) (text : List ℕ) → RunsTo d at text 0
+runs-start d at text = λ before. ap (λ xs. tokens_from d (at xs) text) (sym (append-nil before))
+
+runs-more : (d : Dialect) (at : List ℕ → State) (text : List ℕ) (i : ℕ) → i < length text
+    →
+    ((before : List ℕ) → lex.extended d (at before) (get_or text i 0) ≡ Some (at (before ++ get_or text i 0 ∷ [])))
+    → RunsTo d at text i → RunsTo d at text (i + 1)
+runs-more d at text i h step runs =
+    λ before.
+    let c = get_or text i 0 in
+    let seen = before ++ take i text in
+    runs before
+    ∙ ap (tokens_from d (at seen)) (drop_more text i 0 h)
+    ∙ goes-on d (at seen) (at (seen ++ c ∷ [])) c (drop (i + 1) text) (step seen)
+    ∙ ap (λ xs. tokens_from d (at xs) (drop (i + 1) text))
+    (append_assoc before (take i text) (c ∷ []) ∙ ap (λ xs. before ++ xs) (sym (take_more text i 0 h)))
+
+pub letters-more : (d : Dialect) (text : List ℕ) (i : ℕ) → i < length text → is_letter (get_or text i 0) ≡ true
+    → RunsTo d InWord text i → RunsTo d InWord text (i + 1)
+unfolding lex.extended
+letters-more d text i h e runs = runs-more d InWord text i h (λ before. rw e refl) runs
+
+pub digits-more : (d : Dialect) (text : List ℕ) (i : ℕ) → i < length text → is_digit (get_or text i 0) ≡ true
+    → RunsTo d InNumber text i → RunsTo d InNumber text (i + 1)
+unfolding lex.extended
+digits-more d text i h e runs = runs-more d InNumber text i h (λ before. rw e refl) runs
+
+pub places-more : (d : Dialect) (text : List ℕ) (i : ℕ) → i < length text → is_digit (get_or text i 0) ≡ true
+    → RunsTo d InPlaceholder text i → RunsTo d InPlaceholder text (i + 1)
+unfolding lex.extended
+places-more d text i h e runs = runs-more d InPlaceholder text i h (λ before. rw e refl) runs
+
+differs : (a b : ℕ) → (a ≡ b → ⊥) → nat_eq a b ≡ false
+differs a b h = grind (arith, nat_tests)
+
+pub name-more : (d : Dialect) (text : List ℕ) (i : ℕ) → i < length text
+    → (get_or text i 0 ≡ end_quote d → ⊥) → RunsTo d InName text i → RunsTo d InName text (i + 1)
+unfolding lex.extended
+name-more d text i h n runs =
+    let e = differs (get_or text i 0) (end_quote d) n in
+    runs-more d InName text i h (λ before. rw e refl) runs
+
+-- what is left begins with the byte at that place, or with none at the end
+pub not-here : (is : ℕ → Bool) (text : List ℕ) (i : ℕ) → i < length text → is (get_or text i 0) ≡ false
+    → NotAt is (drop i text)
+not-here is text i h e = rw (drop_more text i 0 h) e
+
+pub not-at-end : (is : ℕ → Bool) (text : List ℕ) (i : ℕ) → length text ≤ i → NotAt is (drop i text)
+not-at-end is text i h = rw (drop_all i text h) tt
+
+word-stops : (d : Dialect) (w rest : List ℕ) → NotAt is_letter rest → Stops d (InWord w) rest
+unfolding lex.extended
+word-stops d w [] h = tt
+word-stops d w (c ∷ cs) h = rw h refl
+
+number-stops : (d : Dialect) (w rest : List ℕ) → NotAt is_digit rest → Stops d (InNumber w) rest
+unfolding lex.extended
+number-stops d w [] h = tt
+number-stops d w (c ∷ cs) h = rw h refl
+
+place-stops : (d : Dialect) (w rest : List ℕ) → NotAt is_digit rest → Stops d (InPlaceholder w) rest
+unfolding lex.extended
+place-stops d w [] h = tt
+place-stops d w (c ∷ cs) h = rw h refl
+
+quote-stops : (d : Dialect) (w rest : List ℕ) → NoQuoteAt d rest → Stops d (AfterQuote w) rest
+unfolding lex.extended
+quote-stops d w [] h = tt
+quote-stops d w (c ∷ cs) h = rw h refl
+
+-- ## Tokens
+
+-- letters behind a letter
+pub word-run : (d : Dialect) (c : ℕ) (cs : List ℕ) (n : ℕ) → RunsTo d InWord cs n → NotAt is_letter (drop n cs)
+    → tokens_from d (InWord (c ∷ [])) cs ≡ in_front (word_of (take (n + 1) (c ∷ cs))) (tokens d (drop (n + 1) (c ∷ cs)))
+unfolding lex.ending lex.put
+word-run d c cs n runs stop =
+    rw add-one (runs (c ∷ []) ∙ ends d (InWord (c ∷ take n cs)) (drop n cs) (word-stops d (c ∷ take n cs) (drop n cs) stop))
+
+-- digits behind a digit
+pub number-run : (d : Dialect) (c : ℕ) (cs : List ℕ) (n : ℕ) → RunsTo d InNumber cs n → NotAt is_digit (drop n cs)
+    → tokens_from d (InNumber (c ∷ [])) cs
+    ≡ in_front (g.Number (take (n + 1) (c ∷ cs))) (tokens d (drop (n + 1) (c ∷ cs)))
+unfolding lex.ending lex.put
+number-run d c cs n runs stop =
+    rw add-one
+    (runs (c ∷ []) ∙ ends d (InNumber (c ∷ take n cs)) (drop n cs) (number-stops d (c ∷ take n cs) (drop n cs) stop))
+
+-- digits behind the sign of a placeholder, of which there may be none
+place-byte : (d : Dialect) (c : ℕ) (cs : List ℕ) (b : Bool) → is_digit c ≡ b
+    → tokens_from d AfterDollar (c ∷ cs) ≡ tokens_from d (InPlaceholder []) (c ∷ cs)
+unfolding lex.tokens_from lex.from_extended lex.extended lex.ending lex.put spell.is_placeholder_number
+place-byte d c cs true e = rw e refl
+place-byte d c cs false e = rw e refl
+
+place-start : (d : Dialect) (text : List ℕ) → tokens_from d AfterDollar text ≡ tokens_from d (InPlaceholder []) text
+unfolding lex.tokens_from lex.from_extended lex.extended lex.ending lex.put spell.is_placeholder_number
+place-start d [] = refl
+place-start d (c ∷ cs) = place-byte d c cs (is_digit c) refl
+
+pub place-run : (d : Dialect) (text : List ℕ) (n : ℕ) → RunsTo d InPlaceholder text n → NotAt is_digit (drop n text)
+    → tokens_from d AfterDollar text ≡ lex.put (lex.ending (InPlaceholder (take n text))) (tokens d (drop n text))
+place-run d text n runs stop =
+    place-start d text ∙ runs []
+    ∙ ends d (InPlaceholder (take n text)) (drop n text) (place-stops d (take n text) (drop n text) stop)
+
+pub place-number : (d : Dialect) (text : List ℕ) (n : ℕ) → RunsTo d InPlaceholder text n → NotAt is_digit (drop n text)
+    → is_placeholder_number (take n text) ≡ true
+    → tokens_from d AfterDollar text
+    ≡ in_front (g.Mark (Some (value_of (take n text)))) (tokens d (drop n text))
+unfolding lex.ending lex.put
+place-number d text n runs stop e = place-run d text n runs stop ∙ rw e refl
+
+pub place-none : (d : Dialect) (text : List ℕ) (n : ℕ) → RunsTo d InPlaceholder text n → NotAt is_digit (drop n text)
+    → is_placeholder_number (take n text) ≡ false → tokens_from d AfterDollar text ≡ None
+unfolding lex.ending lex.put
+place-none d text n runs stop e = place-run d text n runs stop ∙ rw e refl
+
+-- ## Names
+
+pub name-ends : (d : Dialect) (name rest : List ℕ) → NoQuoteAt d rest
+    → tokens_from d (AfterQuote name) rest ≡ in_front (g.Quoted name) (tokens d rest)
+unfolding lex.ending lex.put
+name-ends d name rest stop = ends d (AfterQuote name) rest (quote-stops d name rest stop)
+
+same-quote : (d : Dialect) → nat_eq (end_quote d) (end_quote d) ≡ true
+same-quote d = eq-eqb _ _ refl
+
+pub name-doubled : (d : Dialect) (name rest : List ℕ)
+    → tokens_from d (AfterQuote name) (end_quote d ∷ rest) ≡ tokens_from d (InName (name ++ end_quote d ∷ [])) rest
+unfolding lex.extended
+name-doubled d name rest =
+    goes-on d (AfterQuote name) (InName (name ++ end_quote d ∷ [])) (end_quote d) rest (rw same-quote refl)
+
+closes : (d : Dialect) (name rest : List ℕ)
+    → tokens_from d (InName name) (end_quote d ∷ rest) ≡ tokens_from d (AfterQuote name) rest
+unfolding lex.extended
+closes d name rest = goes-on d (InName name) (AfterQuote name) (end_quote d) rest (rw same-quote refl)
+
+-- the bytes before a quote
+pub name-part : (d : Dialect) (text : List ℕ) (n : ℕ) → RunsTo d InName text n → n < length text
+    → get_or text n 0 ≡ end_quote d
+    → (name : List ℕ) → tokens_from d (InName name) text ≡ tokens_from d (AfterQuote (name ++ take n text)) (drop (n + 1) text)
+name-part d text n runs h e =
+    λ name.
+    runs name
+    ∙ ap (tokens_from d (InName (name ++ take n text)))
+    (drop_more text n 0 h ∙ ap (λ c. c ∷ drop (n + 1) text) e)
+    ∙ closes d (name ++ take n text) (drop (n + 1) text)
+
+-- no quote ends the name
+pub name-open : (d : Dialect) (text : List ℕ) (n : ℕ) → RunsTo d InName text n → length text ≤ n
+    → (name : List ℕ) → tokens_from d (InName name) text ≡ None
+unfolding lex.tokens_from lex.ending lex.put
+name-open d text n runs h =
+    λ name. runs name ∙ ap (tokens_from d (InName (name ++ take n text))) (drop_all n text h)
+
+-- ## Signs
+
+bang-stops : (d : Dialect) (rest : List ℕ) → NotAt is_equal rest → Stops d lex.AfterBang rest
+unfolding lex.extended
+bang-stops d [] h = tt
+bang-stops d (c ∷ cs) h = rw h refl
+
+less-stops : (d : Dialect) (rest : List ℕ) → NotAt is_equal rest → Stops d lex.AfterLess rest
+unfolding lex.extended
+less-stops d [] h = tt
+less-stops d (c ∷ cs) h = rw h refl
+
+greater-stops : (d : Dialect) (rest : List ℕ) → NotAt is_equal rest → Stops d lex.AfterGreater rest
+unfolding lex.extended
+greater-stops d [] h = tt
+greater-stops d (c ∷ cs) h = rw h refl
+
+pub bang-alone : (d : Dialect) (rest : List ℕ) → NotAt is_equal rest → tokens_from d lex.AfterBang rest ≡ None
+unfolding lex.ending lex.put
+bang-alone d rest h = ends d lex.AfterBang rest (bang-stops d rest h)
+
+pub less-alone : (d : Dialect) (rest : List ℕ) → NotAt is_equal rest
+    → tokens_from d lex.AfterLess rest ≡ in_front (g.Sign g.Less) (tokens d rest)
+unfolding lex.ending lex.put
+less-alone d rest h = ends d lex.AfterLess rest (less-stops d rest h)
+
+pub greater-alone : (d : Dialect) (rest : List ℕ) → NotAt is_equal rest
+    → tokens_from d lex.AfterGreater rest ≡ in_front (g.Sign g.Greater) (tokens d rest)
+unfolding lex.ending lex.put
+greater-alone d rest h = ends d lex.AfterGreater rest (greater-stops d rest h)
+
+pub bang-equal : (d : Dialect) (text rest : List ℕ) → text ≡ 61 ∷ rest
+    → tokens_from d lex.AfterBang text ≡ in_front (g.Sign g.NotEqual) (tokens d rest)
+unfolding lex.extended
+bang-equal d text rest e =
+    rw e (goes-on d lex.AfterBang (Whole (g.Sign g.NotEqual)) 61 rest refl ∙ whole d (g.Sign g.NotEqual) rest)
+
+pub less-equal : (d : Dialect) (text rest : List ℕ) → text ≡ 61 ∷ rest
+    → tokens_from d lex.AfterLess text ≡ in_front (g.Sign g.LessOrEqual) (tokens d rest)
+unfolding lex.extended
+less-equal d text rest e =
+    rw e (goes-on d lex.AfterLess (Whole (g.Sign g.LessOrEqual)) 61 rest refl ∙ whole d (g.Sign g.LessOrEqual) rest)
+
+pub greater-equal : (d : Dialect) (text rest : List ℕ) → text ≡ 61 ∷ rest
+    → tokens_from d lex.AfterGreater text ≡ in_front (g.Sign g.GreaterOrEqual) (tokens d rest)
+unfolding lex.extended
+greater-equal d text rest e =
+    rw e
+    (goes-on d lex.AfterGreater (Whole (g.Sign g.GreaterOrEqual)) 61 rest refl
+    ∙ whole d (g.Sign g.GreaterOrEqual) rest)
+
+-- what stands behind `@`
+pub at-p : (d : Dialect) (text rest : List ℕ) → text ≡ 112 ∷ rest
+    → tokens_from d lex.AfterAt text ≡ tokens_from d AfterDollar rest
+unfolding lex.extended
+at-p d text rest e = rw e (goes-on d lex.AfterAt AfterDollar 112 rest refl)
+
+at-stops : (d : Dialect) (rest : List ℕ) → NotAt spell.is_p rest → Stops d lex.AfterAt rest
+unfolding lex.extended
+at-stops d [] h = tt
+at-stops d (c ∷ cs) h = rw h refl
+
+pub at-none : (d : Dialect) (rest : List ℕ) → NotAt spell.is_p rest → tokens_from d lex.AfterAt rest ≡ None
+unfolding lex.ending lex.put
+at-none d rest h = ends d lex.AfterAt rest (at-stops d rest h)
