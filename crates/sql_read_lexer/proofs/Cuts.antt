@@ -37,14 +37,14 @@ further text i h small u =
 pub before : (text : List ℕ) (n : ℕ) → n ≤ length text → IsUtf8 text → IsUtf8 (drop n text) → IsUtf8 (take n text)
 before text n h u v = IsUtf8-take text n u (IsCharBoundary-from_drop text n h v)
 
--- what stands before an ASCII byte, and what behind it
+-- what stands before an ASCII byte, and what from there on
 pub split-before : (text : List ℕ) (n : ℕ) → n < length text → get_or text n 0 < 128 → IsUtf8 text
     → IsUtf8 (take n text)
 split-before text n h small u = IsUtf8-take text n u (IsCharBoundary-before_ascii text n h small)
 
-pub split-behind : (text : List ℕ) (n : ℕ) → n < length text → get_or text n 0 < 128 → IsUtf8 text
-    → IsUtf8 (drop (n + 1) text)
-split-behind text n h small u = IsUtf8-drop text (n + 1) u (IsCharBoundary-after_ascii text n u h small)
+pub split-from : (text : List ℕ) (n : ℕ) → n < length text → get_or text n 0 < 128 → IsUtf8 text
+    → IsUtf8 (drop n text)
+split-from text n h small u = IsUtf8-drop text n u (IsCharBoundary-before_ascii text n h small)
 
 -- ## The bytes of tokens are ASCII
 

@@ -1,6 +1,6 @@
 -- How a text goes on: by bytes of one kind, by a token that ends, by a token of its own.
-use Rattle.std.proofs.Common.{◌≡◌, ℕ, ◌+◌, ◌<◌, ◌≤◌, List, [], ◌∷◌, ◌++◌, length, get_or, take, drop, Some, None, Bool, true, false, nat_eq, refl, sym, ap, ◌∙◌, append-nil, add-one, eq-eqb, arith}
-use Rattle.std.proofs.lemmas.List.{append_assoc, drop_more, take_more, drop_all}
+use Rattle.std.proofs.Common.{◌≡◌, ℕ, suc, ◌+◌, ◌<◌, ◌≤◌, List, [], ◌∷◌, ◌++◌, length, get_or, take, drop, Some, None, Bool, true, false, nat_eq, if◌then◌else◌, refl, sym, ap, ◌∙◌, subst, append-nil, add-one, add-zero, eq-eqb, length-drop, get_or-drop, arith}
+use Rattle.std.proofs.lemmas.List.{append_assoc, drop_more, take_more, drop_all, nil_from_length}
 use Rattle.std.proofs.lemmas.Bool.Decides.{nat_tests}
 use Rattle.sql_dialect.specs.declared.backend.Dialect.{Dialect}
 use Rattle.sql_grammar.specs.Spelling as spell
@@ -8,7 +8,9 @@ use Rattle.sql_grammar.specs.Spelling.{end_quote, is_digit, is_letter, is_equal,
 use Rattle.sql_grammar.specs.Token as g
 use Rattle.sql_grammar.specs.Tokens as lex
 use Rattle.sql_grammar.specs.Tokens.{State, Between, InName, AfterQuote, InWord, InNumber, AfterDollar, InPlaceholder, Whole, tokens, tokens_from, in_front, NotAt, NoQuoteAt}
+use Rattle.std.specs.Str.{IsUtf8}
 use Rattle.sql_read_lexer.specs.inside.Runs.{RunsTo, Stops}
+use Rattle.sql_read_lexer.proofs.Cuts.{ascii-rest, end_quote-small, split-before, split-from}
 
 -- ## A byte
 
@@ -134,6 +136,30 @@ number-run d c cs n runs stop =
     rw add-one
     (runs (c ∷ []) ∙ ends d (InNumber (c ∷ take n cs)) (drop n cs) (number-stops d (c ∷ take n cs) (drop n cs) stop))
 
+pub word-found : (d : Dialect) (text behind letters rest : List ℕ) (n k : ℕ) (cs : List ℕ) (t : g.Token)
+    → RunsTo d InWord behind n → NotAt is_letter (drop n behind) → behind ≡ drop 1 text → letters ≡ take (n + 1) text
+    → rest ≡ drop (n + 1) text → t ≡ word_of letters → text ≡ k ∷ cs
+    → tokens_from d (InWord (k ∷ [])) cs ≡ in_front t (tokens d rest)
+word-found d text behind letters rest n k cs t runs stop tail front back is e =
+    let same : behind ≡ cs = tail ∙ ap (λ xs. drop 1 xs) e in
+    word-run d k cs n (subst (λ xs. RunsTo d InWord xs n) same runs) (subst (λ xs. NotAt is_letter (drop n xs)) same stop)
+    ∙ ap (λ xs. in_front (word_of (take (n + 1) xs)) (tokens d (drop (n + 1) xs))) (sym e)
+    ∙ ap (λ xs. in_front (word_of xs) (tokens d (drop (n + 1) text))) (sym front)
+    ∙ ap (λ x. in_front x (tokens d (drop (n + 1) text))) (sym is)
+    ∙ ap (λ xs. in_front t (tokens d xs)) (sym back)
+
+pub number-found : (d : Dialect) (text behind digits rest : List ℕ) (n k : ℕ) (cs : List ℕ) (ds : List ℕ)
+    → RunsTo d InNumber behind n → NotAt is_digit (drop n behind) → behind ≡ drop 1 text → digits ≡ take (n + 1) text
+    → rest ≡ drop (n + 1) text → ds ≡ digits → text ≡ k ∷ cs
+    → tokens_from d (InNumber (k ∷ [])) cs ≡ in_front (g.Number ds) (tokens d rest)
+number-found d text behind digits rest n k cs ds runs stop tail front back is e =
+    let same : behind ≡ cs = tail ∙ ap (λ xs. drop 1 xs) e in
+    number-run d k cs n (subst (λ xs. RunsTo d InNumber xs n) same runs)
+    (subst (λ xs. NotAt is_digit (drop n xs)) same stop)
+    ∙ ap (λ xs. in_front (g.Number (take (n + 1) xs)) (tokens d (drop (n + 1) xs))) (sym e)
+    ∙ ap (λ xs. in_front (g.Number xs) (tokens d (drop (n + 1) text))) (sym (is ∙ front))
+    ∙ ap (λ xs. in_front (g.Number ds) (tokens d xs)) (sym back)
+
 -- digits behind the sign of a placeholder, of which there may be none
 place-byte : (d : Dialect) (c : ℕ) (cs : List ℕ) (b : Bool) → is_digit c ≡ b
     → tokens_from d AfterDollar (c ∷ cs) ≡ tokens_from d (InPlaceholder []) (c ∷ cs)
@@ -164,6 +190,33 @@ pub place-none : (d : Dialect) (text : List ℕ) (n : ℕ) → RunsTo d InPlaceh
 unfolding lex.ending lex.put
 place-none d text n runs stop e = place-run d text n runs stop ∙ rw e refl
 
+numbered : (ds : List ℕ) (k : ℕ) (b : Bool) → is_placeholder_number ds ≡ b
+    → Some k ≡ (if b then Some (value_of ds) else None) → (is_placeholder_number ds ≡ true) × (k ≡ value_of ds)
+numbered ds k true is e = (is, cc)
+numbered ds k false is e = absurd cc
+
+unnumbered : (ds : List ℕ) (b : Bool) → is_placeholder_number ds ≡ b
+    → None ≡ (if b then Some (value_of ds) else None) → is_placeholder_number ds ≡ false
+unnumbered ds true is e = absurd cc
+unnumbered ds false is e = is
+
+pub place-some : (d : Dialect) (text ds rest : List ℕ) (n k : ℕ) → RunsTo d InPlaceholder text n
+    → NotAt is_digit (drop n text) → ds ≡ take n text → rest ≡ drop n text
+    → Some k ≡ (if is_placeholder_number ds then Some (value_of ds) else None)
+    → tokens_from d AfterDollar text ≡ in_front (g.Mark (Some k)) (tokens d rest)
+place-some d text ds rest n k runs stop front back e =
+    let p = numbered ds k (is_placeholder_number ds) refl e in
+    place-number d text n runs stop (subst (λ xs. is_placeholder_number xs ≡ true) front p.0)
+    ∙ ap (λ m. in_front (g.Mark (Some m)) (tokens d (drop n text))) (sym (p.1 ∙ ap (λ xs. value_of xs) front))
+    ∙ ap (λ xs. in_front (g.Mark (Some k)) (tokens d xs)) (sym back)
+
+pub place-nothing : (d : Dialect) (text ds : List ℕ) (n : ℕ) → RunsTo d InPlaceholder text n
+    → NotAt is_digit (drop n text) → ds ≡ take n text
+    → None ≡ (if is_placeholder_number ds then Some (value_of ds) else None) → tokens_from d AfterDollar text ≡ None
+place-nothing d text ds n runs stop front e =
+    place-none d text n runs stop
+    (subst (λ xs. is_placeholder_number xs ≡ false) front (unnumbered ds (is_placeholder_number ds) refl e))
+
 -- ## Names
 
 pub name-ends : (d : Dialect) (name rest : List ℕ) → NoQuoteAt d rest
@@ -185,23 +238,47 @@ closes : (d : Dialect) (name rest : List ℕ)
 unfolding lex.extended
 closes d name rest = goes-on d (InName name) (AfterQuote name) (end_quote d) rest (rw same-quote refl)
 
+-- what stands at a place
+at-drop : (text : List ℕ) (n q : ℕ) (behind : List ℕ) → drop n text ≡ q ∷ behind
+    → (n < length text) × (get_or text n 0 ≡ q)
+at-drop text n q behind e =
+    let long : length (drop n text) ≡ suc (length behind) = ap length e in
+    let first : get_or text (n + 0) 0 ≡ q = sym (get_or-drop n text 0 0) ∙ ap (λ xs. get_or xs 0 0) e in
+    (omega (arith, long, length-drop n text), rw add-zero at first)
+
 -- the bytes before a quote
-pub name-part : (d : Dialect) (text : List ℕ) (n : ℕ) → RunsTo d InName text n → n < length text
-    → get_or text n 0 ≡ end_quote d
-    → (name : List ℕ) → tokens_from d (InName name) text ≡ tokens_from d (AfterQuote (name ++ take n text)) (drop (n + 1) text)
-name-part d text n runs h e =
+pub name-part : (d : Dialect) (text part rest behind : List ℕ) (n q : ℕ) → RunsTo d InName text n
+    → (n < length text → get_or text n 0 ≡ end_quote d) → part ≡ take n text → rest ≡ drop n text → rest ≡ q ∷ behind
+    → (name : List ℕ) → tokens_from d (InName name) text ≡ tokens_from d (AfterQuote (name ++ part)) behind
+name-part d text part rest behind n q runs stops front back head =
     λ name.
+    let e : drop n text ≡ q ∷ behind = sym back ∙ head in
+    let at = at-drop text n q behind e in
+    let same : q ≡ end_quote d = sym at.1 ∙ stops at.0 in
     runs name
-    ∙ ap (tokens_from d (InName (name ++ take n text)))
-    (drop_more text n 0 h ∙ ap (λ c. c ∷ drop (n + 1) text) e)
-    ∙ closes d (name ++ take n text) (drop (n + 1) text)
+    ∙ ap (tokens_from d (InName (name ++ take n text))) (e ∙ ap (λ c. c ∷ behind) same)
+    ∙ closes d (name ++ take n text) behind
+    ∙ ap (λ xs. tokens_from d (AfterQuote (name ++ xs)) behind) (sym front)
+
+pub part-text : (d : Dialect) (text part rest behind : List ℕ) (n q : ℕ)
+    → (n < length text → get_or text n 0 ≡ end_quote d) → part ≡ take n text → rest ≡ drop n text → rest ≡ q ∷ behind
+    → IsUtf8 text → IsUtf8 part × IsUtf8 behind
+part-text d text part rest behind n q stops front back head u =
+    let e : drop n text ≡ q ∷ behind = sym back ∙ head in
+    let at = at-drop text n q behind e in
+    let small : get_or text n 0 < 128 = subst (λ x. x < 128) (sym (stops at.0)) (end_quote-small d) in
+    let first : q < 128 = subst (λ x. x < 128) at.1 small in
+    (
+      subst IsUtf8 (sym front) (split-before text n at.0 small u),
+      ascii-rest q behind first (subst IsUtf8 e (split-from text n at.0 small u)),
+    )
 
 -- no quote ends the name
-pub name-open : (d : Dialect) (text : List ℕ) (n : ℕ) → RunsTo d InName text n → length text ≤ n
-    → (name : List ℕ) → tokens_from d (InName name) text ≡ None
+pub name-open : (d : Dialect) (text rest : List ℕ) (n : ℕ) → RunsTo d InName text n → rest ≡ drop n text
+    → length rest ≡ 0 → (name : List ℕ) → tokens_from d (InName name) text ≡ None
 unfolding lex.tokens_from lex.ending lex.put
-name-open d text n runs h =
-    λ name. runs name ∙ ap (tokens_from d (InName (name ++ take n text))) (drop_all n text h)
+name-open d text rest n runs back none =
+    λ name. runs name ∙ ap (tokens_from d (InName (name ++ take n text))) (sym back ∙ nil_from_length rest none)
 
 -- ## Signs
 
@@ -268,3 +345,11 @@ at-stops d (c ∷ cs) h = rw h refl
 pub at-none : (d : Dialect) (rest : List ℕ) → NotAt spell.is_p rest → tokens_from d lex.AfterAt rest ≡ None
 unfolding lex.ending lex.put
 at-none d rest h = ends d lex.AfterAt rest (at-stops d rest h)
+
+pub at-other : (d : Dialect) (text rest : List ℕ) (c : ℕ) → text ≡ c ∷ rest → (c ≡ 112 → ⊥)
+    → tokens_from d lex.AfterAt text ≡ None
+at-other d text rest c is n = rw is (at-none d (c ∷ rest) (differs c 112 n))
+
+pub at-end : (d : Dialect) (text : List ℕ) → length text ≡ 0 → tokens_from d lex.AfterAt text ≡ None
+at-end d [] h = at-none d [] tt
+at-end d (c ∷ cs) h = absurd (omega (arith, h))

@@ -60,11 +60,11 @@ fn quoted_part<'a>(dialect: Dialect, text: &'a [u8]) -> Option<(&'a [u8], &'a [u
     ensures shorter { IfSome result (λ r. length r.1.now < length text.now) }
     ensures utf8 { IsUtf8 text.now → IfSome result (λ r. IsUtf8 r.0.now × IsUtf8 r.1.now) }
 {
-    let n = name_bytes(dialect, text);
-    if n >= text.len() {
-        return None;
+    let (part, rest) = text.split_at(name_bytes(dialect, text));
+    match rest.split_first() {
+        Some((_, behind)) => Some((part, behind)),
+        None => None,
     }
-    Some((&text[..n], &text[n + 1..]))
 }
 
 /// What is left behind a second quote.
@@ -112,8 +112,10 @@ fn place(text: &[u8]) -> Found
 {
     let n = digits(text);
     let (digits, rest) = text.split_at(n);
-    let number = placeholder_number(digits)?;
-    Some((Some(Token::Mark(Some(number))), rest))
+    match placeholder_number(digits) {
+        Some(number) => Some((Some(Token::Mark(Some(number))), rest)),
+        None => None,
+    }
 }
 
 /// The same from behind `@`.
@@ -123,11 +125,15 @@ fn place_at(text: &[u8]) -> Found
     ensures shorter { IfSome result (λ r. length r.1.now ≤ length text.now) }
     ensures utf8 { IsUtf8 text.now → IfSome result (λ r. IsUtf8 r.1.now) }
 {
-    let (first, rest) = text.split_first()?;
-    if *first == 112 {
-        place(rest)
-    } else {
-        None
+    match text.split_first() {
+        Some((first, rest)) => {
+            if *first == 112 {
+                place(rest)
+            } else {
+                None
+            }
+        }
+        None => None,
     }
 }
 
@@ -150,8 +156,10 @@ fn not_equal(text: &[u8]) -> Found
     ensures shorter { IfSome result (λ r. length r.1.now ≤ length text.now) }
     ensures utf8 { IsUtf8 text.now → IfSome result (λ r. IsUtf8 r.1.now) }
 {
-    let rest = behind_equal(text)?;
-    Some((Some(Token::Sign(Comparison::NotEqual)), rest))
+    match behind_equal(text) {
+        Some(rest) => Some((Some(Token::Sign(Comparison::NotEqual)), rest)),
+        None => None,
+    }
 }
 
 /// `<` or `<=`.
