@@ -15,7 +15,7 @@ use Rattle.sql_tool_document.specs.declared.refusal.Refusal.TheVariants.{NoMemor
 abbrev pub with_front : {A : Type 0} → List A → Option (List A) → Option (List A)
 with_front front rest = option_map (λ xs. front ++ xs) rest
 
-regroup : {A : Type 0} (front : List A) (y : A) (rest : Option (List A))
+pub regroup : {A : Type 0} (front : List A) (y : A) (rest : Option (List A))
     → with_front front (rest >>= λ xs. Some (y ∷ xs)) ≡ with_front (front ++ y ∷ []) rest
 regroup front y (Some xs) = ap Some (sym (append_assoc front (y ∷ []) xs))
 regroup front y None = refl

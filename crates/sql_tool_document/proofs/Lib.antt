@@ -1,8 +1,13 @@
+pub mod Assembled
 pub mod Bytes
 pub mod EachItem
 pub mod Filling
 pub mod Keeping
+pub mod Loops
 pub mod Pairs
+pub mod Parts
 pub mod Nesting
 pub mod Numbers
 pub mod Seen
+pub mod Streaming
+pub mod Turns

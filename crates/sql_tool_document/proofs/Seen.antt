@@ -22,7 +22,7 @@ use Rattle.sql_tool_document.specs.Members.{single}
 -- ---- look-ups
 
 -- at a key, the value that was put there, and at other keys what was found before
-put-found : (k l : List ℕ) (d : Data) (found : Members)
+pub put-found : (k l : List ℕ) (d : Data) (found : Members)
     → get_member k (put l d found) ≡ cond (bytes_eq l k) (Some d) (get_member k found)
 put-found k l d found = chosen (bytes_eq l k) refl
   where

@@ -4,14 +4,15 @@ ghost use Rattle.sql_tool_document.specs.Members.{each};
 ghost use Rattle.sql_tool_document.specs.Giving.{Gives};
 ghost use Rattle.sql_tool_document.specs.Trees.{request_tree, document_tree};
 ghost use Rattle.sql_tool_document.specs.inside.Seen.{seen, items_seen};
+ghost use Rattle.sql_tool_document.specs.inside.Streaming.{document_from, requests_view};
 
 use crate::look::get;
 use crate::member::{items, text};
 use crate::names::dialect;
 use crate::query::whole_query;
-use crate::reading::json;
 use crate::refusal::Refusal;
 use crate::schema::schema;
+use crate::stream::{Parts, read_parts};
 use json::{Scratch, Value};
 use sql_build_syntax::Query;
 use sql_dialect::Dialect;
@@ -33,7 +34,7 @@ pub struct Document {
 }
 
 #[tactic(auto, unfolding(crate::specs::Documents::request_of))]
-fn one_request(alloc: Global, value: &Value<'_>) -> Result<Request, Refusal>
+pub(crate) fn one_request(alloc: Global, value: &Value<'_>) -> Result<Request, Refusal>
     ensures { Gives request_tree result (request_of (seen value.now)) }
 {
     let name = text(value, "dialect").ok_or(Refusal::NotADocument)?;
@@ -68,14 +69,32 @@ pub(crate) fn whole(alloc: Global, value: &Value<'_>) -> Result<Document, Refusa
     })
 }
 
+/// The document that has these requests, and these as its other members.
+pub(crate) fn from_parts(
+    alloc: Global,
+    others: &Value<'_>,
+    requests: Option<Vec<Request>>,
+) -> Result<Document, Refusal>
+    ensures { Gives document_tree result
+        (document_from (seen others.now) (requests_view requests)) }
+{
+    let declarations = get(others, "schema").ok_or(Refusal::NotADocument)?;
+    let schema = schema(alloc, declarations)?;
+    let requests = requests.ok_or(Refusal::NotADocument)?;
+    Ok(Document {
+        schema,
+        requests: SqlList::from(requests),
+    })
+}
+
 /// The document that the bytes are, else `NotADocument`; or `NoMemory`.
 #[tactic(auto, unfolding(crate::specs::Documents::document))]
 pub fn read_document(alloc: Global, bytes: &[u8]) -> Result<Document, Refusal>
     ensures { Gives document_tree result (document bytes.now) }
 {
     let mut scratch = Scratch::new(alloc);
-    let value = json(alloc, bytes, &mut scratch)?;
-    whole(alloc, &value)
+    let Parts { others, requests } = read_parts(alloc, bytes, &mut scratch)?;
+    from_parts(alloc, &others, requests)
 }
 
 #[tactic(auto, unfolding(crate::specs::Documents::schema_at))]

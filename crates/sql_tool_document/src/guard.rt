@@ -1,15 +1,16 @@
 ghost use Rattle.std.specs.Prelude.{◌≡◌};
 ghost use Rattle.sql_tool_document.specs.inside.Seen.{seen};
-ghost use Rattle.sql_tool_document.specs.Guards.{guard_of, guarded_of, guarded};
+ghost use Rattle.sql_tool_document.specs.inside.Streaming.{guarded_from, requests_view};
+ghost use Rattle.sql_tool_document.specs.Guards.{guard_of, guarded};
 ghost use Rattle.sql_tool_document.specs.Giving.{Gives};
 ghost use Rattle.sql_tool_document.specs.Trees.{guard_tree, guarded_tree};
 
-use crate::document::{Document, whole};
+use crate::document::{Document, Request, from_parts};
 use crate::look::get;
 use crate::member::text;
 use crate::query::whole_expr;
-use crate::reading::json;
 use crate::refusal::Refusal;
+use crate::stream::{Parts, read_parts};
 use json::{Scratch, Value};
 use sql_build_syntax::Expr;
 use sql_schema::SqlText;
@@ -40,13 +41,17 @@ fn guard_in(alloc: Global, value: &Value<'_>) -> Result<Guard, Refusal>
     Ok(Guard { table, predicate })
 }
 
-#[tactic(auto, unfolding(crate::specs::Guards::guarded_of))]
-fn whole_guarded(alloc: Global, value: &Value<'_>) -> Result<Guarded, Refusal>
-    ensures { Gives guarded_tree result (guarded_of (seen value.now)) }
+fn guarded_parts(
+    alloc: Global,
+    others: &Value<'_>,
+    requests: Option<Vec<Request>>,
+) -> Result<Guarded, Refusal>
+    ensures { Gives guarded_tree result
+        (guarded_from (seen others.now) (requests_view requests)) }
 {
-    let asked = get(value, "guard").ok_or(Refusal::NotADocument)?;
+    let asked = get(others, "guard").ok_or(Refusal::NotADocument)?;
     let guard = guard_in(alloc, asked)?;
-    let document = whole(alloc, value)?;
+    let document = from_parts(alloc, others, requests)?;
     Ok(Guarded { document, guard })
 }
 
@@ -56,6 +61,6 @@ pub fn read_guarded(alloc: Global, bytes: &[u8]) -> Result<Guarded, Refusal>
     ensures { Gives guarded_tree result (guarded bytes.now) }
 {
     let mut scratch = Scratch::new(alloc);
-    let value = json(alloc, bytes, &mut scratch)?;
-    whole_guarded(alloc, &value)
+    let Parts { others, requests } = read_parts(alloc, bytes, &mut scratch)?;
+    guarded_parts(alloc, &others, requests)
 }

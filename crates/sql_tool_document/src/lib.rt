@@ -3,6 +3,8 @@
 //! A document is decoded into plain syntax, in which tables and columns are the names that it gives them. All forms are
 //! checked in this one pass. Whether the schema has the names is looked up afterwards, request by request.
 //!
+//! Requests are decoded one by one as they are read (`stream`), so the JSON of all of them never stands in memory as a tree.
+//!
 //! That JSON nests less than 128 levels deep is a limit of `serde_json`. `nesting_bound` names it, and `depth_changes_nothing` says that the
 //! decoder's own depth changes no answer below it.
 #![tactic(auto)]
@@ -26,6 +28,7 @@ mod refusal;
 mod schema;
 mod session;
 mod source;
+mod stream;
 mod texts;
 mod value;
 mod whole;

@@ -1,18 +1,19 @@
 ghost use Rattle.std.specs.Prelude.{◌≡◌, map, option_map};
 ghost use Rattle.sql_build_syntax.specs.View.{expr_tree};
 ghost use Rattle.sql_tool_document.specs.inside.Seen.{seen, items_seen};
+ghost use Rattle.sql_tool_document.specs.inside.Streaming.{policed_from, requests_view};
 ghost use Rattle.sql_tool_document.specs.Members.{each, if_any};
-ghost use Rattle.sql_tool_document.specs.Policies.{policy_of, policed_of, policed};
+ghost use Rattle.sql_tool_document.specs.Policies.{policy_of, policed};
 ghost use Rattle.sql_tool_document.specs.Queries.{expr_of, nesting_bound};
 ghost use Rattle.sql_tool_document.specs.Giving.{Gives};
 ghost use Rattle.sql_tool_document.specs.Trees.{named_policy_tree, policed_tree};
 
-use crate::document::{Document, whole};
+use crate::document::{Document, Request, from_parts};
 use crate::look::get;
 use crate::member::{items, text};
 use crate::query::whole_expr;
-use crate::reading::json;
 use crate::refusal::Refusal;
+use crate::stream::{Parts, read_parts};
 use json::{Scratch, Value};
 use sql_build_syntax::Expr;
 use sql_schema::{SqlList, SqlText};
@@ -66,13 +67,17 @@ pub(crate) fn each_policy(
     Ok(all)
 }
 
-#[tactic(auto, unfolding(crate::specs::Policies::policed_of))]
-fn whole_policed(alloc: Global, value: &Value<'_>) -> Result<Policed, Refusal>
-    ensures { Gives policed_tree result (policed_of (seen value.now)) }
+fn policed_parts(
+    alloc: Global,
+    others: &Value<'_>,
+    requests: Option<Vec<Request>>,
+) -> Result<Policed, Refusal>
+    ensures { Gives policed_tree result
+        (policed_from (seen others.now) (requests_view requests)) }
 {
-    let named = items(value, "tenant").ok_or(Refusal::NotADocument)?;
+    let named = items(others, "tenant").ok_or(Refusal::NotADocument)?;
     let policies = each_policy(alloc, named)?;
-    let document = whole(alloc, value)?;
+    let document = from_parts(alloc, others, requests)?;
     Ok(Policed {
         document,
         policies: SqlList::from(policies),
@@ -85,6 +90,6 @@ pub fn read_policed(alloc: Global, bytes: &[u8]) -> Result<Policed, Refusal>
     ensures { Gives policed_tree result (policed bytes.now) }
 {
     let mut scratch = Scratch::new(alloc);
-    let value = json(alloc, bytes, &mut scratch)?;
-    whole_policed(alloc, &value)
+    let Parts { others, requests } = read_parts(alloc, bytes, &mut scratch)?;
+    policed_parts(alloc, &others, requests)
 }

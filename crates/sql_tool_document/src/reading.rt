@@ -15,7 +15,7 @@ use std::alloc::Global;
 use std::str;
 
 /// How deep arrays and objects may nest.
-const MAX_DEPTH: usize = 127;
+pub(crate) const MAX_DEPTH: usize = 127;
 
 /// The JSON value that a text is, nested at most 127 deep, its texts borrowed.
 pub(crate) fn parsed<'a>(
@@ -37,7 +37,7 @@ pub(crate) fn parsed<'a>(
 }
 
 /// Whether the bytes are JSON whose numbers all are whole, but for those of a key that comes again: these don't count.
-fn are_whole(alloc: Global, bytes: &[u8]) -> Result<(), Refusal>
+pub(crate) fn are_whole(alloc: Global, bytes: &[u8]) -> Result<(), Refusal>
     ensures { Gives (λ u. u) result (option_map (λ _. tt) (value_in bytes.now)) }
 {
     match serde_json::Value::from_slice(alloc, bytes) {

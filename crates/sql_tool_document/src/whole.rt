@@ -9,7 +9,7 @@ use crate::number::whole_number;
 use json::Value;
 
 /// Whether a JSON number's text writes a whole number of 64 bits.
-fn is_whole_number(text: &str) -> bool
+pub(crate) fn is_whole_number(text: &str) -> bool
     ensures { result ≡ not (is_float (num_of text.now)) }
 {
     whole_number(text).is_some()

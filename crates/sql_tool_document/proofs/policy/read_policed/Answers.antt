@@ -1,0 +1,23 @@
+use Rattle.std.proofs.Common.{sym, ap, ◌∙◌}
+use Rattle.std.proofs.lemmas.Result.{err_from_is_err_and}
+use Rattle.sql_tool_document.specs.Policies.{policed, policed_of}
+use Rattle.sql_tool_document.specs.Scalar.{◌>>=◌}
+use Rattle.sql_tool_document.specs.inside.Streaming.{requests_view, policed_from}
+use Rattle.sql_tool_document.proofs.Loops.{refuses}
+use Rattle.sql_tool_document.proofs.Assembled.{policed-from, no-policed}
+use Rattle.sql_tool_document.proofs.policy.read_policed.Goals as goal
+
+pub returns-in_err-others : goal.returns-in_err-others
+unfolding policed
+returns-in_err-others c =
+    let p = err_from_is_err_and c.from_residual.result c.from_residual.ensures.1 in
+    let at_end = refuses c.in_err-others.field-0.0 _ _ (λ none. no-policed _ none) c.in_err-others.ensures in
+    rw (p.1, p.2) at_end
+
+pub returns : goal.returns
+unfolding policed
+returns c =
+    let whole = c.in_ok-others.ensures in
+    let same =
+    ap (λ o. o >>= policed_of) whole.3 ∙ policed-from whole.0 whole.1 _ whole.4 ∙ ap (λ d. policed_from d _) (sym whole.2) in
+    rw same c.policed_parts.ensures
