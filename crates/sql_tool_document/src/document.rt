@@ -10,6 +10,7 @@ use crate::look::get;
 use crate::member::{items, text};
 use crate::names::dialect;
 use crate::query::whole_query;
+use crate::reading::json;
 use crate::refusal::Refusal;
 use crate::schema::schema;
 use crate::stream::{Parts, read_parts};
