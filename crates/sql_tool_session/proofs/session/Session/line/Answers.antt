@@ -1,4 +1,5 @@
-use Rattle.std.proofs.Common.{◌≡◌, ◌∙◌, ◌+◌, ◌++◌, ◌∷◌, [], length, length-append, option_map, arith}
+use Rattle.std.proofs.Common.{◌≡◌, ◌∙◌, ◌≤◌, ◌<◌, ◌+◌, ◌++◌, ◌∷◌, [], length, length-append, option_map, subst, arith}
+use Rattle.std.specs.BTreeMap.{IsEmpty, btree_map_len}
 use Rattle.std.specs.Prelude.{string_bytes}
 use Rattle.sql_tool_document.specs.Trees.{request_tree}
 use Rattle.sql_tool_guard.specs.Trees.{tenant_tree}
