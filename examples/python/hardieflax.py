@@ -131,10 +131,10 @@ class Hardieflax:
         with self._lock:
             self._free(self._handle)
 
-    def _call(self, name: str, data: bytes, *dialect: int) -> bytes:
+    def _call(self, name: str, data: bytes, *dialect: int, more: tuple[int, ...] = ()) -> bytes:
         if not isinstance(data, bytes):
             raise TypeError(f"the input is bytes, and not {type(data).__name__}")
-        return self._ask(name, *dialect, data, len(data))
+        return self._ask(name, *dialect, data, len(data), *more)
 
     def _ask(self, name: str, *arguments: int | bytes) -> bytes:
         with self._lock:
@@ -171,12 +171,7 @@ class Hardieflax:
         """
         if not 0 <= capacity < 2**32:
             raise ValueError(f"{capacity} is no capacity")
-        return self._call("open", document) if capacity == 0 else self._open_within(document, capacity)
-
-    def _open_within(self, document: bytes, capacity: int) -> bytes:
-        if not isinstance(document, bytes):
-            raise TypeError(f"the input is bytes, and not {type(document).__name__}")
-        return self._ask("open_within", document, len(document), capacity)
+        return self._call("open_within", document, more=(capacity,)) if capacity else self._call("open", document)
 
     def reset(self) -> None:
         """Has the session begin anew: its schema, policies and capacity stay, and ids are counted from 1 again. Drop what you kept by id."""
