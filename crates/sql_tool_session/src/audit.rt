@@ -14,7 +14,7 @@ use sql_tool_run::{LIMIT, Status};
 use std::alloc::{AllocError, Global};
 
 /// The texts that the bytes are, which declare no table, since the session has its own schema; or the status with which the call ends.
-#[tactic(auto, using(crate::proofs::Auditing::is_over, crate::proofs::Auditing::declares_some, crate::proofs::Auditing::no_texts, crate::proofs::Auditing::is_large, crate::proofs::Auditing::is_done, crate::proofs::Auditing::is_bad))]
+#[tactic(auto, using(crate::proofs::Auditing::no_texts))]
 pub(crate) fn texts_of(
     alloc: Global,
     schema: &Schema,

@@ -1,18 +1,22 @@
 -- A line that has a session begin anew is no document.
-use Rattle.std.proofs.Common.{◌≡◌, ◌∙◌, ℕ, List, codes, Bool, true, false, cond, Option, None, Some, option_map, ap, refl, subst, sym}
-use Rattle.std.specs.Prelude.{is_some}
+use Rattle.std.proofs.Common.{◌≡◌, ◌∙◌, ◌&&◌, ℕ, List, [], ◌∷◌, length, codes, Bool, true, false, cond, Option, None, Some, option_map, ap, refl, subst, sym, arith}
+use Rattle.std.specs.Prelude.{is_some, String}
+use Rattle.std.specs.Option.{unwrap_or}
+use Rattle.std.specs.declared.alloc.Global.{Global}
 use Rattle.std.specs.Cmp.Lexicographic.{bytes_decides, slice_cmp}
 use Rattle.std.specs.Ordering.{is_eq, match_ordering, nat_cmp}
 use Rattle.std.specs.Str.{is_utf8}
 use Rattle.std.specs.declared.cmp.Ordering.{Ordering}
 use Rattle.std.specs.declared.cmp.Ordering.TheVariants.{Less, Equal, Greater}
 use Rattle.std.proofs.lemmas.Map.Text.{is_eq-slice_cmp}
-use Rattle.serde_json.specs.Data.{Data, null, boolean, number, string, array, object, no_members, member}
-use Rattle.serde_json.specs.Find.{as_array, as_bool, get}
+use Rattle.serde_json.specs.Data.{Data, null, boolean, number, string, array, object, Members, no_members, member}
+use Rattle.serde_json.specs.Find.{as_array, as_bool, as_object, get}
 use Rattle.serde_json.specs.Read.{read}
+use Rattle.serde_json.specs.View.{members_view}
+use Rattle.serde_json.specs.declared.value.Value.{Value}
 use Rattle.serde_json.specs.Written.{has_float}
 use Rattle.sql_tool_document.specs.Documents.{Document, document_of, value_in, without_floats}
-use Rattle.sql_tool_document.specs.Members.{each}
+use Rattle.sql_tool_document.specs.Members.{each, single}
 use Rattle.sql_tool_document.specs.Places.{filled}
 use Rattle.sql_tool_document.specs.Policies.{Policed, policy_of}
 use Rattle.sql_tool_document.specs.Scalar.{◌>>=◌}
@@ -25,6 +29,36 @@ true-false : {X : Type 0} → Prim.Path Bool false true → X
 true-false h = cc
 
 -- ---- the value
+
+abbrev Entries : Type 0
+Entries = List (String Global × Value)
+
+pub is-true : (o : Option Bool) → unwrap_or o false ≡ is_true o
+is-true None = refl
+is-true (Some b) = refl
+
+many : (xs : Entries) → (length xs ≡ 1 → ⊥) → is_some (single (members_view xs)) ≡ false
+many [] more = refl
+many (x ∷ []) more = absurd (more refl)
+many (x ∷ y ∷ xs) more = refl
+
+lone : (xs : Entries) → length xs ≡ 1 → is_some (single (members_view xs)) ≡ true
+lone [] one = absurd (omega (arith, one))
+lone (x ∷ []) one = refl
+lone (x ∷ y ∷ xs) one = absurd (omega (arith, one))
+
+-- an object has one member where so many are listed
+pub more-members : (d : Data) (xs : Entries) → Some (members_view xs) ≡ as_object d → (length xs ≡ 1 → ⊥)
+    → is_reset_value d ≡ false
+more-members d xs is more =
+    let value = is_true (get (codes "reset") d >>= as_bool) in
+    ap (λ (o : Option Members). is_some (o >>= single) && value) (sym is) ∙ ap (λ b. b && value) (many xs more)
+
+pub one-member : (d : Data) (xs : Entries) → Some (members_view xs) ≡ as_object d → length xs ≡ 1
+    → is_reset_value d ≡ is_true (get (codes "reset") d >>= as_bool)
+one-member d xs is one =
+    let value = is_true (get (codes "reset") d >>= as_bool) in
+    ap (λ (o : Option Members). is_some (o >>= single) && value) (sym is) ∙ ap (λ b. b && value) (lone xs one)
 
 named-reset : (k : List ℕ) → slice_cmp nat_cmp (codes "reset") k ≡ Equal → codes "reset" ≡ k
 named-reset k h =

@@ -16,12 +16,13 @@ fn is_reset_object(value: &Value) -> bool
         return false;
     }
     match value.get("reset") {
-        Some(reset) => reset.as_bool() == Some(true),
+        Some(reset) => reset.as_bool().unwrap_or(false),
         None => false,
     }
 }
 
 /// Whether the line is the text of `{"reset":true}`, with white space or without.
+#[tactic(auto, unfolding(crate::specs::Resets::is_reset))]
 pub(crate) fn is_reset(alloc: Global, line: &[u8]) -> Result<bool, AllocError>
     ensures { IfOk result (λ told. told ≡ is_reset_of line.now) }
 {
