@@ -82,7 +82,7 @@ fn responding(alloc: Global, responder: &mut Responder) -> Result<(), Fail> {
         "the lines of more",
     )?;
     begun_anew(alloc, responder)?;
-    is_done(Responder::open(responder, alloc, Capacity::of(1), OPEN_TENANTS.as_bytes()))?;
+    is_done(Responder::open(responder, alloc, Capacity::of(0), OPEN_TENANTS.as_bytes()))?;
     is_done(responder.next(alloc, TENANT_8.as_bytes()))?;
     is(
         responder.answer().as_slice() == TENANT_8_LINES.as_bytes(),
