@@ -75,3 +75,15 @@ audited_more d schema texts t written line (ls, lines, is) one = (
 
 pub audited_none : (d : Dialect) (schema : Declarations) → IsAuditOutput d (record { schema = schema; texts = [] }) []
 audited_none d schema = ([], tt, refl)
+
+-- what holds of the texts over a schema holds over that of the session
+pub over_with : (Holds : Texts → Type 0) (at schema more : Declarations) (bytes : List ℕ) (texts some : List (List ℕ))
+    → schema ≡ at → more ≡ at → some ≡ texts
+    → texts_over schema bytes ≡ Some (record { schema = schema; texts = texts })
+    → Holds (record { schema = more; texts = some }) → (x : Texts) × (texts_over at bytes ≡ Some x) × Holds x
+over_with Holds at schema more bytes texts some one two three read holds = (
+  record { schema = at; texts = texts },
+  subst (λ x. texts_over x bytes ≡ Some (record { schema = x; texts = texts })) one read,
+  subst (λ x. Holds (record { schema = x; texts = texts })) two
+      (subst (λ ts. Holds (record { schema = more; texts = ts })) three holds),
+)

@@ -165,6 +165,28 @@ module _ (line : List ℕ) (old new : Responder) (said : Option Remark) where
       )
   told-next TooLarge other good usage done deep shallow is (Some o) output knows = absurd is
 
+-- the session has begun anew
+pub begun : (status : Status) (old new : Responder) → (status ≡ Usage → old.session ≡ None)
+    → (status ≡ Done → (before after : Session) × (old.session ≡ Some before) × (new.session ≡ Some after)
+    × (after.terms ≡ before.terms)
+    × ((schema : Declarations) (asked : List Asked) (text : List ℕ) → HasAnswered schema asked text before
+    → HasAnswered schema [] [] after))
+    → (status ≡ Done) ⊎ (status ≡ Usage) → (before : Session) → old.session ≡ Some before
+    → (after : Session) × (new.session ≡ Some after) × (after.terms ≡ before.terms)
+    × ((schema : Declarations) (asked : List Asked) (text : List ℕ) → HasAnswered schema asked text before
+    → HasAnswered schema [] [] after)
+begun status old new usage done (inl ended) before was =
+    let (first, after, had, has, terms, grows) = done ended in
+    let same : first ≡ before = (let both : Some first ≡ Some before = sym had ∙ was in cc) in (
+      after,
+      has,
+      terms ∙ ap (λ (x : Session). x.terms) same,
+      λ schema asked text answered.
+          grows schema asked text (subst (λ x. HasAnswered schema asked text x) (sym same) answered),
+    )
+begun status old new usage done (inr ended) before was =
+    absurd (let wrong : Prim.Path (Option Session) None (Some before) = sym (usage ended) ∙ was in cc)
+
 -- a line that is no such document: it has the session begin anew, or is told so
 pub told-anew : (line : List ℕ) (old mid new : Responder) (said : Option Remark) → (old.session ≡ None → ⊥)
     → mid.session ≡ old.session → mid.answer.items ≡ []

@@ -86,6 +86,22 @@ no-document : (d : Data) → is_reset_value d ≡ true → document_of d ≡ Non
 unfolding document_of
 no-document d h = rw (no-schema d h) refl
 
+-- ---- the line
+
+pub of-read : (line : List ℕ) (d : Data) → is_utf8 line ≡ true → read line ≡ Some d → is_reset line ≡ is_reset_value d
+unfolding is_reset
+of-read line d utf8 is =
+    ap (λ b. cond b (is_true (option_map is_reset_value (read line))) false) utf8
+    ∙ ap (λ o. is_true (option_map is_reset_value o)) is
+
+pub no-read : (line : List ℕ) → (is_utf8 line ≡ true → read line ≡ None) → is_reset line ≡ false
+unfolding is_reset
+no-read line none = by (is_utf8 line) refl
+  where
+    by : (b : Bool) → is_utf8 line ≡ b → cond b (is_true (option_map is_reset_value (read line))) false ≡ false
+    by true utf8 = ap (λ o. is_true (option_map is_reset_value o)) (none utf8)
+    by false utf8 = refl
+
 -- ---- what is asked
 
 bind-none : {A B : Type 0} (o : Option A) (f : A → Option B) → ((a : A) → f a ≡ None) → (o >>= f) ≡ None
@@ -116,7 +132,7 @@ nothing-of true (Some d) f is none = by (has_float d)
     by false = none d is
 
 asks-nothing : (t : Option (Option Data)) (line : List ℕ) → is_reset line ≡ true → call_in t line ≡ None
-unfolding is_reset value_in
+unfolding is_reset value_in call_in is_utf8
 asks-nothing None line is = nothing-of (is_utf8 line) (read line) (call_of None) is (no-call None)
 asks-nothing (Some None) line is = refl
 asks-nothing (Some (Some t)) line is = nothing-of (is_utf8 line) (read line) (call_of (Some t)) is (no-call (Some t))

@@ -22,7 +22,6 @@ fn is_reset_object(value: &Value) -> bool
 }
 
 /// Whether the line is the text of `{"reset":true}`, with white space or without.
-#[tactic(auto, unfolding(crate::specs::Resets::is_reset))]
 pub(crate) fn is_reset(alloc: Global, line: &[u8]) -> Result<bool, AllocError>
     ensures { IfOk result (λ told. told ≡ is_reset_of line.now) }
 {
