@@ -19,8 +19,7 @@ returns-clause-partial c = λ session had ended.
     let same : c.in-Some.session ≡ session =
     (let both : Some c.in-Some.session ≡ Some session = sym c.in-Some.is ∙ had in cc) in
     let at = ap (λ (s : Session). s.cache.schema) same in
-    inr (
-      over_with (λ x. IsStartOf c.args.dialect x c.add_lines.new.lines.items) session.cache.schema c.schema.result.now
-          c.schema-2.result.now c.args.texts.now c.in-Ok.texts c.as_slice.result.now (c.schema.ensures ∙ at)
-          (c.schema-2.ensures ∙ at) c.as_slice.ensures c.in-Ok.ensures.read c.in-Err-add_lines.ensures.some,
-    )
+    inr
+    (over_with (λ x. IsStartOf c.args.dialect x c.add_lines.new.lines.items) session.cache.schema c.schema.result.now
+    c.schema-2.result.now c.args.texts.now c.in-Ok.texts c.as_slice.result.now (c.schema.ensures ∙ at) (c.schema-2.ensures ∙ at)
+    c.as_slice.ensures c.in-Ok.ensures.read c.in-Err-add_lines.ensures.some)
