@@ -5,10 +5,11 @@ use Rattle.std.specs.Option.{unwrap_or}
 use Rattle.std.specs.declared.alloc.Global.{Global}
 use Rattle.std.specs.Cmp.Lexicographic.{bytes_decides, slice_cmp}
 use Rattle.std.specs.Ordering.{is_eq, match_ordering, nat_cmp}
-use Rattle.std.specs.Str.{is_utf8}
+use Rattle.std.specs.Str.{IsUtf8, is_utf8}
 use Rattle.std.specs.declared.cmp.Ordering.{Ordering}
 use Rattle.std.specs.declared.cmp.Ordering.TheVariants.{Less, Equal, Greater}
 use Rattle.std.proofs.lemmas.Map.Text.{is_eq-slice_cmp}
+use Rattle.std.proofs.lemmas.Str.{IsUtf8-from_is_utf8, is_utf8-from_IsUtf8}
 use Rattle.serde_json.specs.Data.{Data, null, boolean, number, string, array, object, Members, no_members, member}
 use Rattle.serde_json.specs.Find.{as_array, as_bool, as_object, get}
 use Rattle.serde_json.specs.Read.{read}
@@ -88,18 +89,18 @@ no-document d h = rw (no-schema d h) refl
 
 -- ---- the line
 
-pub of-read : (line : List ℕ) (d : Data) → is_utf8 line ≡ true → read line ≡ Some d → is_reset line ≡ is_reset_value d
+pub of-read : (line : List ℕ) (d : Data) → IsUtf8 line → read line ≡ Some d → is_reset line ≡ is_reset_value d
 unfolding is_reset
 of-read line d utf8 is =
-    ap (λ b. cond b (is_true (option_map is_reset_value (read line))) false) utf8
+    ap (λ b. cond b (is_true (option_map is_reset_value (read line))) false) (is_utf8-from_IsUtf8 line utf8)
     ∙ ap (λ o. is_true (option_map is_reset_value o)) is
 
-pub no-read : (line : List ℕ) → (is_utf8 line ≡ true → read line ≡ None) → is_reset line ≡ false
+pub no-read : (line : List ℕ) → (IsUtf8 line → read line ≡ None) → is_reset line ≡ false
 unfolding is_reset
 no-read line none = by (is_utf8 line) refl
   where
     by : (b : Bool) → is_utf8 line ≡ b → cond b (is_true (option_map is_reset_value (read line))) false ≡ false
-    by true utf8 = ap (λ o. is_true (option_map is_reset_value o)) (none utf8)
+    by true utf8 = ap (λ o. is_true (option_map is_reset_value o)) (none (IsUtf8-from_is_utf8 line utf8))
     by false utf8 = refl
 
 -- ---- what is asked

@@ -9,4 +9,4 @@ returns-in-Ok c =
     c.is_reset_object.ensures ∙ sym (of-read c.args.line.now (view c.in-Ok.value) utf8 is)
 
 pub returns-in-Err-2 : goal.returns-in-Err-2
-returns-in-Err-2 c = sym (no-read c.args.line.now (λ utf8. c.in-Err.ensures.err (search rules) utf8))
+returns-in-Err-2 c = sym (no-read c.args.line.now (c.in-Err-2.ensures.err (λ memory. search rules)))
