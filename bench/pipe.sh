@@ -1,7 +1,8 @@
 #!/bin/sh
 # Requests a second of one process over a pipe, `session`, from Python and from C, with one request and a hundred on a line, beside one
 # document; and the memory of the process over a million requests. Prints two tables. By hand, never a test.
-# PROGRAM, where it is set, is what is measured; else it is built first where it is not. COUNT and MILLION are how many requests.
+# PROGRAM, where it is set, is what is measured; else it is built first where it is not. COUNT and MILLION are how many requests. LIBRARY,
+# where it is set, is a libhardieflax.a (packaging/library.sh), of which there are rows too: the same lines in calls of one process.
 top=$(cd "$(dirname "$0")/.." && pwd) || exit 1
 work=$(mktemp -d) || exit 1
 trap 'rm -r "$work"' EXIT
@@ -38,5 +39,14 @@ for size in 1 100; do
     row "a pipe from Python, $size on a line" "$(python3 "$top/bench/pipe.py" "$PROGRAM" "$work/by_$size" "$work/out")"
     cmp "$work/out" "$work/lines" || exit 1
 done
+if [ -n "$LIBRARY" ]; then
+    cc -O2 -I "$top/examples/c" -o "$work/session" "$top/bench/embed/session.c" "$LIBRARY" || exit 1
+    for size in 1 100; do
+        head -n 1 "$work/by_$size" >"$work/schema"
+        tail -n +2 "$work/by_$size" >"$work/calls"
+        row "the library from C, $size in a call" "$("$work/session" "$work/schema" "$work/calls" "$work/out")"
+        cmp "$work/out" "$work/lines" || exit 1
+    done
+fi
 echo
 python3 "$top/bench/pipe.py" "$PROGRAM" "$work/by_100" --requests "${MILLION:-1000000}"

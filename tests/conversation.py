@@ -112,6 +112,33 @@ def deep_requests():
     assert answers(document(SCHEMA, deep(3000)) + b"\n" + document(NONE, request(1)) + b"\n") == [[DEEP], [built(request(1))]]
 
 
+RESET = b'{"reset":true}'
+
+
+def resets():
+    """A reset is answered by no line. From there on ids are counted from 1 again, over the same schema."""
+    asked = [request(1), request(2, "Mysql")]
+    more = [document(NONE, item) for item in asked]
+    first, second = built(*asked).splitlines(keepends=True)
+    parts = answers(OPENING + b"\n".join([*more, RESET, more[1], more[0], RESET, b' {"reset" : true }\r', *more]) + b"\n")
+    anew = built(asked[1], asked[0]).splitlines(keepends=True)
+    assert parts == [[], [first], [second], [], [anew[0]], [anew[1]], [], [], [first], [second]], parts
+    # Before a line has opened a session it is no document, and what only looks like one is none.
+    assert answers(RESET + b"\n" + OPENING + more[0] + b"\n") == [[BAD], [], [first]]
+    for line in (b'{"reset":false}', b'{"reset":1}', b'{"reset":true,"x":1}', b'{"Reset":true}', b'["reset",true]', b'{"reset":true} x', b"reset"):
+        assert answers(OPENING + more[0] + b"\n" + line + b"\n" + more[1] + b"\n") == [[], [first], [BAD], [second]], line
+
+
+def resets_keep_policies():
+    """After a reset a session with policies has them still: no answer is unguarded."""
+    policy = {"table": "foo", "predicate": {"eq": [{"col": ["foo", "id"]}, {"bind": ["Integer", {"value": "tenant"}]}]}}
+    opening = json.dumps({"schema": SCHEMA, "tenant": [policy], "values": {"tenant": 7}, "requests": []}).encode()
+    ask = {"dialect": "Pg", "query": {"from": {"table": "foo"}}}
+    line = json.dumps({"schema": NONE, "values": {"tenant": 8}, "requests": [ask]}).encode()
+    parts = answers(b"\n".join([opening, line, RESET, line, document(NONE, ask)]) + b"\n")
+    assert parts[1] == parts[3] and json.loads(parts[3][0])["binds"] == [["Integer", 8]] and parts[4] == [BAD], parts
+
+
 def read_answer(process):
     lines = []
     while True:
@@ -202,7 +229,7 @@ def flat_memory():
     assert sizes[-1] < sizes[0] * 1.1 + 500, sizes
 
 
-for test in (one_document, first_line_with_requests, line_ends, bad_lines, long_lines, deep_requests, prompt, killed_writer,
+for test in (one_document, first_line_with_requests, line_ends, bad_lines, long_lines, deep_requests, resets, resets_keep_policies, prompt, killed_writer,
              killed_reader, flat_memory):
     test()
     print(f"ok: {test.__name__.replace('_', ' ')}")

@@ -53,7 +53,7 @@ typedef struct hardieflax {
 /* How a call ends: the program's exit status. */
 enum hardieflax_status {
     HARDIEFLAX_DONE = 0,         /* the handle has the answer */
-    HARDIEFLAX_USAGE = 2,        /* no such dialect: the handle is as it was; or on hardieflax_next no session */
+    HARDIEFLAX_USAGE = 2,        /* no such dialect: the handle is as it was; or no session, where a call wants one */
     HARDIEFLAX_BAD_DOCUMENT = 3, /* the input is not what the call reads */
     HARDIEFLAX_NO_MEMORY = 6,    /* out of memory, or a request or a text nests too deep: the handle has the lines before it */
     HARDIEFLAX_TOO_LARGE = 7     /* the input has more than 16777216 bytes */
@@ -90,10 +90,17 @@ uint32_t hardieflax_audit(hardieflax *handle, uint32_t dialect, const uint8_t *t
 uint32_t hardieflax_open(hardieflax *handle, const uint8_t *document, size_t length);
 
 /*
+ * The same, and says how many shapes have an id in the session before all are forgotten: `capacity`, or for 0 the usual 16384. Take as many as
+ * you keep prepared statements, or more. A shape takes some hundred bytes of the library's memory, and more where its statement is large.
+ */
+uint32_t hardieflax_open_within(hardieflax *handle, const uint8_t *document, size_t length, size_t capacity);
+
+/*
  * Answers more requests over the session's schema: a document that declares no table, as {"schema":{"tables":[]},"requests":[..]}. The
  * lines are those that the output of one document would have which has the requests of all the session's calls, in order: an id is the
- * number, from 1, of the session's first accepted request of the same dialect and shape. Once 16384 shapes have an id all are forgotten: a
- * shape that comes again then has a new id, and no id is ever given to another shape. In a session with policies the document's member
+ * number, from 1, of the session's first accepted request of the same dialect and shape. Once 16384 shapes have an id, or as many as
+ * hardieflax_open_within was told, all are forgotten: a shape that comes again then has a new id, and no id is given to another shape, until
+ * hardieflax_reset. In a session with policies the document's member
  * "values" has the values for their places, so that one session serves all tenants with one text for each shape. Input that is no such
  * document, or lacks a value, leaves the session as it was.
  *
@@ -102,6 +109,18 @@ uint32_t hardieflax_open(hardieflax *handle, const uint8_t *document, size_t len
  * deep that is not so by itself, there are no lines and the session is gone, so a further call returns HARDIEFLAX_USAGE: open it again.
  */
 uint32_t hardieflax_next(hardieflax *handle, const uint8_t *document, size_t length);
+
+/*
+ * Has the session begin anew, as if it had just been opened by a document without requests: schema, policies and capacity stay, and ids
+ * are counted from 1 again. Drop what you kept by id. The answer is empty. HARDIEFLAX_USAGE where there is no session.
+ */
+uint32_t hardieflax_reset(hardieflax *handle);
+
+/*
+ * As hardieflax_audit, over the session's schema: a document that declares no table, as {"schema":{"tables":[]},"texts":["SELECT .."]}. The
+ * session stays as it is, whatever the call returns. HARDIEFLAX_USAGE where there is no session.
+ */
+uint32_t hardieflax_audit_next(hardieflax *handle, uint32_t dialect, const uint8_t *texts, size_t length);
 
 /* Frees what the handle owns, which then owns nothing and may be used again. On a handle that owns nothing it does nothing. */
 void hardieflax_free(hardieflax *handle);

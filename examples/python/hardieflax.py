@@ -83,6 +83,9 @@ _CALLS = {
     "audit": [ctypes.c_uint32, *_INPUT],
     "open": _INPUT,
     "next": _INPUT,
+    "open_within": [*_INPUT, ctypes.c_size_t],
+    "reset": [],
+    "audit_next": [ctypes.c_uint32, *_INPUT],
 }
 
 
@@ -128,11 +131,14 @@ class Hardieflax:
         with self._lock:
             self._free(self._handle)
 
-    def _call(self, name: str, data: bytes, *dialect: int) -> bytes:
+    def _call(self, name: str, data: bytes, *dialect: int, more: tuple[int, ...] = ()) -> bytes:
         if not isinstance(data, bytes):
             raise TypeError(f"the input is bytes, and not {type(data).__name__}")
+        return self._ask(name, *dialect, data, len(data), *more)
+
+    def _ask(self, name: str, *arguments: int | bytes) -> bytes:
         with self._lock:
-            status = self._calls[name](self._handle, *dialect, data, len(data))
+            status = self._calls[name](self._handle, *arguments)
             if status not in (0, Status.NO_MEMORY):
                 raise HardieflaxError(status)
             lines = ctypes.string_at(self._handle.bytes, self._handle.length)
@@ -156,13 +162,24 @@ class Hardieflax:
         """A line for each text, with the tables and columns that it uses. ValueError: no such dialect."""
         return self._call("audit", texts, Dialect(dialect))
 
-    def open(self, document: bytes) -> bytes:
+    def open(self, document: bytes, capacity: int = 0) -> bytes:
         """Opens a session over the document's schema, in place of an earlier one, and answers the document.
 
+        Once so many shapes have an id as the capacity says, all are forgotten: 16,384 for 0. ValueError: it is no size.
         Its member `tenant` has policies, with places for the values that each document of the session gives (docs/GUARD.md).
         Where a request nests too deep the session is open, and has answered the requests before it. After any other error there is none.
         """
-        return self._call("open", document)
+        if not 0 <= capacity < 2**32:
+            raise ValueError(f"{capacity} is no capacity")
+        return self._call("open_within", document, more=(capacity,)) if capacity else self._call("open", document)
+
+    def reset(self) -> None:
+        """Has the session begin anew: its schema, policies and capacity stay, and ids are counted from 1 again. Drop what you kept by id."""
+        self._ask("reset")
+
+    def audit_next(self, dialect: Dialect, texts: bytes) -> bytes:
+        """A line for each text of a document that declares no table, over the session's schema. The session stays as it is."""
+        return self._call("audit_next", texts, Dialect(dialect))
 
     def next(self, document: bytes) -> bytes:
         """Answers the requests of a document that declares no table, over the session's schema.

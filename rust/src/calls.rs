@@ -180,12 +180,35 @@ impl Hardieflax {
         self.answer(status)
     }
 
+    /// The same, and says how many shapes have an id in the session before all are forgotten: `capacity`, or for 0 the usual 16,384.
+    pub fn open_within(&mut self, document: &[u8], capacity: usize) -> Lines<'_> {
+        // SAFETY: as above.
+        let status = unsafe { raw::hardieflax_open_within(&mut self.handle, document.as_ptr(), document.len(), capacity) };
+        self.answer(status)
+    }
+
     /// Answers the requests of a document that declares no table, over the session's schema. Where a request nests too deep the session has
     /// answered the requests before it, and goes on. Where memory runs out it is gone, and the next call is
     /// [`HardieflaxError::NoSession`]: open it again. Other errors leave it as it was.
     pub fn next(&mut self, document: &[u8]) -> Lines<'_> {
         // SAFETY: as above.
         let status = unsafe { raw::hardieflax_next(&mut self.handle, document.as_ptr(), document.len()) };
+        self.answer(status)
+    }
+
+    /// Has the session begin anew: its schema, policies and capacity stay, and ids are counted from 1 again. Drop what you kept by id. There
+    /// are no lines.
+    pub fn reset(&mut self) -> Lines<'_> {
+        // SAFETY: as above.
+        let status = unsafe { raw::hardieflax_reset(&mut self.handle) };
+        self.answer(status)
+    }
+
+    /// A line for each text of a document that declares no table, with the tables and columns of the session's schema that it uses. The session
+    /// stays as it is.
+    pub fn audit_next(&mut self, dialect: Dialect, texts: &[u8]) -> Lines<'_> {
+        // SAFETY: as above.
+        let status = unsafe { raw::hardieflax_audit_next(&mut self.handle, dialect as u32, texts.as_ptr(), texts.len()) };
         self.answer(status)
     }
 

@@ -20,6 +20,9 @@ extern "C" {
     pub fn hardieflax_audit(handle: *mut Handle, dialect: u32, texts: *const u8, length: usize) -> u32;
     pub fn hardieflax_open(handle: *mut Handle, document: *const u8, length: usize) -> u32;
     pub fn hardieflax_next(handle: *mut Handle, document: *const u8, length: usize) -> u32;
+    pub fn hardieflax_open_within(handle: *mut Handle, document: *const u8, length: usize, capacity: usize) -> u32;
+    pub fn hardieflax_reset(handle: *mut Handle) -> u32;
+    pub fn hardieflax_audit_next(handle: *mut Handle, dialect: u32, texts: *const u8, length: usize) -> u32;
     pub fn hardieflax_free(handle: *mut Handle);
     pub fn hardieflax_version() -> *const c_char;
 }

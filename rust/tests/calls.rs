@@ -31,6 +31,29 @@ fn a_session_goes_on_with_its_ids() {
 }
 
 #[test]
+fn a_reset_counts_from_one() {
+    let mut session = Hardieflax::new();
+    assert_eq!(session.reset(), Err(HardieflaxError::NoSession));
+    assert_eq!(session.open_within(&document(USERS, &[NAMES]), 0).map(str::len), Ok(NAMES_LINE.len()));
+    assert_eq!(session.next(&document(NONE, &[BY_ID])).map(|line| line.contains(r#""id":2"#)), Ok(true));
+    assert_eq!(session.reset(), Ok(""));
+    let both = format!("{BY_ID_LINE}{NAMES_LINE}");
+    assert_eq!(session.next(&document(NONE, &[BY_ID, NAMES])), Ok(both.as_str()));
+}
+
+#[test]
+fn texts_are_audited_over_the_schema_of_a_session() {
+    let texts = br#"{"schema":{"tables":[]},"texts":["SELECT \"users\".\"id\" FROM \"users\"","x"]}"#;
+    let lines = "{\"columns\":[[\"users\",\"id\"]],\"sources\":[0],\"tables\":[\"users\"]}\n{\"refused\":\"NotInGrammar\"}\n";
+    let mut session = Hardieflax::new();
+    assert_eq!(session.audit_next(Dialect::Pg, texts), Err(HardieflaxError::NoSession));
+    assert_eq!(session.open(&document(USERS, &[BY_ID])), Ok(BY_ID_LINE));
+    assert_eq!(session.audit_next(Dialect::Pg, texts), Ok(lines));
+    assert_eq!(session.audit_next(Dialect::Pg, b"x"), Err(HardieflaxError::BadDocument));
+    assert_eq!(session.next(&document(NONE, &[NAMES])), Ok(NAMES_LINE));
+}
+
+#[test]
 fn one_call_is_one_document() {
     let both = format!("{BY_ID_LINE}{NAMES_LINE}");
     let mut handle = Hardieflax::new();

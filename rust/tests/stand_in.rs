@@ -29,7 +29,11 @@ fn each_call_passes_what_it_is_given() {
     for (number, dialect) in [Dialect::Pg, Dialect::Mysql, Dialect::Sqlite, Dialect::Bracket].into_iter().enumerate() {
         assert_eq!(handle.read(dialect, TEXT.as_bytes()), Ok(format!("read {number} {TEXT}").as_str()));
         assert_eq!(handle.audit(dialect, TEXT.as_bytes()), Ok(format!("audit {number} {TEXT}").as_str()));
+        assert_eq!(handle.audit_next(dialect, TEXT.as_bytes()), Ok(format!("audit_next {number} {TEXT}").as_str()));
     }
+    assert_eq!(handle.open_within(TEXT.as_bytes(), 100), Ok("open_within 100 é \0 x"));
+    assert_eq!(handle.reset(), Ok(""));
+    assert_eq!(handle.next(TEXT.as_bytes()), Ok("next - é \0 x"));
     assert_eq!(handle.build(b""), Ok("build - "));
     assert_eq!(handle.build(b"nothing"), Ok(""));
 }
@@ -45,6 +49,8 @@ fn a_status_is_an_error() {
         assert_eq!(handle.build(input.as_bytes()), Err(error));
     }
     assert_eq!(handle.next(b"x"), Err(HardieflaxError::NoSession));
+    assert_eq!(handle.reset(), Err(HardieflaxError::NoSession));
+    assert_eq!(handle.audit_next(Dialect::Pg, b"x"), Err(HardieflaxError::NoSession));
     assert_eq!(handle.build(b"x"), Ok("build - x"));
 }
 

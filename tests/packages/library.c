@@ -178,6 +178,43 @@ uint32_t hardieflax_next(hardieflax *handle, const uint8_t *document, size_t len
     return go_on(handle, document, length);
 }
 
+/* The program has a session's usual capacity alone. */
+uint32_t hardieflax_open_within(hardieflax *handle, const uint8_t *document, size_t length, size_t capacity) {
+    (void)capacity;
+    return hardieflax_open(handle, document, length);
+}
+
+uint32_t hardieflax_reset(hardieflax *handle) {
+    static const char line[] = "{\"reset\":true}";
+    return hardieflax_next(handle, (const uint8_t *)line, sizeof line - 1);
+}
+
+/* Asks the command `audit` for the texts with the members of the session's first line after theirs, so that its schema is the one that counts. */
+uint32_t hardieflax_audit_next(hardieflax *handle, uint32_t dialect, const uint8_t *texts, size_t length) {
+    const struct text *session = &owned_of(handle)->session;
+    const char *first = session->bytes, *end;
+    uint8_t *both;
+    uint32_t status;
+    size_t more;
+    if (first == NULL)
+        return show(handle, HARDIEFLAX_USAGE, text_of("", 0), 0);
+    end = memchr(first, '\n', session->length);
+    while (*first != '{')
+        first++;
+    while (length > 0 && texts[length - 1] != '}')
+        length--;
+    more = (size_t)(end - first);
+    both = checked(malloc(length + more + 1));
+    memcpy(both, texts, length);
+    memcpy(both + length, first, more);
+    if (length > 0)
+        both[length - 1] = ' ';
+    both[length] = ',';
+    status = hardieflax_audit(handle, dialect, both, length + more);
+    free(both);
+    return status;
+}
+
 void hardieflax_free(hardieflax *handle) {
     struct owned *owned = (struct owned *)(void *)handle->owned;
     if (owned != NULL) {

@@ -3,6 +3,8 @@
  * is the call's name, the number of the dialect or "-", and the input, as "read 3 SELECT". It aborts where a caller does what the header
  * forbids and it can tell.
  *
+ * "open_within" has the capacity where others have the dialect, and an answer of "reset" is empty, as the library's is.
+ *
  * An input "status N" gives that status, "nothing" an empty answer, "deep" an answer and NO_MEMORY, and "slow" takes 50 ms. Where memory
  * runs out, which is "status 6", a session that was opened or asked is gone.
  */
@@ -74,12 +76,12 @@ static uint32_t answer(hardieflax *handle, const char *name, int dialect, const 
     if (input == NULL)
         forbidden("no input");
     clear(handle, owned);
-    if (strcmp(name, "open") == 0)
+    if (strncmp(name, "open", 4) == 0)
         owned->has_session = 1;
-    if (strcmp(name, "next") == 0 && !owned->has_session)
+    if ((strcmp(name, "next") == 0 || strcmp(name, "audit_next") == 0) && !owned->has_session)
         return HARDIEFLAX_USAGE;
     if (length == 8 && memcmp(input, "status ", 7) == 0) {
-        if (input[7] == '6' && (strcmp(name, "open") == 0 || strcmp(name, "next") == 0))
+        if (input[7] == '6' && (strncmp(name, "open", 4) == 0 || strcmp(name, "next") == 0))
             owned->has_session = 0;
         return (uint32_t)(input[7] - '0');
     }
@@ -132,6 +134,22 @@ uint32_t hardieflax_open(hardieflax *handle, const uint8_t *document, size_t len
 
 uint32_t hardieflax_next(hardieflax *handle, const uint8_t *document, size_t length) {
     return answer(handle, "next", -1, document, length);
+}
+
+uint32_t hardieflax_open_within(hardieflax *handle, const uint8_t *document, size_t length, size_t capacity) {
+    return answer(handle, "open_within", (int)capacity, document, length);
+}
+
+uint32_t hardieflax_reset(hardieflax *handle) {
+    struct owned *owned = owned_of(handle);
+    clear(handle, owned);
+    return owned->has_session ? HARDIEFLAX_DONE : HARDIEFLAX_USAGE;
+}
+
+uint32_t hardieflax_audit_next(hardieflax *handle, uint32_t dialect, const uint8_t *texts, size_t length) {
+    if (dialect > HARDIEFLAX_BRACKET)
+        return HARDIEFLAX_USAGE;
+    return answer(handle, "audit_next", (int)dialect, texts, length);
 }
 
 const char *hardieflax_version(void) { return "stand-in"; }

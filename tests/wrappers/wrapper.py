@@ -45,6 +45,10 @@ class Wrapper(unittest.TestCase):
         for number, dialect in enumerate((Dialect.PG, Dialect.MYSQL, Dialect.SQLITE, Dialect.BRACKET)):
             self.assertEqual(self.handle.read(dialect, text), b"read %d " % number + text)
             self.assertEqual(self.handle.audit(dialect, text), b"audit %d " % number + text)
+            self.assertEqual(self.handle.audit_next(dialect, text), b"audit_next %d " % number + text)
+        self.assertEqual(self.handle.open(text, 100), b"open_within 100 " + text)
+        self.handle.reset()
+        self.assertEqual(self.handle.next(text), b"next - " + text)
 
     def test_an_answer_outlives_the_next_call(self) -> None:
         first = self.handle.build(b"first")
@@ -90,8 +94,13 @@ class Wrapper(unittest.TestCase):
         with self.handle as session:
             self.assertEqual(session.open(b"x"), b"open - x")
             self.assertEqual(session.next(b"y"), b"next - y")
-        with self.assertRaises(HardieflaxError):
-            self.handle.next(b"x")
+        for call in (lambda: self.handle.next(b"x"), self.handle.reset, lambda: self.handle.audit_next(Dialect.PG, b"x")):
+            with self.assertRaises(HardieflaxError) as caught:
+                call()
+            self.assertIs(caught.exception.status, Status.USAGE)
+        for capacity in (-1, 2**32):
+            with self.assertRaises(ValueError):
+                self.handle.open(b"x", capacity)
         self.assertEqual(self.handle.open(b"x"), b"open - x")
 
     def test_what_is_no_input_is_not_passed(self) -> None:

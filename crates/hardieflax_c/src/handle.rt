@@ -1,9 +1,9 @@
 ghost use Rattle.std.specs.Prelude.{◌≡◌, IfOk, IfErr, None, Some, option_map, false, true};
-ghost use Rattle.hardieflax_c.specs.Handles.{IsAnswered, IsContinued, IsOpened, IsSound, Shows, kept_by, session_of};
+ghost use Rattle.hardieflax_c.specs.Handles.{IsAnew, IsAnswered, IsAuditedBySession, IsContinued, IsOpened, IsSound, Shows, kept_by, session_of};
 ghost use Rattle.sql_tool_run.specs.Command.{reads_source};
 
 use crate::owner::Owner;
-use sql_tool_session::{Command, Responder, Status};
+use sql_tool_session::{Capacity, Command, Dialect, Responder, Status};
 use std::alloc::{AllocError, Global};
 use std::{mem, ptr};
 
@@ -81,15 +81,15 @@ impl Handle {
         status
     }
 
-    /// Opens a session.
-    pub(crate) fn open(&mut self, alloc: Global, document: &[u8]) -> Status
+    /// Opens a session with this capacity.
+    pub(crate) fn open(&mut self, alloc: Global, capacity: Capacity, document: &[u8]) -> Status
         requires { IsSound self.old }
-        ensures { IsOpened document.now self.new result }
+        ensures { IsOpened capacity.shapes document.now self.new result }
     {
         let Ok(mut responder) = self.take_or_make(alloc) else {
             return Status::NoMemory;
         };
-        let status = responder.open(alloc, document);
+        let status = responder.open(alloc, capacity, document);
         self.put(responder);
         status
     }
@@ -103,6 +103,32 @@ impl Handle {
             return Status::Usage;
         };
         let status = responder.next(alloc, document);
+        self.put(responder);
+        status
+    }
+
+    /// Has the session begin anew.
+    pub(crate) fn reset(&mut self, alloc: Global) -> Status
+        requires { IsSound self.old }
+        ensures { IsAnew self.old self.new result }
+    {
+        let Ok(mut responder) = self.take_or_make(alloc) else {
+            return Status::Usage;
+        };
+        let status = responder.reset(alloc);
+        self.put(responder);
+        status
+    }
+
+    /// Audits texts over the session's schema.
+    pub(crate) fn audit_next(&mut self, alloc: Global, dialect: Dialect, texts: &[u8]) -> Status
+        requires { IsSound self.old }
+        ensures { IsAuditedBySession dialect texts.now self.old self.new result }
+    {
+        let Ok(mut responder) = self.take_or_make(alloc) else {
+            return Status::Usage;
+        };
+        let status = responder.audit(alloc, dialect, texts);
         self.put(responder);
         status
     }

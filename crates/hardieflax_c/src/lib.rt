@@ -10,7 +10,9 @@
 
 ghost use Rattle.std.specs.Prelude.{◌≡◌, IfSome, None};
 ghost use Rattle.hardieflax_c.specs.Dialects.{dialect_at};
-ghost use Rattle.hardieflax_c.specs.Handles.{IsAnswered, IsContinued, IsOpened, IsSound, kept_by};
+ghost use Rattle.hardieflax_c.specs.Handles.{IsAnew, IsAnswered, IsAuditedBySession, IsContinued, IsOpened, IsSound, kept_by};
+ghost use Rattle.sql_tool_session.specs.Session.{shapes_for};
+ghost use Rattle.sql_tool_ids.specs.declared.seen.TheConstants.{MAX_SHAPES};
 ghost use Rattle.sql_tool_run.specs.Status.{code_of};
 ghost use Rattle.sql_tool_run.specs.declared.command.Command.TheVariants as command;
 ghost use Rattle.sql_tool_run.specs.declared.status.Status.{Status as Ending};
@@ -19,7 +21,7 @@ mod handle;
 mod owner;
 
 use handle::Handle;
-use sql_tool_session::{Command, Dialect, Status};
+use sql_tool_session::{Capacity, Command, Dialect, Status};
 use std::alloc::Global;
 
 /// The dialect of this number.
@@ -104,9 +106,24 @@ pub extern "C" fn hardieflax_audit(
 pub extern "C" fn hardieflax_open(alloc: Global, handle: &mut Handle, document: &[u8]) -> u32
     requires { IsSound handle.old }
     ensures { (status : Ending) × (result ≡ code_of status)
-        × IsOpened document.now handle.new status }
+        × IsOpened MAX_SHAPES document.now handle.new status }
 {
-    number_of(handle.open(alloc, document))
+    number_of(handle.open(alloc, Capacity::usual(), document))
+}
+
+/// The same with a session in which so many shapes have an id before all are forgotten: the usual number for 0.
+#[unsafe(no_mangle)]
+pub extern "C" fn hardieflax_open_within(
+    alloc: Global,
+    handle: &mut Handle,
+    document: &[u8],
+    capacity: usize,
+) -> u32
+    requires { IsSound handle.old }
+    ensures { (status : Ending) × (result ≡ code_of status)
+        × IsOpened (shapes_for capacity) document.now handle.new status }
+{
+    number_of(handle.open(alloc, Capacity::of(capacity), document))
 }
 
 /// The lines of more requests over the session, or of those before one that nests too deep.
@@ -117,6 +134,34 @@ pub extern "C" fn hardieflax_next(alloc: Global, handle: &mut Handle, document: 
         × IsContinued document.now handle.old handle.new status }
 {
     number_of(handle.next(alloc, document))
+}
+
+/// Has the session begin anew: ids are counted from 1 again, over the same schema and policies.
+#[unsafe(no_mangle)]
+pub extern "C" fn hardieflax_reset(alloc: Global, handle: &mut Handle) -> u32
+    requires { IsSound handle.old }
+    ensures { (status : Ending) × (result ≡ code_of status) × IsAnew handle.old handle.new status }
+{
+    number_of(handle.reset(alloc))
+}
+
+/// A line for each text of a document that declares no table, over the session's schema. A number of no dialect leaves the handle as it was.
+#[unsafe(no_mangle)]
+pub extern "C" fn hardieflax_audit_next(
+    alloc: Global,
+    handle: &mut Handle,
+    dialect: u32,
+    texts: &[u8],
+) -> u32
+    requires { IsSound handle.old }
+    ensures audit { IfSome (dialect_at dialect) (λ d. (status : Ending) × (result ≡ code_of status)
+        × IsAuditedBySession d texts.now handle.old handle.new status) }
+    ensures usage { dialect_at dialect ≡ None → (result ≡ 2) × (handle.new ≡ handle.old) }
+{
+    match dialect_of(dialect) {
+        Some(dialect) => number_of(handle.audit_next(alloc, dialect, texts)),
+        None => number_of(Status::Usage),
+    }
 }
 
 /// Frees what the handle keeps. It may be used again.

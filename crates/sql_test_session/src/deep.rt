@@ -1,7 +1,7 @@
 //! Calls with a request that nests too deep: they answer the requests before it, and a session goes on.
 
 use sql_test_kit::is;
-use sql_tool_session::{Command, Responder, Status, answer};
+use sql_tool_session::{Capacity, Command, Responder, Status, answer};
 use std::alloc::{AllocError, Global};
 use std::test::Fail;
 
@@ -55,7 +55,7 @@ fn is_cut(responder: &Responder, status: Status, lines: &str) -> Result<(), Fail
 
 fn opens(alloc: Global, responder: &mut Responder) -> Result<(), Fail> {
     let document = around_deep(alloc, TABLE, PG)?;
-    let status = responder.open(alloc, document.as_bytes());
+    let status = responder.open(alloc, Capacity::usual(), document.as_bytes());
     is_cut(responder, status, PG_LINE)
 }
 

@@ -15,6 +15,21 @@ pub(crate) const MORE: &str =
 pub(crate) const MORE_LINES: &str =
     "{\"binds\":[[\"Integer\",1]],\"columns\":[\"Integer\",\"Integer\",\"Integer\"],\"id\":1,\"safe\":true,\"sql\":\"SELECT \\\"foo\\\".\\\"id\\\", \\\"foo\\\".\\\"type\\\", \\\"foo\\\".\\\"bleh\\\" FROM \\\"foo\\\" WHERE (\\\"foo\\\".\\\"type\\\" = $1)\"}\n{\"binds\":[],\"columns\":[\"Integer\",\"Integer\",\"Integer\"],\"id\":3,\"safe\":true,\"sql\":\"SELECT `foo`.`id`, `foo`.`type`, `foo`.`bleh` FROM `foo`\"}\n";
 
+/// Their lines in a session that has begun anew: the first and the second of all requests.
+pub(crate) const ANEW_LINES: &str =
+    "{\"binds\":[[\"Integer\",1]],\"columns\":[\"Integer\",\"Integer\",\"Integer\"],\"id\":1,\"safe\":true,\"sql\":\"SELECT \\\"foo\\\".\\\"id\\\", \\\"foo\\\".\\\"type\\\", \\\"foo\\\".\\\"bleh\\\" FROM \\\"foo\\\" WHERE (\\\"foo\\\".\\\"type\\\" = $1)\"}\n{\"binds\":[],\"columns\":[\"Integer\",\"Integer\",\"Integer\"],\"id\":2,\"safe\":true,\"sql\":\"SELECT `foo`.`id`, `foo`.`type`, `foo`.`bleh` FROM `foo`\"}\n";
+
+/// Their lines after those of the first document, where one shape alone is kept: the first one's was forgotten.
+pub(crate) const FORGOTTEN_LINES: &str =
+    "{\"binds\":[[\"Integer\",1]],\"columns\":[\"Integer\",\"Integer\",\"Integer\"],\"id\":2,\"safe\":true,\"sql\":\"SELECT \\\"foo\\\".\\\"id\\\", \\\"foo\\\".\\\"type\\\", \\\"foo\\\".\\\"bleh\\\" FROM \\\"foo\\\" WHERE (\\\"foo\\\".\\\"type\\\" = $1)\"}\n{\"binds\":[],\"columns\":[\"Integer\",\"Integer\",\"Integer\"],\"id\":3,\"safe\":true,\"sql\":\"SELECT `foo`.`id`, `foo`.`type`, `foo`.`bleh` FROM `foo`\"}\n";
+
+/// Texts over the filter's table, without it, and one of a table that is not there.
+pub(crate) const MORE_TEXTS: &str =
+    r#"{"schema":{"tables":[]},"texts":["SELECT \"foo\".\"id\" FROM \"foo\"","SELECT \"x\".\"id\" FROM \"x\""]}"#;
+
+pub(crate) const MORE_AUDITED: &str =
+    "{\"columns\":[[\"foo\",\"id\"]],\"sources\":[0],\"tables\":[\"foo\"]}\n{\"refused\":\"UnknownTable\"}\n";
+
 /// A tenant's posts, of `examples/guard.json`.
 pub(crate) const GUARD: &str =
     r#"{"schema":{"tables":[{"name":"posts","columns":[{"name":"id","type":"Integer"},{"name":"user_id","type":"Integer"},{"name":"title","type":"Text"}]}]},"guard":{"table":"posts","predicate":{"eq":[{"col":["posts","user_id"]},{"bind":["Integer",7]}]}},"requests":[{"dialect":"Sqlite","query":{"from":{"alias":"p","of":"posts"},"calls":[["select",{"field":["p","posts","title"]}]]}}]}"#;

@@ -2,7 +2,7 @@
 
 use crate::examples::{NO_TENANT, OPEN_TENANTS, TENANT_7_LINES, TENANT_8, TENANT_8_LINES};
 use sql_test_kit::is;
-use sql_tool_session::{Responder, Status};
+use sql_tool_session::{Capacity, Responder, Status};
 use std::alloc::Global;
 use std::test::Fail;
 
@@ -12,7 +12,7 @@ fn answered(responder: &Responder, lines: &str) -> bool {
 }
 
 fn opens(alloc: Global, responder: &mut Responder) -> Result<(), Fail> {
-    let status = responder.open(alloc, OPEN_TENANTS.as_bytes());
+    let status = responder.open(alloc, Capacity::usual(), OPEN_TENANTS.as_bytes());
     is(status == Status::Done, status.name())?;
     is(answered(responder, TENANT_7_LINES), "the lines of tenant 7")
 }

@@ -14,9 +14,8 @@ use Rattle.sql_tool_ids.proofs.Few.{few-lines}
 use Rattle.sql_tool_ids.proofs.Placed.{one-id}
 use Rattle.sql_tool_ids.proofs.Remembering.{written-more, written-none}
 use Rattle.sql_tool_ids.specs.Memory.{own_ids}
-use Rattle.sql_tool_ids.specs.declared.seen.TheConstants.{MAX_SHAPES}
 use Rattle.sql_tool_ids.specs.inside.Remembering.{AreWrittenAfter, IsSorted}
-use Rattle.sql_tool_session.specs.Session.{Asked, AreLinesOf, AreMade, HasAnswered, IsMade, asked_for}
+use Rattle.sql_tool_session.specs.Session.{Asked, AreLinesOf, AreMade, HasAnswered, IsMade, asked_for, capacity_of}
 use Rattle.sql_tool_session.specs.declared.session.Session.{Session}
 
 made-more : (schema : Declarations) (asked : List Asked) (rs : List StatementRequest) (a : Asked) (r : StatementRequest)
@@ -34,21 +33,21 @@ made-length schema (a ∷ more) [] all = absurd all
 made-length schema (a ∷ more) (r ∷ rs) all = ap suc (made-length schema more rs all.1)
 
 -- no lines
-pub first_written : (schema : Declarations) (seen : BTreeMap RequestKey ℕ) → IsEmpty seen → IsSorted seen
-    → (rs : List StatementRequest) × AreMade schema [] rs × AreWrittenAfter MAX_SHAPES schema seen rs []
-first_written schema seen none sorted = ([], tt, written-none MAX_SHAPES schema seen none sorted)
+pub first_written : (most : ℕ) (schema : Declarations) (seen : BTreeMap RequestKey ℕ) → IsEmpty seen → IsSorted seen
+    → (rs : List StatementRequest) × AreMade schema [] rs × AreWrittenAfter most schema seen rs []
+first_written most schema seen none sorted = ([], tt, written-none most schema seen none sorted)
 
 -- the lines so far, and one more
-pub written_next : (schema here : Declarations) (asked : List Asked) (old new after : BTreeMap RequestKey ℕ) (a : Asked) (n : ℕ)
+pub written_next : (most : ℕ) (schema here : Declarations) (asked : List Asked) (old new after : BTreeMap RequestKey ℕ) (a : Asked) (n : ℕ)
     (text line : List ℕ)
     → n ≡ 1 + length asked → here ≡ schema
     → ((r : StatementRequest) × IsMade here a.tenant a.request r
     × HasLine here r n (seen_at old) (seen_at new) (λ l. line ≡ line_text l))
-    → IsSorted new → (MAX_SHAPES ≤ btree_map_len new → IsEmpty after) → (btree_map_len new < MAX_SHAPES → after ≡ new)
+    → IsSorted new → (most ≤ btree_map_len new → IsEmpty after) → (btree_map_len new < most → after ≡ new)
     → IsSorted after
-    → ((rs : List StatementRequest) × AreMade schema asked rs × AreWrittenAfter MAX_SHAPES schema old rs text)
-    → (rs : List StatementRequest) × AreMade schema (asked ++ a ∷ []) rs × AreWrittenAfter MAX_SHAPES schema after rs (text ++ line)
-written_next schema here asked old new after a n text line number same told sorted full stays ordered (rs, made, written) =
+    → ((rs : List StatementRequest) × AreMade schema asked rs × AreWrittenAfter most schema old rs text)
+    → (rs : List StatementRequest) × AreMade schema (asked ++ a ∷ []) rs × AreWrittenAfter most schema after rs (text ++ line)
+written_next most schema here asked old new after a n text line number same told sorted full stays ordered (rs, made, written) =
     let (r, is, has) =
     subst
     (λ (w : Declarations). (r : StatementRequest) × IsMade w a.tenant a.request r
@@ -57,7 +56,7 @@ written_next schema here asked old new after a n text line number same told sort
     let counted : n ≡ 1 + length rs = omega (arith, number, made-length schema asked rs made) in (
       rs ++ r ∷ [],
       made-more schema asked rs a r made is,
-      written-more MAX_SHAPES schema old new after rs n text line r counted written has sorted full stays ordered,
+      written-more most schema old new after rs n text line r counted written has sorted full stays ordered,
     )
 
 -- requests after requests
@@ -84,23 +83,25 @@ guarded_made schema t (q ∷ qs) [] all = absurd all
 guarded_made schema t (q ∷ qs) (r ∷ rs) all = (all.0, guarded_made schema t qs rs all.1)
 
 pub answered_lines : (schema : Declarations) (asked : List Asked) (text : List ℕ) (s : Session)
-    → HasAnswered schema asked text s → (ls : List Line) × AreLinesOf schema asked ls × (text ≡ lines_text ls)
+    → HasAnswered schema asked text s
+    → (ls : List Line) × AreLinesOf (capacity_of s) schema asked ls × (text ≡ lines_text ls)
 answered_lines schema asked text s has =
     let (rs, made, (ls, lines, keeps, is)) = has.written in (ls, (rs, made, lines), is)
 
-pub lines_one_id : (schema : Declarations) (asked : List Asked) (ls : List Line) → AreLinesOf schema asked ls → OneIdServes ls
-lines_one_id schema asked ls (rs, made, lines) = one-id MAX_SHAPES schema rs ls lines
+pub lines_one_id : (most : ℕ) (schema : Declarations) (asked : List Asked) (ls : List Line) → AreLinesOf most schema asked ls
+    → OneIdServes ls
+lines_one_id most schema asked ls (rs, made, lines) = one-id most schema rs ls lines
 
-pub lines_output : (d : Document) (ls : List Line) → AreLinesOf d.schema (asked_for None d.requests) ls
-    → own_ids 1 ls < MAX_SHAPES → IsOutput d (lines_text ls)
-lines_output d ls (rs, made, lines) few = (
+pub lines_output : (most : ℕ) (d : Document) (ls : List Line) → AreLinesOf most d.schema (asked_for None d.requests) ls
+    → own_ids 1 ls < most → IsOutput d (lines_text ls)
+lines_output most d ls (rs, made, lines) few = (
   ls,
   subst (λ x. AreLines d.schema [] x ls) (plain_made d.schema d.requests rs made)
-      (few-lines MAX_SHAPES d.schema rs ls few lines),
+      (few-lines most d.schema rs ls few lines),
   refl,
 )
 
-pub lines_guarded : (d : Document) (t : Tenant) (ls : List Line) → AreLinesOf d.schema (asked_for (Some t) d.requests) ls
-    → own_ids 1 ls < MAX_SHAPES → IsGuardedOutput d t (lines_text ls)
-lines_guarded d t ls (rs, made, lines) few =
-    (rs, guarded_made d.schema t d.requests rs made, (ls, few-lines MAX_SHAPES d.schema rs ls few lines, refl))
+pub lines_guarded : (most : ℕ) (d : Document) (t : Tenant) (ls : List Line)
+    → AreLinesOf most d.schema (asked_for (Some t) d.requests) ls → own_ids 1 ls < most → IsGuardedOutput d t (lines_text ls)
+lines_guarded most d t ls (rs, made, lines) few =
+    (rs, guarded_made d.schema t d.requests rs made, (ls, few-lines most d.schema rs ls few lines, refl))

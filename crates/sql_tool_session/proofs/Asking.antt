@@ -165,7 +165,7 @@ in_session (Some t) bytes schema a has is none = with_template (template_tree t)
 
 pub guarded_call : (s : Session) (bytes : List ℕ) → IsGuardedCall s bytes
 unfolding asked_by
-guarded_call s bytes a has is none = in_session s.template bytes s.cache.schema a has is none
+guarded_call s bytes a has is none = in_session s.terms.template bytes s.cache.schema a has is none
 
 -- ---- what is asked, step by step
 

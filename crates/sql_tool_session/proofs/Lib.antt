@@ -1,4 +1,5 @@
 pub mod Answered
+mod Auditing
 mod Asking
 mod Calls
 mod TooDeep

@@ -1,5 +1,5 @@
 -- What a session has answered: requests, each for a tenant or, in a session without policies, for nobody in particular.
-use Rattle.std.specs.Prelude.{◌≡◌, ℕ, List, [], ◌∷◌, codes, length, map, Option, None, Some, option_map, nat_lt, if◌then◌else◌}
+use Rattle.std.specs.Prelude.{◌≡◌, ℕ, List, [], ◌∷◌, codes, length, map, Option, None, Some, option_map, nat_eq, nat_lt, if◌then◌else◌}
 use Rattle.serde_json.specs.Data.{Data}
 use Rattle.serde_json.specs.Find.{get}
 use Rattle.sql_schema.specs.Declarations.{Declarations}
@@ -49,7 +49,19 @@ template_by bytes = opening bytes >>= λ o. o.template
 
 -- those of a session
 abbrev pub template_of : Session → Option (Option Data)
-template_of s = option_map template_tree s.template
+template_of s = option_map template_tree s.terms.template
+
+-- how many shapes have an id before all are forgotten, where so many are asked for: for 0 the usual number
+abbrev pub shapes_for : ℕ → ℕ
+shapes_for n = if nat_eq n 0 then MAX_SHAPES else n
+
+-- how many it is in a session
+abbrev pub capacity_of : Session → ℕ
+capacity_of s = s.terms.capacity.shapes
+
+-- The session has the policies of the bytes, and this capacity.
+abbrev pub IsOpenedBy : Session → ℕ → List ℕ → Type 0
+IsOpenedBy s most bytes = (template_of s ≡ template_by bytes) × (capacity_of s ≡ most)
 
 -- what is asked by the document that the bytes are, in this session
 unfoldable pub asked_by : Session → List ℕ → Option Asking
@@ -80,11 +92,11 @@ IsGuardedOpening bytes =
 
 -- In a session without policies bytes ask for what their document does.
 abbrev pub IsPlainCall : Session → List ℕ → Type 0
-IsPlainCall s bytes = s.template ≡ None → asked_by s bytes ≡ option_map for_nobody (document bytes)
+IsPlainCall s bytes = s.terms.template ≡ None → asked_by s bytes ≡ option_map for_nobody (document bytes)
 
 -- In a session with policies bytes ask for a tenant.
 abbrev pub IsGuardedCall : Session → List ℕ → Type 0
-IsGuardedCall s bytes = (a : Asking) → (s.template ≡ None → ⊥) → asked_by s bytes ≡ Some a → a.tenant ≡ None → ⊥
+IsGuardedCall s bytes = (a : Asking) → (s.terms.template ≡ None → ⊥) → asked_by s bytes ≡ Some a → a.tenant ≡ None → ⊥
 
 -- ---- answers
 
@@ -109,14 +121,15 @@ AreMade schema (a ∷ more) [] = ⊥
 AreMade schema (a ∷ more) (r ∷ rs) = IsMade schema a.tenant a.request r × AreMade schema more rs
 
 -- The lines of what is made of these requests. An id is the number of a request over all of them, of the first that has the shape since all shapes
--- were forgotten, which they are once `MAX_SHAPES` have an id.
-abbrev pub AreLinesOf : Declarations → List Asked → List Line → Type 0
-AreLinesOf schema asked ls =
-    (rs : List StatementRequest) × AreMade schema asked rs × AreLinesAfter MAX_SHAPES schema no_memory rs ls
+-- were forgotten, which they are once so many have an id.
+abbrev pub AreLinesOf : ℕ → Declarations → List Asked → List Line → Type 0
+AreLinesOf most schema asked ls =
+    (rs : List StatementRequest) × AreMade schema asked rs × AreLinesAfter most schema no_memory rs ls
 
--- Over the schema the session has answered these requests, by this text, and knows how many they are. The text is their lines
--- (`answers_are_outputs`); `AreWrittenAfter` also says that the session finds their ids.
+-- Over the schema the session has answered these requests since it was opened or began anew, by this text, and knows how many they are. The text
+-- is their lines (`answers_are_outputs`); `AreWrittenAfter` also says that the session finds their ids.
 pub record HasAnswered (declared : Declarations) (asked : List Asked) (text : List ℕ) (s : Session) : Type 0 where
   pub schema : s.cache.schema ≡ declared
   pub count : s.count ≡ length asked
-  pub written : (rs : List StatementRequest) × AreMade declared asked rs × AreWrittenAfter MAX_SHAPES declared s.seen rs text
+  pub written : (rs : List StatementRequest) × AreMade declared asked rs
+      × AreWrittenAfter (capacity_of s) declared s.seen rs text

@@ -8,8 +8,7 @@ ghost use Rattle.sql_tool_document.specs.Documents.{Document};
 ghost use Rattle.sql_tool_guard.specs.Output.{IsGuardedOutput};
 ghost use Rattle.sql_tool_guard.specs.Tenants.{Tenant};
 ghost use Rattle.sql_tool_ids.specs.Memory.{own_ids};
-ghost use Rattle.sql_tool_ids.specs.declared.seen.TheConstants.{MAX_SHAPES};
-ghost use Rattle.sql_tool_session.specs.Session.{AreLinesOf, Asked, HasAnswered, IsGuardedCall, IsGuardedOpening, IsPlainCall, IsPlainOpening, asked_for};
+ghost use Rattle.sql_tool_session.specs.Session.{AreLinesOf, Asked, HasAnswered, IsGuardedCall, IsGuardedOpening, IsPlainCall, IsPlainOpening, asked_for, capacity_of};
 ghost use Rattle.sql_tool_session.specs.declared.session.Session.{Session};
 
 /// Without policies a session is opened as `build` reads the bytes, and so it reads what follows.
@@ -25,18 +24,20 @@ pub fn sessions_with_policies_have_tenants()
 {}
 
 /// The text that a session has answered is the lines of its requests, and of two lines of one id, what was prepared for the one serves for the
-/// other. While fewer than `MAX_SHAPES` ids were given, what it has answered for nobody in particular is the output of `build` for one
-/// document with all requests, and what it has answered for one tenant that of `tenant`.
+/// other. While fewer ids were given than the capacity, what it has answered for nobody in particular is the output of `build` for one
+/// document with all requests, and what it has answered for one tenant that of `tenant`. After a reset a session has answered nothing, so all
+/// of this holds between resets.
 pub fn answers_are_outputs()
     ensures lines { (schema : Declarations) (asked : List Asked) (text : List ℕ)
         (session : Session) → HasAnswered schema asked text session
-        → (ls : List Line) × AreLinesOf schema asked ls × (text ≡ lines_text ls) }
-    ensures one_id { (schema : Declarations) (asked : List Asked) (ls : List Line)
-        → AreLinesOf schema asked ls → OneIdServes ls }
-    ensures output { (d : Document) (ls : List Line)
-        → AreLinesOf d.schema (asked_for None d.requests) ls → own_ids 1 ls < MAX_SHAPES
+        → (ls : List Line) × AreLinesOf (capacity_of session) schema asked ls
+        × (text ≡ lines_text ls) }
+    ensures one_id { (most : ℕ) (schema : Declarations) (asked : List Asked) (ls : List Line)
+        → AreLinesOf most schema asked ls → OneIdServes ls }
+    ensures output { (most : ℕ) (d : Document) (ls : List Line)
+        → AreLinesOf most d.schema (asked_for None d.requests) ls → own_ids 1 ls < most
         → IsOutput d (lines_text ls) }
-    ensures guarded { (d : Document) (t : Tenant) (ls : List Line)
-        → AreLinesOf d.schema (asked_for (Some t) d.requests) ls → own_ids 1 ls < MAX_SHAPES
+    ensures guarded { (most : ℕ) (d : Document) (t : Tenant) (ls : List Line)
+        → AreLinesOf most d.schema (asked_for (Some t) d.requests) ls → own_ids 1 ls < most
         → IsGuardedOutput d t (lines_text ls) }
 {}

@@ -9,14 +9,17 @@
 //! NoMemory, and that the session is there tells it from a lack of memory.
 #![tactic(auto)]
 
+mod audit;
 mod buffer;
 mod call;
+mod capacity;
 mod laws;
 mod responder;
 mod session;
 mod within;
 
 pub use call::{Reply, answer};
+pub use capacity::Capacity;
 pub use laws::{
     answers_are_outputs, sessions_with_policies_have_tenants, sessions_without_policies_are_plain,
 };

@@ -6,8 +6,9 @@ ghost use Rattle.sql_tool_document.specs.Trees.{named_policy_tree, request_tree}
 ghost use Rattle.sql_tool_build.specs.Output.{StatementRequest, line_text};
 ghost use Rattle.sql_tool_build.specs.inside.Keys.{HasLine, seen_at};
 ghost use Rattle.sql_tool_guard.specs.Trees.{tenant_tree};
-ghost use Rattle.sql_tool_session.specs.Session.{Asked, Asking as AskingTree, HasAnswered, IsMade, asked_by, asked_for, opened_by, opening_status, template_by, template_of, tenant_in};
+ghost use Rattle.sql_tool_session.specs.Session.{Asked, Asking as AskingTree, HasAnswered, IsMade, IsOpenedBy, asked_by, asked_for, capacity_of, opened_by, opening_status, template_of, tenant_in};
 
+use crate::capacity::Capacity;
 use sql_schema::{Schema, SqlList};
 use sql_tool_build::{NamedRequest, StatementCache, request_line};
 use sql_tool_document::{
@@ -23,6 +24,14 @@ use std::num::NonZeroUsize;
 /// How many answers are kept for requests of the same dialect and shape.
 const ENTRIES: usize = 256;
 
+/// What a session is opened with, and keeps.
+#[derive(Drop)]
+pub(crate) struct Terms {
+    /// The policies, with their places for a tenant's values, where it has any.
+    pub(crate) template: Option<Template>,
+    pub(crate) capacity: Capacity,
+}
+
 /// One schema, and what is known of the requests over it so far: what was compiled for them, and their ids. A session that was opened
 /// with policies keeps them, with their places for a tenant's values.
 #[derive(Drop)]
@@ -30,7 +39,7 @@ pub struct Session {
     cache: StatementCache,
     seen: BTreeMap<NamedRequest, u64>,
     count: u64,
-    template: Option<Template>,
+    terms: Terms,
 }
 
 /// Requests, and the tenant whose rows they see, where the session has policies.
@@ -92,17 +101,17 @@ fn tenant_named(
 }
 
 impl Session {
-    /// A session over this schema, with these policies, that has answered nothing.
-    fn new(alloc: Global, schema: Schema, template: Option<Template>) -> Result<Session, AllocError>
+    /// A session over this schema, on these terms, that has answered nothing.
+    fn new(alloc: Global, schema: Schema, terms: Terms) -> Result<Session, AllocError>
         ensures { IfOk result (λ session. HasAnswered schema [] [] session
-            × (session.template ≡ template)) }
+            × (session.terms ≡ terms)) }
     {
         let capacity = NonZeroUsize::new(ENTRIES).unwrap();
         Ok(Session {
             cache: StatementCache::new(alloc, schema, capacity)?,
             seen: BTreeMap::new(alloc),
             count: 0,
-            template,
+            terms,
         })
     }
 
@@ -117,7 +126,7 @@ impl Session {
             → HasAnswered schema asked text self.old
             → HasAnswered schema (asked ++ asked_for (option_map tenant_tree tenant.now)
             (request_tree request.now ∷ [])) (text ++ string_bytes line) self.new) }
-        ensures template { self.new.template ≡ self.old.template }
+        ensures terms { self.new.terms ≡ self.old.terms }
     {
         let number = following(self.count)?;
         let line = line_for(
@@ -129,7 +138,7 @@ impl Session {
             request,
         )?;
         self.count = number;
-        keep_within(&mut self.seen);
+        keep_within(&mut self.seen, self.terms.capacity.shapes());
         Ok(line)
     }
 
@@ -144,7 +153,7 @@ impl Session {
             → HasAnswered schema asked text self.old
             → HasAnswered schema (asked ++ asked_for (option_map tenant_tree tenant.now)
             (map request_tree requests.now)) (text ++ lines.items) self.new) }
-        ensures template { self.new.template ≡ self.old.template }
+        ensures terms { self.new.terms ≡ self.old.terms }
     {
         let mut lines = Vec::new(alloc);
         for request in requests {
@@ -168,7 +177,7 @@ impl Session {
             (text : List ℕ) → HasAnswered schema asked text self
             → HasAnswered schema (asked ++ asked_for (option_map tenant_tree tenant.now)
             (map request_tree requests.now)) (text ++ more.1.items) more.0) }
-        ensures template { IfOk result (λ more. more.0.template ≡ self.template) }
+        ensures terms { IfOk result (λ more. more.0.terms ≡ self.terms) }
     {
         let mut session = self;
         let lines = session.lines(alloc, tenant, requests);
@@ -178,14 +187,36 @@ impl Session {
         }
     }
 
-    /// A session over the schema of the document that the bytes are, with its policies, which has answered nothing, and what the
-    /// document asks; or the status with which the opening ends.
+    /// Begins anew over the same schema, on the same terms: it has answered nothing, and ids are counted from 1 again. What was compiled is
+    /// kept, since no answer depends on it.
+    pub(crate) fn reset(&mut self)
+        ensures anew { (schema : Declarations) (asked : List Asked) (text : List ℕ)
+            → HasAnswered schema asked text self.old → HasAnswered schema [] [] self.new }
+        ensures terms { self.new.terms ≡ self.old.terms }
+    {
+        keep_within(&mut self.seen, 0);
+        self.count = 0;
+    }
+
+    /// The schema that statements are compiled for.
+    pub(crate) fn schema(&self) -> &Schema
+        ensures { result.now ≡ self.now.cache.schema }
+    {
+        self.cache.schema()
+    }
+
+    /// A session over the schema of the document that the bytes are, with its policies and this capacity, which has answered nothing, and
+    /// what the document asks; or the status with which the opening ends.
     #[tactic(auto, using(crate::proofs::Asking::opened_is, crate::proofs::Asking::opened_lost, crate::proofs::Asking::opened_none))]
-    pub(crate) fn begin(alloc: Global, bytes: &[u8]) -> Result<(Session, Asking), Status>
+    pub(crate) fn begin(
+        alloc: Global,
+        capacity: Capacity,
+        bytes: &[u8],
+    ) -> Result<(Session, Asking), Status>
         ensures begun { IfOk result (λ first. (a : AskingTree)
             × (opened_by bytes.now ≡ Some a) × (a.document.requests ≡ map request_tree first.1.requests)
             × (a.tenant ≡ option_map tenant_tree first.1.tenant)
-            × (template_of first.0 ≡ template_by bytes.now)
+            × IsOpenedBy first.0 capacity.shapes bytes.now
             × HasAnswered a.document.schema [] [] first.0) }
         ensures too_large { greatest_input < length bytes.now → IsErrOf result Status.TooLarge }
         ensures done { OnOk result (opening_status bytes.now ≡ Status.Done) }
@@ -203,7 +234,8 @@ impl Session {
         let Call { document, policies } = call;
         let Document { schema, requests } = document;
         let tenant = tenant_named(alloc, &schema, policies)?;
-        match Session::new(alloc, schema, template) {
+        let terms = Terms { template, capacity };
+        match Session::new(alloc, schema, terms) {
             Ok(session) => Ok((session, Asking { tenant, requests })),
             Err(AllocError) => Err(Status::NoMemory),
         }
@@ -227,7 +259,7 @@ impl Session {
         if bytes.len() > LIMIT {
             return Err(Status::TooLarge);
         }
-        let Call { document, policies } = match read_call(alloc, &self.template, bytes) {
+        let Call { document, policies } = match read_call(alloc, &self.terms.template, bytes) {
             Ok(call) => call,
             Err(Refusal::NoMemory) => return Err(Status::NoMemory),
             Err(Refusal::NotADocument) => return Err(Status::BadDocument),

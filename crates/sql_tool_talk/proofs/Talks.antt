@@ -7,7 +7,7 @@ use Rattle.std.proofs.lemmas.List.Folds.{length-prefix_len}
 use Rattle.std.specs.List.{prefix_len}
 use Rattle.serde_json.specs.Data.{Data}
 use Rattle.sql_schema.specs.Declarations.{Declarations}
-use Rattle.sql_tool_build.specs.Output.{StatementRequest, lines_text}
+use Rattle.sql_tool_build.specs.Output.{Line, StatementRequest, lines_text}
 use Rattle.sql_tool_document.specs.Documents.{Request}
 use Rattle.sql_tool_talk.proofs.Requests.{one-request}
 use Rattle.sql_tool_guard.specs.Tenants.{Tenant}
@@ -16,7 +16,7 @@ use Rattle.sql_tool_ids.specs.Memory.{AreLinesAfter, no_memory}
 use Rattle.sql_tool_ids.specs.declared.seen.TheConstants.{MAX_SHAPES}
 use Rattle.sql_tool_run.specs.Limits.{greatest_input}
 use Rattle.sql_tool_session.proofs.Answered.{answered_lines}
-use Rattle.sql_tool_session.specs.Session.{AreMade, Asked, Asking, IsMade, asked_for}
+use Rattle.sql_tool_session.specs.Session.{AreLinesOf, AreMade, Asked, Asking, IsMade, asked_for}
 use Rattle.sql_tool_session.specs.Within.{HasTooDeep, before_too_deep, fits}
 use Rattle.sql_tool_session.specs.declared.responder.Responder.{Responder}
 use Rattle.sql_tool_lines.proofs.Turns.{prompt-weaker}
@@ -24,7 +24,8 @@ use Rattle.sql_tool_lines.specs.Conversation.{Conversed}
 use Rattle.sql_tool_lines.specs.Lines.{all_lines}
 use Rattle.sql_tool_lines.specs.Turns.{Event, read_in, written_in}
 use Rattle.sql_tool_lines.specs.declared.listener.Stop.{Stop}
-use Rattle.sql_tool_talk.specs.Talk.{AreAnswered, AreAnsweredBy, IsOutputSo, Opened, Talk, after, answer_text, asking_error, depth_error, error, error_in, heard, opened_as, requests_of, session_after}
+use Rattle.sql_tool_talk.specs.Talk.{AreAnswered, AreAnsweredBy, IsOutputSo, Opened, Talk, after, anew, answer_text, asking_error, depth_error, error, error_in, heard, kept, kept_after, opened_as, requests_of, session_after}
+use Rattle.sql_tool_talk.specs.Resets.{is_reset}
 use Rattle.sql_tool_talk.specs.declared.remark.Remark.{Remark}
 use Rattle.sql_tool_talk.specs.declared.remark.Remark.TheVariants.{BadDocument, TooDeep, TooLarge}
 use Rattle.sql_tool_talk.specs.inside.Talkers.{Knows, Told}
@@ -35,15 +36,16 @@ after-more o (l ∷ ls) ms = after-more (heard o l) ls ms
 
 -- one more line
 pub talk-more : (o : Option Opened) (output : List ℕ) (lines : List (List ℕ)) (text whole line own : List ℕ)
-    → Talk o output lines text whole → IsOutputSo (heard (session_after o lines) line) (whole ++ own)
-    → Talk o output (lines ++ line ∷ []) (text ++ answer_text own (error (session_after o lines) line)) (whole ++ own)
+    → Talk o output lines text whole → IsOutputSo (heard (session_after o lines) line) (kept (session_after o lines) line whole ++ own)
+    → Talk o output (lines ++ line ∷ []) (text ++ answer_text own (error (session_after o lines) line))
+    (kept (session_after o lines) line whole ++ own)
 talk-more o output [] text whole line own (none, same) is =
     let said = answer_text own (error o line) in (
       own,
       [],
-      subst (λ w. IsOutputSo (heard o line) (w ++ own)) same is,
+      subst (λ w. IsOutputSo (heard o line) (kept o line w ++ own)) same is,
       ap (λ t. t ++ said) none ∙ sym (append-nil said),
-      (refl, ap (λ w. w ++ own) same),
+      (refl, ap (λ w. kept o line w ++ own) same),
     )
 talk-more o output (l ∷ ls) text whole line own (mine, rest, is, split, later) last =
     let said = answer_text own (error (session_after o (l ∷ ls)) line) in (
@@ -51,7 +53,7 @@ talk-more o output (l ∷ ls) text whole line own (mine, rest, is, split, later)
       rest ++ said,
       is,
       ap (λ t. t ++ said) split ∙ append_assoc (answer_text mine (error o l)) rest said,
-      talk-more (heard o l) (output ++ mine) ls rest whole line own later last,
+      talk-more (heard o l) (kept o l output ++ mine) ls rest whole line own later last,
     )
 
 -- ---- requests have one text
@@ -90,9 +92,11 @@ one-talk : (o : Option Opened) (output : List ℕ) (lines : List (List ℕ)) (a 
 one-talk o output [] a b v w p q = p.0 ∙ sym q.0
 one-talk o output (l ∷ ls) a b v w (x, r, is, split, later) (y, s, it, cut, others) =
     let own : x ≡ y =
-    append_cancel_left output x y (one-output-so (heard o l) (output ++ x) (output ++ y) is it) in
+    append_cancel_left (kept o l output) x y
+    (one-output-so (heard o l) (kept o l output ++ x) (kept o l output ++ y) is it) in
     let rest : r ≡ s =
-    one-talk (heard o l) (output ++ y) ls r s v w (subst (λ z. Talk (heard o l) (output ++ z) ls r v) own later) others in
+    one-talk (heard o l) (kept o l output ++ y) ls r s v w
+    (subst (λ z. Talk (heard o l) (kept o l output ++ z) ls r v) own later) others in
     split ∙ (λ i. answer_text (own i) (error o l) ++ rest i) ∙ sym cut
 
 pub one-text : (lines : List (List ℕ)) (a b : List ℕ) → AreAnswered lines a → AreAnswered lines b → a ≡ b
@@ -103,7 +107,7 @@ pub talk-output : (o : Option Opened) (output : List ℕ) (lines : List (List �
     → IsOutputSo o output → Talk o output lines text whole → IsOutputSo (session_after o lines) whole
 talk-output o output [] text whole is p = subst (IsOutputSo o) (sym p.1) is
 talk-output o output (l ∷ ls) text whole is (own, rest, it, split, later) =
-    talk-output (heard o l) (output ++ own) ls rest whole it later
+    talk-output (heard o l) (kept o l output ++ own) ls rest whole it later
 
 pub one-list : (lines : List (List ℕ)) (text output : List ℕ) (o : Opened) → Talk None [] lines text output
     → session_after None lines ≡ Some o → AreAnsweredBy o.schema o.asked output
@@ -130,6 +134,13 @@ heard-short o line few = if-false _ o (after o line) (short line few)
 pub error-short : (o : Option Opened) (line : List ℕ) → length line ≤ greatest_input → error o line ≡ error_in o line
 error-short o line few = if-false _ (Some TooLarge) (error_in o line) (short line few)
 
+pub kept-short : (o : Option Opened) (line output : List ℕ) → length line ≤ greatest_input
+    → kept o line output ≡ kept_after o line output
+kept-short o line output few = if-false _ output (kept_after o line output) (short line few)
+
+kept-long : (o : Option Opened) (line output : List ℕ) → greatest_input < length line → kept o line output ≡ output
+kept-long o line output many = if-true _ output (kept_after o line output) (long line many)
+
 pub heard-long : (o : Option Opened) (line : List ℕ) → greatest_input < length line → heard o line ≡ o
 heard-long o line many = if-true _ o (after o line) (long line many)
 
@@ -138,32 +149,36 @@ error-long o line many = if-true _ (Some TooLarge) (error_in o line) (long line 
 
 pub knows-output : (r : Responder) (o : Option Opened) (output : List ℕ) → Knows r o output → IsOutputSo o output
 knows-output r None output h = h.1
-knows-output r (Some o) output (s, is, template, has) = answered_lines o.schema o.asked output s has
+knows-output r (Some o) output (s, is, terms, has) =
+    subst (λ most. (ls : List Line) × AreLinesOf most o.schema o.asked ls × (output ≡ lines_text ls)) terms.1
+    (answered_lines o.schema o.asked output s has)
 
 told-more : (old new : Responder) (lines : List (List ℕ)) (text line own said : List ℕ) → Told old lines text
     → ((o : Option Opened) (output : List ℕ) → Knows old o output
-    → (said ≡ answer_text own (error o line)) × Knows new (heard o line) (output ++ own))
+    → (said ≡ answer_text own (error o line)) × Knows new (heard o line) (kept o line output ++ own))
     → Told new (lines ++ line ∷ []) (text ++ said)
 told-more old new lines text line own said (output, talk, knows) step =
     let o = session_after None lines in
+    let whole = kept o line output ++ own in
     let (is, then) = step o output knows in (
-      output ++ own,
-      subst (λ u. Talk None [] (lines ++ line ∷ []) (text ++ u) (output ++ own)) (sym is)
-          (talk-more None [] lines text output line own talk (knows-output new (heard o line) (output ++ own) then)),
-      subst (λ x. Knows new x (output ++ own)) (sym (after-more None lines (line ∷ []))) then,
+      whole,
+      subst (λ u. Talk None [] (lines ++ line ∷ []) (text ++ u) whole) (sym is)
+          (talk-more None [] lines text output line own talk (knows-output new (heard o line) whole then)),
+      subst (λ x. Knows new x whole) (sym (after-more None lines (line ∷ []))) then,
     )
 
 -- a line that is short enough, and one that is too long
 pub told-short : (old new : Responder) (lines : List (List ℕ)) (text line own said : List ℕ) (remark : Option Remark)
     → length line ≤ greatest_input → said ≡ answer_text own remark
     → ((o : Option Opened) (output : List ℕ) → Knows old o output
-    → (remark ≡ error_in o line) × Knows new (after o line) (output ++ own))
+    → (remark ≡ error_in o line) × Knows new (after o line) (kept_after o line output ++ own))
     → Told old lines text → Told new (lines ++ line ∷ []) (text ++ said)
 told-short old new lines text line own said remark few is step told =
     told-more old new lines text line own said told (λ o output knows.
     let (same, then) = step o output knows in (
       is ∙ ap (answer_text own) (same ∙ sym (error-short o line few)),
-      subst (λ x. Knows new x (output ++ own)) (sym (heard-short o line few)) then,
+      subst (λ x. Knows new x (kept o line output ++ own)) (sym (heard-short o line few))
+          (subst (λ w. Knows new (after o line) (w ++ own)) (sym (kept-short o line output few)) then),
     ))
 
 pub told-long : (now : Responder) (lines : List (List ℕ)) (text line said : List ℕ) → greatest_input < length line
@@ -171,9 +186,67 @@ pub told-long : (now : Responder) (lines : List (List ℕ)) (text line said : Li
 told-long now lines text line said many is told =
     told-more now now lines text line [] said told (λ o output knows. (
       is ∙ ap (answer_text []) (sym (error-long o line many)),
-      subst (λ x. Knows now x (output ++ [])) (sym (heard-long o line many))
-          (subst (Knows now o) (sym (append-nil output)) knows),
+      subst (λ x. Knows now x (kept o line output ++ [])) (sym (heard-long o line many))
+          (subst (Knows now o) (sym (append-nil (kept o line output) ∙ kept-long o line output many)) knows),
     ))
+
+-- ---- a reset
+
+no-answer : (schema : Declarations) (own : List ℕ) → AreAnsweredBy schema [] own → own ≡ []
+no-answer schema own ([], ([], made, lines), is) = is
+no-answer schema own ([], (r ∷ rs, made, lines), is) = absurd made
+no-answer schema own (l ∷ ls, ([], made, lines), is) = absurd lines
+no-answer schema own (l ∷ ls, (r ∷ rs, made, lines), is) = absurd made
+
+-- the parts of a conversation, which a reset cuts
+abbrev Cut : Option Opened → List ℕ → List (List ℕ) → List (List ℕ) → Opened → List ℕ → List ℕ → Type 0
+Cut start output lines more o text whole =
+    (first rest before : List ℕ) × (text ≡ first ++ 10 ∷ rest) × Talk start output lines first before
+    × Talk (Some (anew o)) [] more rest whole
+
+cut-here : (o : Opened) (line : List ℕ) (more : List (List ℕ)) (output text whole : List ℕ) → length line ≤ greatest_input
+    → is_reset line ≡ true → Talk (Some o) output (line ∷ more) text whole → Cut (Some o) output [] more o text whole
+cut-here o line more output text whole few reset (own, rest, right, split, later) =
+    let begins : heard (Some o) line ≡ Some (anew o) =
+    heard-short (Some o) line few ∙ ap Some (if-true (is_reset line) (anew o) _ reset) in
+    let none : kept (Some o) line output ≡ [] =
+    kept-short (Some o) line output few ∙ if-true (is_reset line) [] output reset in
+    let quiet : error (Some o) line ≡ None = error-short (Some o) line few ∙ if-true (is_reset line) None _ reset in
+    let mine : AreAnsweredBy o.schema [] own =
+    subst (λ x. IsOutputSo x own) begins (subst (λ w. IsOutputSo (heard (Some o) line) (w ++ own)) none right) in
+    let empty = no-answer o.schema own mine in
+    let nothing : kept (Some o) line output ++ own ≡ [] = λ i. none i ++ empty i in (
+      [],
+      rest,
+      output,
+      split ∙ (λ i. answer_text (empty i) (quiet i) ++ rest),
+      (refl, refl),
+      subst (λ x. Talk x [] more rest whole) begins
+          (subst (λ w. Talk (heard (Some o) line) w more rest whole) nothing later),
+    )
+
+cut-from : (start : Option Opened) (output : List ℕ) (lines more : List (List ℕ)) (line text whole : List ℕ) (o : Opened)
+    → session_after start lines ≡ Some o → length line ≤ greatest_input → is_reset line ≡ true
+    → Talk start output (lines ++ line ∷ more) text whole → Cut start output lines more o text whole
+cut-from start output [] more line text whole o is few reset talk =
+    subst (λ x. Cut x output [] more o text whole) (sym is)
+    (cut-here o line more output text whole few reset (subst (λ x. Talk x output (line ∷ more) text whole) is talk))
+cut-from start output (l ∷ ls) more line text whole o is few reset (mine, later, right, split, talk) =
+    let (first, rest, before, parts, front, back) =
+    cut-from (heard start l) (kept start l output ++ mine) ls more line later whole o is few reset talk in
+    let said = answer_text mine (error start l) in (
+      said ++ first,
+      rest,
+      before,
+      split ∙ ap (λ t. said ++ t) parts ∙ sym (append_assoc said first (10 ∷ rest)),
+      (mine, first, right, refl, front),
+      back,
+    )
+
+pub cut : (lines more : List (List ℕ)) (line text whole : List ℕ) (o : Opened) → session_after None lines ≡ Some o
+    → length line ≤ greatest_input → is_reset line ≡ true → Talk None [] (lines ++ line ∷ more) text whole
+    → Cut None [] lines more o text whole
+cut lines more line text whole o = cut-from None [] lines more line text whole o
 
 -- ---- what is answered of a line's requests
 

@@ -12,8 +12,10 @@ use Rattle.sql_tool_run.specs.declared.status.Status.{Status}
 use Rattle.sql_tool_run.specs.declared.status.Status.TheVariants as status
 use Rattle.sql_tool_session.specs.Session.{AreLinesOf, Asked, Asking, asked_for, asking_in, opened_by, template_by}
 use Rattle.sql_tool_session.specs.Within.{before_too_deep}
+use Rattle.sql_tool_ids.specs.declared.seen.TheConstants.{MAX_SHAPES}
 use Rattle.sql_tool_lines.specs.declared.listener.Stop.{Stop}
 use Rattle.sql_tool_lines.specs.declared.listener.Stop.TheVariants.{ReadFault, WriteFault, NoMemory}
+use Rattle.sql_tool_talk.specs.Resets.{is_reset}
 use Rattle.sql_tool_talk.specs.declared.remark.Remark.{Remark}
 use Rattle.sql_tool_talk.specs.declared.remark.Remark.TheVariants.{BadDocument, TooLarge, TooDeep}
 
@@ -34,7 +36,8 @@ ending_of (Err NoMemory) = status.NoMemory
 
 -- ---- the session, which there is not until a line opens it
 
--- over a schema, with these policies with places, none in a session without policies, requests were answered
+-- over a schema, with these policies with places, none in a session without policies, requests were answered since it was opened, or began
+-- anew
 pub record Opened : Type 0 where
   pub schema : Declarations
   pub template : Option (Option Data)
@@ -59,14 +62,27 @@ requests_of (Some a) =
 abbrev pub followed_by : Opened → List Asked → Opened
 followed_by o more = record { schema = o.schema; template = o.template; asked = o.asked ++ more }
 
+-- the session anew: the schema and the policies stay, and nothing was answered
+abbrev pub anew : Opened → Opened
+anew o = record { schema = o.schema; template = o.template; asked = [] }
+
 -- the session after this line, which is no longer than it may be
 abbrev pub after : Option Opened → List ℕ → Option Opened
 after None line = option_map (opened_as (template_by line)) (opened_by line)
-after (Some o) line = Some (followed_by o (requests_of (asking_of (Some o) line)))
+after (Some o) line =
+    Some (if is_reset line then anew o else followed_by o (requests_of (asking_of (Some o) line)))
+
+-- What of the lines of requests so far is one list with those of this line: all of them, but none after a reset, where a list of its own begins.
+abbrev pub kept_after : Option Opened → List ℕ → List ℕ → List ℕ
+kept_after None line output = output
+kept_after (Some o) line output = if is_reset line then [] else output
 
 -- after this line: a longer one changes nothing
 abbrev pub heard : Option Opened → List ℕ → Option Opened
 heard o line = if nat_lt greatest_input (length line) then o else after o line
+
+abbrev pub kept : Option Opened → List ℕ → List ℕ → List ℕ
+kept o line output = if nat_lt greatest_input (length line) then output else kept_after o line output
 
 -- after these lines
 abbrev pub session_after : Option Opened → List (List ℕ) → Option Opened
@@ -86,7 +102,8 @@ asking_error (Some o) (Some a) =
     if nat_eq (length a.document.schema.tables) 0 then depth_error a.document.requests else Some BadDocument
 
 abbrev pub error_in : Option Opened → List ℕ → Option Remark
-error_in o line = asking_error o (asking_of o line)
+error_in None line = asking_error None (opened_by line)
+error_in (Some o) line = if is_reset line then None else asking_error (Some o) (asking_of (Some o) line)
 
 abbrev pub error : Option Opened → List ℕ → Option Remark
 error o line = if nat_lt greatest_input (length line) then Some TooLarge else error_in o line
@@ -108,20 +125,21 @@ answer_text lines o = lines ++ remark_line o ++ 10 ∷ []
 
 -- the lines of what is made of requests, with ids counted over all
 abbrev pub AreAnsweredBy : Declarations → List Asked → List ℕ → Type 0
-AreAnsweredBy schema asked output = (ls : List Line) × AreLinesOf schema asked ls × (output ≡ lines_text ls)
+AreAnsweredBy schema asked output = (ls : List Line) × AreLinesOf MAX_SHAPES schema asked ls × (output ≡ lines_text ls)
 
--- the lines of all requests of a session, none where there is no session
+-- the lines of all requests of a session since it was opened or began anew, none where there is no session
 abbrev pub IsOutputSo : Option Opened → List ℕ → Type 0
 IsOutputSo None output = output ≡ []
 IsOutputSo (Some o) output = AreAnsweredBy o.schema o.asked output
 
 -- The lines are answered by the text, where the session was this, and its output so much, and is that in the end: each
--- line by the part of the output that is its own, and by what is wrong with it.
+-- line by the part of the output that is its own, and by what is wrong with it. A reset cuts the conversation: from there on the output
+-- is that of a conversation of its own (`cut`, of `talk`).
 abbrev pub Talk : Option Opened → List ℕ → List (List ℕ) → List ℕ → List ℕ → Type 0
 Talk o output [] text whole = (text ≡ []) × (whole ≡ output)
 Talk o output (line ∷ lines) text whole =
-    (own rest : List ℕ) × IsOutputSo (heard o line) (output ++ own) × (text ≡ answer_text own (error o line) ++ rest)
-    × Talk (heard o line) (output ++ own) lines rest whole
+    (own rest : List ℕ) × IsOutputSo (heard o line) (kept o line output ++ own)
+    × (text ≡ answer_text own (error o line) ++ rest) × Talk (heard o line) (kept o line output ++ own) lines rest whole
 
 -- The lines of a conversation, from its first, are answered by this text.
 abbrev pub AreAnswered : List (List ℕ) → List ℕ → Type 0

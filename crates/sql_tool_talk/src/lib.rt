@@ -4,6 +4,7 @@
 mod command;
 mod conversation;
 mod remark;
+mod reset;
 mod talker;
 
 pub use command::{ending, is_session};

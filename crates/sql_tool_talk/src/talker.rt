@@ -1,12 +1,13 @@
 ghost use Rattle.std.specs.Prelude.{◌≡◌, ◌≤◌, ◌++◌, List, ℕ, [], Option, None, IfOk, length};
 ghost use Rattle.sql_tool_run.specs.Limits.{greatest_input};
-ghost use Rattle.sql_tool_talk.specs.Talk.{Opened, after, error_in};
-ghost use Rattle.sql_tool_talk.specs.inside.Talkers.{IsRemark, Knows, Told};
+ghost use Rattle.sql_tool_talk.specs.Talk.{Opened, after, asking_of, error_in, kept_after};
+ghost use Rattle.sql_tool_talk.specs.inside.Talkers.{IsAnew, IsRemark, Knows, Told};
 
 use crate::remark::{Remark, answer_text};
+use crate::reset::is_reset;
 use sql_tool_lines::Listener;
 use sql_tool_run::{LIMIT, Status};
-use sql_tool_session::Responder;
+use sql_tool_session::{Capacity, Responder};
 use std::alloc::{AllocError, Global};
 
 /// Answers lines over one session, which the first line that is a document opens.
@@ -33,11 +34,26 @@ fn open(alloc: Global, responder: &mut Responder, line: &[u8]) -> Result<Option<
     ensures { IfOk result (λ said. (said ≡ error_in None line.now)
         × Knows responder.new (after None line.now) responder.new.answer.items) }
 {
-    let status = responder.open(alloc, line);
+    let status = responder.open(alloc, Capacity::usual(), line);
     remark(responder, status)
 }
 
-/// Answers the line's requests over the session, or opens one where there is none.
+/// Has the session begin anew, where the line, which is no such document, asks for it.
+fn begin_anew(
+    alloc: Global,
+    responder: &mut Responder,
+    line: &[u8],
+) -> Result<Option<Remark>, AllocError>
+    ensures { IfOk result (λ said. IsAnew line.now responder.old responder.new said) }
+{
+    if is_reset(alloc, line)? {
+        responder.reset(alloc);
+        return Ok(None);
+    }
+    Ok(Some(Remark::BadDocument))
+}
+
+/// Answers the line's requests over the session, or opens one where there is none, or has it begin anew.
 fn go_on(
     alloc: Global,
     responder: &mut Responder,
@@ -46,10 +62,12 @@ fn go_on(
     requires { length line.now ≤ greatest_input }
     ensures { IfOk result (λ said. (o : Option Opened) (output : List ℕ)
         → Knows responder.old o output → (said ≡ error_in o line.now)
-        × Knows responder.new (after o line.now) (output ++ responder.new.answer.items)) }
+        × Knows responder.new (after o line.now)
+        (kept_after o line.now output ++ responder.new.answer.items)) }
 {
     match responder.next(alloc, line) {
         Status::Usage => open(alloc, responder, line),
+        Status::BadDocument => begin_anew(alloc, responder, line),
         status => remark(responder, status),
     }
 }

@@ -1,12 +1,13 @@
 //! The program's commands over bytes in memory, and sessions.
 
 use crate::examples::{
-    FILTER, MORE, MORE_LINES, OPEN_TENANTS, READ, TENANT_8, TENANT_8_LINES, TEXT,
+    ANEW_LINES, FILTER, MORE, MORE_AUDITED, MORE_LINES, MORE_TEXTS, OPEN_TENANTS, READ, TENANT_8,
+    TENANT_8_LINES, TEXT,
 };
 use sql_test_kit::is;
 use sql_tool_document::{Call, Opening, Template, read_call, read_opening};
 use sql_tool_guard::policies_in;
-use sql_tool_session::{Command, Dialect, Responder, Status, answer};
+use sql_tool_session::{Capacity, Command, Dialect, Responder, Status, answer};
 use std::alloc::Global;
 use std::test::Fail;
 
@@ -59,14 +60,29 @@ fn is_done(status: Status) -> Result<(), Fail> {
     is(status == Status::Done, status.name())
 }
 
+fn begun_anew(alloc: Global, responder: &mut Responder) -> Result<(), Fail> {
+    is_done(Responder::reset(responder, alloc))?;
+    is_done(responder.next(alloc, MORE.as_bytes()))?;
+    is(
+        responder.answer().as_slice() == ANEW_LINES.as_bytes(),
+        "ids from 1 again",
+    )?;
+    is_done(Responder::audit(responder, alloc, Dialect::Pg, MORE_TEXTS.as_bytes()))?;
+    is(
+        responder.answer().as_slice() == MORE_AUDITED.as_bytes(),
+        "what texts use",
+    )
+}
+
 fn responding(alloc: Global, responder: &mut Responder) -> Result<(), Fail> {
-    is_done(Responder::open(responder, alloc, FILTER.as_bytes()))?;
+    is_done(Responder::open(responder, alloc, Capacity::usual(), FILTER.as_bytes()))?;
     is_done(responder.next(alloc, MORE.as_bytes()))?;
     is(
         responder.answer().as_slice() == MORE_LINES.as_bytes(),
         "the lines of more",
     )?;
-    is_done(Responder::open(responder, alloc, OPEN_TENANTS.as_bytes()))?;
+    begun_anew(alloc, responder)?;
+    is_done(Responder::open(responder, alloc, Capacity::of(0), OPEN_TENANTS.as_bytes()))?;
     is_done(responder.next(alloc, TENANT_8.as_bytes()))?;
     is(
         responder.answer().as_slice() == TENANT_8_LINES.as_bytes(),

@@ -1,5 +1,6 @@
+use Rattle.sql_tool_ids.specs.declared.seen.TheConstants.{MAX_SHAPES}
 use Rattle.sql_tool_session.proofs.Answered.{lines_one_id, lines_output}
-use Rattle.sql_tool_talk.proofs.Talks.{conversed-so, one-list, one-text, told-nothing}
+use Rattle.sql_tool_talk.proofs.Talks.{conversed-so, cut, one-list, one-text, told-nothing}
 use Rattle.sql_tool_talk.proofs.conversation.talk.Goals as goal
 
 pub converse-requires : goal.converse-requires
@@ -19,8 +20,11 @@ returns-clause-one_text g c = one-text
 pub returns-clause-one_list : goal.returns-clause-one_list
 returns-clause-one_list g c = one-list
 
+pub returns-clause-cut : goal.returns-clause-cut
+returns-clause-cut g c = cut
+
 pub returns-clause-one_id : goal.returns-clause-one_id
-returns-clause-one_id g c = lines_one_id
+returns-clause-one_id g c = lines_one_id MAX_SHAPES
 
 pub returns-clause-one_document : goal.returns-clause-one_document
-returns-clause-one_document g c = lines_output
+returns-clause-one_document g c = lines_output MAX_SHAPES

@@ -17,7 +17,7 @@ returns-then-answered-requests-clause-deep c = λ after ended new.
     c.before_too_deep-answered.ensures ∙ ap (λ rs. before_too_deep (map request_tree rs)) given in (
       subst (λ rs. HasTooDeep (map request_tree rs)) given
           (fewer_before some all c.before_too_deep-answered.ensures c.if-answered-requests.true),
-      subst (λ s. s.template ≡ c.args.session.template) same c.in-Ok.ensures.template,
+      subst (λ s. s.terms ≡ c.args.session.terms) same c.in-Ok.ensures.terms,
       λ schema asked text has.
           subst
           (λ s. HasAnswered schema (asked ++ asked_for tenant (before_too_deep (map request_tree c.args.asking.now.requests)))
@@ -37,7 +37,7 @@ returns-else-answered-requests-clause-done c = λ ended.
     cut ∙ all_before some all cut c.if-answered-requests.false ∙ ap (map request_tree) c.as_slice-requests.ensures in (
       c.in-Ok.session,
       refl,
-      c.in-Ok.ensures.template,
+      c.in-Ok.ensures.terms,
       λ schema asked text has.
           subst (λ rs. HasAnswered schema (asked ++ asked_for tenant rs) (text ++ c.in-Ok.lines.items) c.in-Ok.session) whole
           (c.in-Ok.ensures.answered schema asked text has),

@@ -2,6 +2,7 @@ use Rattle.std.proofs.Common.{◌∙◌, [], option_map, ap, subst, sym}
 use Rattle.sql_tool_document.specs.Trees.{template_tree}
 use Rattle.sql_tool_guard.specs.Trees.{tenant_tree}
 use Rattle.sql_tool_session.specs.Session.{HasAnswered, asked_for}
+use Rattle.sql_tool_session.specs.declared.session.Terms.{Terms}
 use Rattle.sql_tool_session.specs.Within.{HasTooDeep, before_too_deep}
 use Rattle.sql_tool_session.proofs.responder.Responder.open.Goals as goal
 
@@ -14,7 +15,7 @@ returns-in-Ok-clause-opened c = λ ended.
       after,
       read,
       new,
-      ap (option_map template_tree) same ∙ kept,
+      (ap (λ (x : Terms). option_map template_tree x.template) same ∙ kept.0, ap (λ (x : Terms). x.capacity.shapes) same ∙ kept.1),
       subst (λ t. HasAnswered a.document.schema (asked_for t a.document.requests) text after) (sym tenant)
           (subst (λ rs. HasAnswered a.document.schema (asked_for (option_map tenant_tree c.in-Ok.asking.tenant) rs) text after) (sym asked)
           (grows a.document.schema [] [] has)),
@@ -28,7 +29,7 @@ returns-in-Ok-clause-deep c = λ after ended new.
       a,
       read,
       subst HasTooDeep (sym asked) deep,
-      ap (option_map template_tree) same ∙ kept,
+      (ap (λ (x : Terms). option_map template_tree x.template) same ∙ kept.0, ap (λ (x : Terms). x.capacity.shapes) same ∙ kept.1),
       subst (λ t. HasAnswered a.document.schema (asked_for t (before_too_deep a.document.requests)) text after) (sym tenant)
           (subst (λ rs. HasAnswered a.document.schema (asked_for (option_map tenant_tree c.in-Ok.asking.tenant) (before_too_deep rs)) text after) (sym asked)
           (grows a.document.schema [] [] has)),

@@ -3,6 +3,7 @@ use Rattle.std.proofs.lemmas.Result.{err_from_is_err_and}
 use Rattle.sql_tool_document.specs.Sessions.{Opening}
 use Rattle.sql_tool_document.specs.Trees.{opening_tree, template_tree}
 use Rattle.sql_tool_guard.specs.Trees.{tenant_tree}
+use Rattle.sql_tool_session.specs.declared.session.Terms.{Terms}
 use Rattle.sql_tool_session.proofs.Asking.{opened_done, opened_is, opened_refused}
 use Rattle.sql_tool_session.proofs.session.Session.begin.Goals as goal
 
@@ -14,8 +15,11 @@ returns-in-Ok-new-clause-begun c =
       opened_is c.args.bytes.now o tenant c.in-Ok.ensures c.in_ok-tenant.ensures.found,
       refl,
       refl,
-      ap (option_map template_tree) c.in-Ok-new.ensures.1
-          ∙ sym (ap (option_and_then (λ (x : Opening). x.template)) c.in-Ok.ensures),
+      (
+        ap (λ (x : Terms). option_map template_tree x.template) c.in-Ok-new.ensures.1
+            ∙ sym (ap (option_and_then (λ (x : Opening). x.template)) c.in-Ok.ensures),
+        ap (λ (x : Terms). x.capacity.shapes) c.in-Ok-new.ensures.1,
+      ),
       c.in-Ok-new.ensures.0,
     )
 

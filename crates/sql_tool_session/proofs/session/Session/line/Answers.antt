@@ -1,9 +1,10 @@
-use Rattle.std.proofs.Common.{◌≡◌, ◌∙◌, ◌+◌, ◌++◌, ◌∷◌, [], length, length-append, option_map, arith}
+use Rattle.std.proofs.Common.{◌≡◌, ◌∙◌, ◌≤◌, ◌<◌, ◌+◌, ◌++◌, ◌∷◌, [], length, length-append, option_map, subst, arith}
+use Rattle.std.specs.BTreeMap.{IsEmpty, btree_map_len}
 use Rattle.std.specs.Prelude.{string_bytes}
 use Rattle.sql_tool_document.specs.Trees.{request_tree}
 use Rattle.sql_tool_guard.specs.Trees.{tenant_tree}
 use Rattle.sql_tool_session.proofs.Answered.{written_next}
-use Rattle.sql_tool_session.specs.Session.{asked_for}
+use Rattle.sql_tool_session.specs.Session.{asked_for, capacity_of}
 use Rattle.sql_tool_session.proofs.session.Session.line.Goals as goal
 
 pub returns-clause-line : goal.returns-clause-line
@@ -18,8 +19,9 @@ returns-clause-line c = λ schema asked text has.
     record {
       schema = c.line_for.ensures.schema ∙ has.schema;
       count = omega (arith, next, grown);
-      written = written_next schema old.cache.schema asked old.seen c.line_for.new.seen c.keep_within.new.seen
+      written = written_next (capacity_of old) schema old.cache.schema asked old.seen c.line_for.new.seen c.keep_within.new.seen
           (record { tenant = tenant; request = item }) number text (string_bytes c.in_ok-line.line) next has.schema
-          c.in_ok-line.ensures.line c.keep_within.ensures.was_sorted c.keep_within.ensures.full c.keep_within.ensures.kept
+          c.in_ok-line.ensures.line c.keep_within.ensures.was_sorted (subst (λ n. n ≤ btree_map_len c.line_for.new.seen → IsEmpty c.keep_within.new.seen) c.shapes.ensures c.keep_within.ensures.full)
+          (subst (λ n. btree_map_len c.line_for.new.seen < n → c.keep_within.new.seen ≡ c.line_for.new.seen) c.shapes.ensures c.keep_within.ensures.kept)
           c.keep_within.ensures.sorted has.written;
     }

@@ -30,7 +30,7 @@ loop-request-preserved c =
     ∙ ap (λ x. map request_tree (take i all ++ x ∷ [])) c.request-item.is
     ∙ ap (map request_tree) (sym (take_more all i item c.loop-request-test.true)) in
     let added = ap (λ u. l.lines.items ++ u) c.as_bytes.ensures.value in (
-      c.line.ensures.template ∙ l.invariant.0,
+      c.line.ensures.terms ∙ l.invariant.0,
       λ schema asked text has.
           let one = c.in_ok-line.ensures.line schema (asked ++ asked_for tenant some) (text ++ l.lines.items) (l.invariant.1 schema asked text has) in
           let longer =

@@ -8,7 +8,7 @@ use Rattle.sql_tool_session.proofs.session.Session.lines.Given as goal
 -- the session has answered the requests so far, by the lines so far
 abbrev pub invariant-loop-request : goal.invariant-loop-request
 invariant-loop-request l =
-    (l.self.template ≡ l.initial.self.template)
+    (l.self.terms ≡ l.initial.self.terms)
     × ((schema : Declarations) (asked : List Asked) (text : List ℕ) → HasAnswered schema asked text l.initial.self
     → HasAnswered schema
     (asked ++ asked_for (option_map tenant_tree l.tenant) (map request_tree (take l.request-index l.requests)))

@@ -8,7 +8,7 @@ returns c = (
   record {
     schema = ap (λ (e : Entries). e.schema) c.in_ok-new.ensures;
     count = refl;
-    written = first_written c.args.schema c.new-3.result c.new-3.ensures.empty c.new-3.ensures.ordered;
+    written = first_written c.args.terms.capacity.shapes c.args.schema c.new-3.result c.new-3.ensures.empty c.new-3.ensures.ordered;
   },
   refl,
 )
