@@ -2,6 +2,6 @@
 #![tactic(auto)]
 
 mod breaking;
-mod turn;
+mod halving;
 
-pub use turn::turn;
+pub use halving::turn;
