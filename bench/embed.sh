@@ -1,8 +1,9 @@
 #!/bin/sh
 # Requests a second over one session of the static library, with one request, a hundred and all in a call, from C, and with one in a call from
-# Rust and Python; the same from Node, by the WebAssembly module (MODULE, else that of tests/wasm.sh, where it is there); of the program, over one document and with a process for each request; and of a Rust program that formats the same texts by
-# hand. Prints a table. By hand, never a test.
-# LIBRARY and PROGRAM, where they are set, are what is measured; else they are built first where they are not.
+# Rust and Python; the same from Node, by the WebAssembly module; of the program, over one document and with a process for each request; and of
+# a Rust program that formats the same texts by hand. Prints a table. By hand, never a test.
+# LIBRARY and PROGRAM, where they are set, are what is measured; else they are built first where they are not. MODULE is the module; else it is
+# that of tests/wasm.sh, and Node is left out where that is not there.
 top=$(cd "$(dirname "$0")/.." && pwd) || exit 1
 library=${LIBRARY:-$top/crates/hardieflax_c/out/libhardieflax_c.a}
 heap=$(dirname "$(rt doc)")/c/liblibc_c.a

@@ -75,7 +75,7 @@ class Reader {
     const start = this.at;
     const found = this.matched(STRING);
     if (found === null) {
-      this.fail(this.text[start] === '"' ? "this text has no end, or holds what a text cannot" : "a name in quotes is expected here");
+      this.fail(this.text[start] === '"' ? "this string does not end, or holds a character that a string cannot" : "a name in quotes is expected here");
     }
     return JSON.parse(found[0]);
   }

@@ -1,7 +1,7 @@
 #!/bin/sh
 # Makes the page of web/ with the module that tests/wasm.sh has made, and opens it in a headless Chromium: types, reads the answers and compares
 # them with the stored lines, follows links, presses keys, and looks whether it fits at two widths, light and dark.
-#   tests/web.sh                          PAGE=FILE: tests this page; PHOTOGRAPHS=FOLDER: leaves photographs there
+#   tests/web.sh                          PAGE=FILE: tests this page; SCREENSHOTS=FOLDER: leaves screenshots there
 #   MODULE=FILE tests/web.sh              makes the page of this module
 # Skips where a tool is missing. Ends with 'N passed, M failed'.
 top=$(cd "$(dirname "$0")/.." && pwd) || exit 1
@@ -19,4 +19,4 @@ if [ -z "$page" ]; then
     page=$work/hardieflax.html
     "$top/packaging/page.py" "$module" "$page" || exit 1
 fi
-node "$top/tests/web/page.mjs" "$browser" "$(realpath "$page")" ${PHOTOGRAPHS:+"$PHOTOGRAPHS"}
+node "$top/tests/web/page.mjs" "$browser" "$(realpath "$page")" ${SCREENSHOTS:+"$SCREENSHOTS"}

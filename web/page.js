@@ -142,7 +142,7 @@ function offerColumns(text) {
 }
 
 const ENDINGS = {
-  BadDocument: "this is no document",
+  BadDocument: "this is not a valid document",
   NoMemory: "memory ran out, or a request nests too deep",
   TooLarge: "the document has more than 16777216 bytes",
 };

@@ -2,7 +2,7 @@
 import { read } from "../js/json.js";
 
 // What a node's value is called in what the page says.
-const NAMES = new Map([["object", "an object"], ["array", "a list"], ["string", "a text"], ["boolean", "a truth value"], ["null", "null"],
+const NAMES = new Map([["object", "an object"], ["array", "an array"], ["string", "a string"], ["boolean", "true or false"], ["null", "null"],
   ["integer", "a whole number"], ["number", "a number"]]);
 
 export const nameOf = (kind) => NAMES.get(kind);

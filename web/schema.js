@@ -4,7 +4,7 @@ import { nameOf } from "./places.js";
 const isA = (node, type) => node.kind === type || (type === "number" && node.kind === "integer");
 const list = (words) => (words.length < 2 ? words.join() : `${words.slice(0, -1).join(", ")} or ${words.at(-1)}`);
 const quoted = (value) => JSON.stringify(value);
-// What a value is called in a message, and a text's own words.
+// What a value is called in a message, and a string as it is.
 const shown = (node) => (node.kind === "string" ? quoted(node.value) : nameOf(node.kind));
 
 class Checker {
@@ -66,13 +66,13 @@ class Checker {
       if (schema.maximum !== undefined && value > schema.maximum) this.fault(node, () => `a number of at most ${schema.maximum} is expected here`);
     }
     if (schema.pattern !== undefined && node.kind === "string" && !new RegExp(schema.pattern, "u").test(value)) {
-      this.fault(node, () => schema.description ?? `a text like ${schema.pattern} is expected here`);
+      this.fault(node, () => schema.description ?? `a string like ${schema.pattern} is expected here`);
     }
   }
 
   choiceOf(values, node) {
     const near = typeof node.value === "string" ? nearest(node.value, values) : undefined;
-    return near === undefined ? `one of ${values.join(", ")} is expected here` : `there is no ${shown(node)} here: ${quoted(near)} is meant?`;
+    return near === undefined ? `one of ${values.join(", ")} is expected here` : `${shown(node)} is not known here. Did you mean ${quoted(near)}?`;
   }
 
   array(schema, node) {
@@ -174,7 +174,7 @@ export function check(schema, node, definition) {
     for (const [name, { from, to }] of object.members) {
       if (known.has(name) || known.size === 0 || name.startsWith("$")) continue;
       const near = nearest(name, known);
-      const meant = near === undefined ? "" : `: ${quoted(near)} is meant?`;
+      const meant = near === undefined ? "" : `. Did you mean ${quoted(near)}?`;
       warnings.push({ start: from, end: to, says: `nothing reads the member ${quoted(name)}${meant}` });
     }
   }

@@ -40,9 +40,9 @@ test("each query of tests/documents.tsv that is a document is valid", () => {
 });
 
 test("what is wrong is said, with the word that is meant", () => {
-  assert.deepEqual(found({ from: { table: "foo" }, call: [] }), ['nothing reads the member "call": "calls" is meant?']);
-  assert.deepEqual(found({ from: { table: "foo" }, calls: [["limt", 1]] }), ['there is no "limt" here: "limit" is meant?']);
-  assert.deepEqual(found({ from: { table: "foo" }, calls: [["limit", "1"]] }), ["a whole number is expected here, and this is a text"]);
+  assert.deepEqual(found({ from: { table: "foo" }, call: [] }), ['nothing reads the member "call". Did you mean "calls"?']);
+  assert.deepEqual(found({ from: { table: "foo" }, calls: [["limt", 1]] }), ['"limt" is not known here. Did you mean "limit"?']);
+  assert.deepEqual(found({ from: { table: "foo" }, calls: [["limit", "1"]] }), ["a whole number is expected here, and this is a string"]);
   assert.deepEqual(found({ from: { table: "foo" }, calls: [["filter"]] }), ["2 items are expected here, and there is 1"]);
   assert.deepEqual(found({}), ['one of the members "from" or "select" is missing here']);
   assert.equal(nearest("Interger", ["Integer", "Text"]), "Integer");

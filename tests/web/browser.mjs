@@ -1,4 +1,4 @@
-// A headless Chromium by its own protocol over two pipes: pages are opened, typed into, asked and photographed. No package is needed.
+// A headless Chromium by its own protocol over two pipes: pages are opened, typed into, asked and captured. No package is needed.
 import { spawn } from "node:child_process";
 import { mkdtempSync, rmSync } from "node:fs";
 import { tmpdir } from "node:os";
@@ -115,7 +115,7 @@ class Page {
     await this.ask("Emulation.setEmulatedMedia", { features: [{ name: "prefers-color-scheme", value: isDark ? "dark" : "light" }] });
   }
 
-  async photograph() {
+  async screenshot() {
     const { data } = await this.ask("Page.captureScreenshot", { format: "png", captureBeyondViewport: false });
     return Buffer.from(data, "base64");
   }

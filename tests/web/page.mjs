@@ -1,10 +1,10 @@
-// Opens the page in a headless Chromium, types into it and reads its answers: page.mjs BROWSER PAGE [PHOTOGRAPHS]
+// Opens the page in a headless Chromium, types into it and reads its answers: page.mjs BROWSER PAGE [SCREENSHOTS]
 // Compares them with the stored lines. Prints a line for each failure, and last 'N passed, M failed'.
 import { mkdirSync, readFileSync, writeFileSync } from "node:fs";
 import { fileURLToPath, pathToFileURL } from "node:url";
 import { Browser } from "./browser.mjs";
 
-const [command, file, photographs] = process.argv.slice(2);
+const [command, file, screenshots] = process.argv.slice(2);
 const TOP = fileURLToPath(new URL("../..", import.meta.url));
 const read = (name) => readFileSync(TOP + name, "utf8");
 const EXAMPLES = JSON.parse(read("web/examples.json"));
@@ -51,8 +51,8 @@ async function fits(page, what) {
   expect(`${what}: no line is wider than the screen`, wide <= 0, wide);
 }
 
-async function photograph(page, name) {
-  if (photographs !== undefined) writeFileSync(`${photographs}/${name}.png`, await page.photograph());
+async function screenshot(page, name) {
+  if (screenshots !== undefined) writeFileSync(`${screenshots}/${name}.png`, await page.screenshot());
 }
 
 async function examples(page) {
@@ -90,13 +90,13 @@ async function typing(page) {
 async function faults(page) {
   await write(page, '{"schema":{"tables":[{"name":"users","columns":[{"name":"id","type":"Interger"}]}]},\n"requests":[]}');
   const one = (await said(page))[0];
-  expect("a type that is none: its place, and what is meant", one === 'line 1, column 69: there is no "Interger" here: "Integer" is meant?', one);
+  expect("a type that is none: its place, and what is meant", one === 'line 1, column 69: "Interger" is not known here. Did you mean "Integer"?', one);
   expect("it is marked in the document", (await page.tell("document.querySelector('#marks mark')?.textContent")) === '"Interger"');
   await page.tell("document.querySelector('#said button').click()");
   const chosen = await page.tell("getSelection().toString()");
   expect("what is said leads to its place", chosen === '"Interger"', chosen);
   await write(page, `{"schema":${USERS},"requests":[{"dialect":"Pg","query":{"from":{"table":"users"},"call":[]}}]}`);
-  expect("a misspelt member is warned of", (await said(page))[0]?.endsWith('nothing reads the member "call": "calls" is meant?'), await said(page));
+  expect("a misspelt member is warned of", (await said(page))[0]?.endsWith('nothing reads the member "call". Did you mean "calls"?'), await said(page));
   await write(page, '{"schema":{"tables":[]},"requests":[{"dialect":"Pg","query":{"from":{"table":"<b>x</b>"}}}]}');
   const refused = await page.tell("[document.querySelector('.dialect .refused').textContent, document.querySelector('.why').textContent]");
   const broken = await page.tell("document.querySelector('#marks .refused').textContent");
@@ -160,19 +160,19 @@ async function looks(page) {
       for (const each of ["requests.json", "tenant.json", "rules.json"]) {
         await choose(page, EXAMPLES.findIndex(({ file: it }) => it === each));
         await fits(page, `${each}, ${name}`);
-        await photograph(page, `${name}-${isDark ? "dark" : "light"}-${each.replace(".json", "")}`);
+        await screenshot(page, `${name}-${isDark ? "dark" : "light"}-${each.replace(".json", "")}`);
       }
     }
     await page.dark(false);
     await write(page, `{"schema":${USERS.replace("Integer", "Interger")},\n"requests":[{"dialect":"Pg","query":{"from":{"table":"users"},"call":[]}}]}`);
     await fits(page, `faults, ${name}`);
-    await photograph(page, `${name}-light-faults`);
+    await screenshot(page, `${name}-light-faults`);
   }
   await page.size(1280, 900);
 }
 
 async function main() {
-  if (photographs !== undefined) mkdirSync(photographs, { recursive: true });
+  if (screenshots !== undefined) mkdirSync(screenshots, { recursive: true });
   const browser = new Browser(command);
   try {
     const page = await browser.page();
