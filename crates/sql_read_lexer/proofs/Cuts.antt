@@ -1,6 +1,6 @@
 -- A text is cut beside ASCII bytes, and so between characters.
-use Rattle.std.proofs.Common.{◌≡◌, ℕ, zero, suc, ◌+◌, ◌<◌, ◌≤◌, List, [], ◌∷◌, ◌++◌, length, get_or, take, drop, Option, Some, None, Bool, true, false, nat_eq, if◌then◌else◌, refl, subst, arith}
-use Rattle.std.proofs.lemmas.List.{drop_more}
+use Rattle.std.proofs.Common.{◌≡◌, ℕ, zero, suc, ◌+◌, ◌<◌, ◌≤◌, List, [], ◌∷◌, ◌++◌, length, get_or, take, drop, Option, Some, None, Bool, true, false, nat_eq, if◌then◌else◌, refl, sym, ap, ◌∙◌, subst, length-drop, arith}
+use Rattle.std.proofs.lemmas.List.{drop_more, drop-drop}
 use Rattle.std.proofs.lemmas.Bool.{eqb-true}
 use Rattle.std.proofs.lemmas.Bool.Decides.{nat_tests}
 use Rattle.std.proofs.lemmas.Str.{IsUtf8-append, IsUtf8-from_ascii, IsUtf8-take, IsUtf8-drop, IsCharBoundary-after_ascii, IsCharBoundary-before_ascii, IsCharBoundary-from_drop}
@@ -36,6 +36,15 @@ further text i h small u =
 -- what stands before a place from which on the text is text
 pub before : (text : List ℕ) (n : ℕ) → n ≤ length text → IsUtf8 text → IsUtf8 (drop n text) → IsUtf8 (take n text)
 before text n h u v = IsUtf8-take text n u (IsCharBoundary-from_drop text n h v)
+
+-- the first byte and some behind it, from whose end on the text is text
+pub first-part : (text part : List ℕ) (n : ℕ) → n ≤ length (drop 1 text) → 0 < length text → part ≡ take (n + 1) text
+    → IsUtf8 text → IsUtf8 (drop n (drop 1 text)) → IsUtf8 part
+first-part text part n within some front u v =
+    let h : n + 1 ≤ length text = omega (arith, length-drop 1 text) in
+    let e : 1 + n ≡ n + 1 = omega arith in
+    subst IsUtf8 (sym front)
+    (before text (n + 1) h u (subst IsUtf8 (drop-drop n 1 text ∙ ap (λ k. drop k text) e) v))
 
 -- what stands before an ASCII byte, and what from there on
 pub split-before : (text : List ℕ) (n : ℕ) → n < length text → get_or text n 0 < 128 → IsUtf8 text
