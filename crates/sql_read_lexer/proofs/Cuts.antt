@@ -38,13 +38,14 @@ pub before : (text : List ℕ) (n : ℕ) → n ≤ length text → IsUtf8 text �
 before text n h u v = IsUtf8-take text n u (IsCharBoundary-from_drop text n h v)
 
 -- the first byte and some behind it, from whose end on the text is text
-pub first-part : (text part : List ℕ) (n : ℕ) → n ≤ length (drop 1 text) → 0 < length text → part ≡ take (n + 1) text
-    → IsUtf8 text → IsUtf8 (drop n (drop 1 text)) → IsUtf8 part
-first-part text part n within some front u v =
-    let h : n + 1 ≤ length text = omega (arith, length-drop 1 text) in
+pub first-part : (text behind part : List ℕ) (n : ℕ) → behind ≡ drop 1 text → n ≤ length behind → 0 < length text
+    → part ≡ take (n + 1) text → IsUtf8 text → IsUtf8 (drop n behind) → IsUtf8 part
+first-part text behind part n tail within some front u v =
+    let h : n + 1 ≤ length text = omega (arith, ap length tail, length-drop 1 text) in
     let e : 1 + n ≡ n + 1 = omega arith in
     subst IsUtf8 (sym front)
-    (before text (n + 1) h u (subst IsUtf8 (drop-drop n 1 text ∙ ap (λ k. drop k text) e) v))
+    (before text (n + 1) h u
+    (subst IsUtf8 (ap (drop n) tail ∙ drop-drop n 1 text ∙ ap (λ k. drop k text) e) v))
 
 -- what stands before an ASCII byte, and what from there on
 pub split-before : (text : List ℕ) (n : ℕ) → n < length text → get_or text n 0 < 128 → IsUtf8 text
