@@ -18,6 +18,8 @@ pub returns : goal.returns
 unfolding guarded
 returns c =
     let whole = c.in_ok-others.ensures in
+    let requests = requests_view c.in_ok-others.field-0.requests in
     let same =
-    ap (λ o. o >>= guarded_of) whole.3 ∙ guarded-from whole.0 whole.1 _ whole.4 ∙ ap (λ d. guarded_from d _) (sym whole.2) in
+    ap (λ o. o >>= guarded_of) whole.3 ∙ guarded-from whole.0 whole.1 requests whole.4
+    ∙ ap (λ d. guarded_from d requests) (sym whole.2) in
     rw same c.guarded_parts.ensures

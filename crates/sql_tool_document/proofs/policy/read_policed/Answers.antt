@@ -18,6 +18,8 @@ pub returns : goal.returns
 unfolding policed
 returns c =
     let whole = c.in_ok-others.ensures in
+    let requests = requests_view c.in_ok-others.field-0.requests in
     let same =
-    ap (λ o. o >>= policed_of) whole.3 ∙ policed-from whole.0 whole.1 _ whole.4 ∙ ap (λ d. policed_from d _) (sym whole.2) in
+    ap (λ o. o >>= policed_of) whole.3 ∙ policed-from whole.0 whole.1 requests whole.4
+    ∙ ap (λ d. policed_from d requests) (sym whole.2) in
     rw same c.policed_parts.ensures
